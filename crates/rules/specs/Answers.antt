@@ -1,0 +1,65 @@
+-- Document 01, "Refusal numbers": what each case of an answer means as this paper's number and values.
+-- Assumes nothing.
+use Prim.Native.Nat.{ℕ}
+use mathlib.Core.List.{List, [], _∷_, _++_}
+use Rattle.rules.specs.declared.Slot.{Slot}
+use Rattle.rules.specs.declared.Placing.{Placing}
+use Rattle.rules.specs.declared.Placing.the-variants.{Free, Move, Nowhere}
+use Rattle.rules.specs.declared.Refusal.{Refusal}
+use Rattle.rules.specs.declared.Refusal.the-variants.{BadHeader, ShortList, FlagSet, KeyPresent, KeyAbsent, NoPlace, AlreadyGrowing, NotGrowing, AtCapacity, InterimTaken, InterimEmpty, NoKind, BadCreation, BadMaking}
+use Rattle.rules.specs.declared.Change.{Change}
+use Rattle.rules.specs.declared.Change.the-variants.{Listed, Refused}
+use Rattle.rules.specs.declared.Stepped.{Stepped}
+use Rattle.rules.specs.declared.Query.{Query}
+use Rattle.rules.specs.declared.Query.the-variants.{Known, Unknown}
+use Rattle.rules.specs.declared.Verdict.{Verdict}
+use Rattle.rules.specs.declared.Verdict.the-variants.{Done, Denied}
+
+-- "no. | given when | by"
+abbrev pub numberOf : Refusal → ℕ
+numberOf BadHeader = 1  -- "length, form, c, multipliers or state bad"
+numberOf ShortList = 2  -- "list shorter than 20 words"
+numberOf FlagSet = 3  -- "flag not 0"
+numberOf KeyPresent = 4  -- "key present"
+numberOf KeyAbsent = 5  -- "key absent"
+numberOf NoPlace = 6  -- "no place"
+numberOf AlreadyGrowing = 7  -- "already growing"
+numberOf NotGrowing = 8  -- "not growing"
+numberOf AtCapacity = 9  -- "k = c"
+numberOf InterimTaken = 10  -- "interim not empty"
+numberOf InterimEmpty = 11  -- "interim empty"
+numberOf NoKind = 12  -- "none of the three kinds above"
+numberOf BadCreation = 13  -- "c, first k (1 to c), length or a multiplier bad"
+numberOf BadMaking = 14  -- "n pairs are not in the list, or an index among them is outside the table"
+
+-- this paper's number, "0 is success", and the values beside it
+pub record Meaning : Type 0 where
+  pub number : ℕ
+  pub values : List ℕ
+
+-- the number of stores: "A refusal .. reports 0 stores."
+abbrev pub changeMeans : Change → Meaning
+changeMeans (Listed stores) = record { number = 0; values = stores ∷ [] }
+changeMeans (Refused r) = record { number = numberOf r; values = 0 ∷ [] }
+
+-- function, place and probe count: "Query returns zeros with 5 and the full probe count; with 1 or 3 zeros and count 0."
+abbrev pub queryMeans : Query → Meaning
+queryMeans (Known r count) = record { number = 0; values = r .function ∷ r .place ∷ count ∷ [] }
+queryMeans (Unknown r count) = record { number = numberOf r; values = 0 ∷ 0 ∷ count ∷ [] }
+
+abbrev pub verdictMeans : Verdict → Meaning
+verdictMeans Done = record { number = 0; values = [] }
+verdictMeans (Denied r) = record { number = numberOf r; values = [] }
+
+-- a slot as level, bucket and slot; nothing where there is no place, "6 | no place"
+abbrev pub slotMeans : Slot → List ℕ
+slotMeans x = x .level ∷ x .bucket ∷ x .slot ∷ []
+
+abbrev pub placingMeans : Placing → Meaning
+placingMeans (Free x) = record { number = 0; values = slotMeans x }
+placingMeans (Move from to) = record { number = 0; values = slotMeans from ++ slotMeans to }
+placingMeans Nowhere = record { number = 6; values = [] }
+
+-- a step's answer: its number and stores, then its placing
+unfoldable pub steppedMeans : Stepped → Meaning
+steppedMeans s = record { number = changeMeans (s .change) .number; values = changeMeans (s .change) .values ++ placingMeans (s .placing) .values }

@@ -1,0 +1,10 @@
+pub mod Choice
+pub mod Words
+pub mod Places
+pub mod Placing
+pub mod Stores
+pub mod Soundness
+pub mod Answers
+pub mod Calls
+pub mod Results
+pub mod Examples

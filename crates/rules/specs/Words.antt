@@ -1,0 +1,174 @@
+-- Document 01, "Words": sizes, the header, the levels and their buckets, slots and tokens.
+--
+-- A table is a list of words; a word past its end reads as 0. Nothing here tests anything but what it says it tests:
+-- which tables a call accepts is said in `Calls`.
+-- Token words are read and written only by `tidy`, `isTaken`, `show` and `hide`, which also know the header and the key.
+-- Assumes nothing.
+use Prim.Native.Nat.{ℕ, _+_, _-_, _*_, _/_, _%_, _^_}
+use mathlib.Core.Bool.{Bool, not, cond}
+use mathlib.Core.List.{List, [], _∷_, map, flatMap}
+use lib.ListN.{getD}
+use lib.Dec.{eqb, leb}
+use Rattle.rules.specs.Choice.{all, any, select, from}
+use Rattle.rules.specs.declared.State.{State}
+use Rattle.rules.specs.declared.Header.{Header}
+use Rattle.rules.specs.declared.Level.{Level}
+use Rattle.rules.specs.declared.Place.{Place}
+use Rattle.rules.specs.declared.Slot.{Slot}
+use Rattle.rules.specs.declared.Record.{Record}
+
+abbrev pub Table : Type 0
+Table = List ℕ
+
+abbrev pub word : Table → ℕ → ℕ
+word t i = getD t i 0
+
+-- "The table has exactly 9 + 13·(2^(c+1) − 1) words"
+unfoldable pub wordsFor : ℕ → ℕ
+wordsFor c = 9 + 13 * (2 ^ (c + 1) - 1)
+
+-- "state: k + 256·phase"
+unfoldable pub stateOf : ℕ → State
+stateOf w = record { k = w % 256; phase = w / 256 }
+
+unfoldable pub stateWord : State → ℕ
+stateWord s = s .k + 256 * s .phase
+
+-- "phase 0 at rest, 1 growing"
+unfoldable pub growing : State → Bool
+growing s = eqb (s .phase) 1
+
+-- words 0 to 4: form; c; "multipliers A1, A2"; state
+unfoldable pub headerOf : Table → Header
+headerOf t = record { form = word t 0; c = word t 1; mul1 = word t 2; mul2 = word t 3; state = stateOf (word t 4) }
+
+-- word 5, "update flag"; words 6, 7, 8, "update target, function, place"
+unfoldable pub flagOf : Table → ℕ
+flagOf t = word t 5
+
+unfoldable pub targetOf : Table → ℕ
+targetOf t = word t 6
+
+unfoldable pub loggedOf : Table → Record
+loggedOf t = record { function = word t 7; place = word t 8 }
+
+-- "At rest 1 ≤ k ≤ c, while growing 2 ≤ k ≤ c. Other states are bad."
+unfoldable pub stateGood : ℕ → State → Bool
+stateGood c s =
+    any (all (eqb (s .phase) 0 ∷ leb 1 (s .k) ∷ leb (s .k) c ∷ [])
+    ∷ all (eqb (s .phase) 1 ∷ leb 2 (s .k) ∷ leb (s .k) c ∷ []) ∷ [])
+
+-- "multipliers A1, A2, both odd"
+unfoldable pub odd : ℕ → Bool
+odd n = eqb (n % 2) 1
+
+-- "c is the capacity exponent, 1 to 20"
+unfoldable pub capacityTests : ℕ → List Bool
+capacityTests c = leb 1 c ∷ leb c 20 ∷ []
+
+-- a good header, over the table's length: what refusal 1 asks, "length, form, c, multipliers or state"
+unfoldable pub headerTests : ℕ → Header → List Bool
+headerTests size h =
+    all (capacityTests (h .c)) ∷ eqb size (wordsFor (h .c)) ∷ eqb (h .form) 1
+    ∷ odd (h .mul1) ∷ odd (h .mul2) ∷ stateGood (h .c) (h .state) ∷ []
+
+-- the names of the levels
+abbrev pub top : ℕ
+top = 0
+
+abbrev pub bottom : ℕ
+bottom = 1
+
+abbrev pub interim : ℕ
+interim = 2
+
+-- "The top has 2^k buckets, the bottom half that; while growing, an interim level has a quarter."
+unfoldable pub topOf : State → Level
+topOf s = record { name = top; size = 2 ^ s .k }
+
+unfoldable pub bottomOf : State → Level
+bottomOf s = record { name = bottom; size = 2 ^ (s .k - 1) }
+
+unfoldable pub interimOf : State → Level
+interimOf s = record { name = interim; size = 2 ^ (s .k - 2) }
+
+-- the levels in use, in the order "top, bottom, interim"
+unfoldable pub levelsInUse : State → List Level
+levelsInUse s = topOf s ∷ bottomOf s ∷ cond (growing s) (interimOf s ∷ []) []
+
+-- "A level of M buckets (M a power of two) is always buckets M − 1 to 2M − 2."
+unfoldable pub bucketsOf : ℕ → List ℕ
+bucketsOf m = from (m - 1) m
+
+-- all the table's buckets
+unfoldable pub allBuckets : Header → List ℕ
+allBuckets h = from 0 (2 ^ (h .c + 1) - 1)
+
+-- the sizes of the table's levels, 1 to 2^c, that no level in use has; and their buckets
+unfoldable pub inUse : State → ℕ → Bool
+inUse s m = any (map (λ (l : Level). eqb (l .size) m) (levelsInUse s))
+
+unfoldable pub unusedBuckets : Header → List ℕ
+unusedBuckets h = flatMap bucketsOf (select (λ (m : ℕ). not (inUse (h .state) m)) (map (λ (e : ℕ). 2 ^ e) (from 0 (h .c + 1))))
+
+-- "a bucket as four such records": the slots of a bucket, 0 to 3
+unfoldable pub slotAt : Place → ℕ → Slot
+slotAt p s = record { level = p .level; bucket = p .bucket; slot = s }
+
+unfoldable pub slotsIn : Place → List Slot
+slotsIn p = map (slotAt p) (0 ∷ 1 ∷ 2 ∷ 3 ∷ [])
+
+unfoldable pub placeOf : Slot → Place
+placeOf x = record { level = x .level; bucket = x .bucket }
+
+-- the slots of a level, "bucket and slot ascending"
+unfoldable pub placeAt : Level → ℕ → Place
+placeAt l j = record { level = l .name; bucket = j }
+
+unfoldable pub slotsOf : Level → List Slot
+slotsOf l = flatMap slotsIn (map (placeAt l) (bucketsOf (l .size)))
+
+-- the slots of the levels in use, "by top, bottom, interim, then bucket and slot ascending"
+unfoldable pub slotsInUse : State → List Slot
+slotsInUse s = flatMap slotsOf (levelsInUse s)
+
+-- "Bucket j starts at word 9 + 13j: one token word, then four slots of three words: key, function, place.
+-- Slot s starts at offset 1 + 3s."
+unfoldable pub tokenWord : ℕ → ℕ
+tokenWord j = 9 + 13 * j
+
+unfoldable pub keyWord : Slot → ℕ
+keyWord x = tokenWord (x .bucket) + (1 + 3 * x .slot)
+
+unfoldable pub functionWord : Slot → ℕ
+functionWord x = keyWord x + 1
+
+unfoldable pub placeWord : Slot → ℕ
+placeWord x = keyWord x + 2
+
+unfoldable pub keyIn : Table → Slot → ℕ
+keyIn t x = word t (keyWord x)
+
+unfoldable pub recordIn : Table → Slot → Record
+recordIn t x = record { function = word t (functionWord x); place = word t (placeWord x) }
+
+unfoldable pub tokenOf : Table → ℕ → ℕ
+tokenOf t j = word t (tokenWord j)
+
+-- "Calls read token words modulo 16"
+unfoldable pub tidy : Header → ℕ → ℕ
+tidy h w = w % 16
+
+-- "Token bit s is 1 when slot s is taken."
+unfoldable pub isTaken : Header → ℕ → ℕ → Bool
+isTaken h w s = eqb (tidy h w / 2 ^ s % 2) 1
+
+-- the token word with slot s taken by a key, and with slot s free; "a token store is always below 16"
+unfoldable pub show : Header → ℕ → ℕ → ℕ → ℕ
+show h w s key = cond (isTaken h w s) (tidy h w) (tidy h w + 2 ^ s)
+
+unfoldable pub hide : Header → ℕ → ℕ → ℕ
+hide h w s = cond (isTaken h w s) (tidy h w - 2 ^ s) (tidy h w)
+
+unfoldable pub taken : Table → Header → Slot → Bool
+taken t h x = isTaken h (tokenOf t (x .bucket)) (x .slot)

@@ -1,0 +1,113 @@
+// The types that the rules of document 01 and the code share: what the header says, where an item stands,
+// and what each call answers. There is no code here; specs/ has the rules, and proofs/ the laws about them.
+
+// Word 4, decoded: "k + 256·phase; phase 0 at rest, 1 growing".
+pub struct State {
+    pub k: u64,
+    pub phase: u64,
+}
+
+// Words 0 to 4, decoded.
+pub struct Header {
+    pub form: u64,
+    pub c: u64,
+    pub mul1: u64,
+    pub mul2: u64,
+    pub state: State,
+}
+
+// A level in use: which one it is (0 the top, 1 the bottom, 2 the interim level) and how many buckets it has.
+pub struct Level {
+    pub name: u64,
+    pub size: usize,
+}
+
+// Hash 1 and hash 2 of a key.
+pub struct Hashes {
+    pub first: u64,
+    pub second: u64,
+}
+
+// A bucket of a level.
+pub struct Place {
+    pub level: u64,
+    pub bucket: usize,
+}
+
+// A slot of a bucket of a level.
+pub struct Slot {
+    pub level: u64,
+    pub bucket: usize,
+    pub slot: usize,
+}
+
+// What a key leads to.
+pub struct Record {
+    pub function: u64,
+    pub place: u64,
+}
+
+// What the search for a key finds, with the number of buckets looked at.
+pub enum Lookup {
+    Stands(Slot, u64),
+    Absent(u64),
+}
+
+// "So a placing is a free slot, a move of one slot to another, or nothing."
+pub enum Placing {
+    Free(Slot),
+    Move(Slot, Slot),
+    Nowhere,
+}
+
+// What recovery finds: a sound table; one key in two slots, of which the second is to be cleared; a set flag with
+// the slot that it is set for; or none of these.
+pub enum Finding {
+    Sound,
+    Doubled(Slot, Slot),
+    Flagged(Slot),
+    Neither,
+}
+
+// The refusals, in the order of their numbers.
+pub enum Refusal {
+    BadHeader,
+    ShortList,
+    FlagSet,
+    KeyPresent,
+    KeyAbsent,
+    NoPlace,
+    AlreadyGrowing,
+    NotGrowing,
+    AtCapacity,
+    InterimTaken,
+    InterimEmpty,
+    NoKind,
+    BadCreation,
+    BadMaking,
+}
+
+// What insert, update, delete, begin, end and recover answer: how many stores they listed, or why they listed none.
+pub enum Change {
+    Listed(u64),
+    Refused(Refusal),
+}
+
+// What a growth step answers: the change, and the placing that it found for the interim item; nothing where it
+// was refused.
+pub struct Stepped {
+    pub change: Change,
+    pub placing: Placing,
+}
+
+// What query answers: the record, or why there is none; and the number of buckets looked at.
+pub enum Query {
+    Known(Record, u64),
+    Unknown(Refusal, u64),
+}
+
+// What create and make answer.
+pub enum Verdict {
+    Done,
+    Denied(Refusal),
+}
