@@ -3,8 +3,12 @@
 use Prim.Native.Nat.{ℕ}
 use mathlib.Core.List.{List, [], _∷_, _++_}
 use Rattle.rules.specs.declared.Slot.{Slot}
+use Rattle.rules.specs.declared.Lookup.{Lookup}
+use Rattle.rules.specs.declared.Lookup.the-variants.{Stands, Absent}
 use Rattle.rules.specs.declared.Placing.{Placing}
 use Rattle.rules.specs.declared.Placing.the-variants.{Free, Move, Nowhere}
+use Rattle.rules.specs.declared.Finding.{Finding}
+use Rattle.rules.specs.declared.Finding.the-variants.{Sound, Doubled, Flagged, Neither}
 use Rattle.rules.specs.declared.Refusal.{Refusal}
 use Rattle.rules.specs.declared.Refusal.the-variants.{BadHeader, ShortList, FlagSet, KeyPresent, KeyAbsent, NoPlace, AlreadyGrowing, NotGrowing, AtCapacity, InterimTaken, InterimEmpty, NoKind, BadCreation, BadMaking}
 use Rattle.rules.specs.declared.Change.{Change}
@@ -51,14 +55,28 @@ abbrev pub verdictMeans : Verdict → Meaning
 verdictMeans Done = record { number = 0; values = [] }
 verdictMeans (Denied r) = record { number = numberOf r; values = [] }
 
--- a slot as level, bucket and slot; nothing where there is no place, "6 | no place"
+-- ---- what the calls' own searches answer: a slot is level, bucket and slot
+
 abbrev pub slotMeans : Slot → List ℕ
 slotMeans x = x .level ∷ x .bucket ∷ x .slot ∷ []
 
+-- "5 | key absent", with the probe count
+abbrev pub lookupMeans : Lookup → Meaning
+lookupMeans (Stands x count) = record { number = 0; values = count ∷ slotMeans x }
+lookupMeans (Absent count) = record { number = 5; values = count ∷ [] }
+
+-- "6 | no place"
 abbrev pub placingMeans : Placing → Meaning
 placingMeans (Free x) = record { number = 0; values = slotMeans x }
 placingMeans (Move from to) = record { number = 0; values = slotMeans from ++ slotMeans to }
 placingMeans Nowhere = record { number = 6; values = [] }
+
+-- "12 | none of the three kinds above"; of the three kinds, the number of stores and the slots they are about
+abbrev pub findingMeans : Finding → Meaning
+findingMeans Sound = record { number = 0; values = 0 ∷ [] }
+findingMeans (Doubled kept later) = record { number = 0; values = 1 ∷ slotMeans kept ++ slotMeans later }
+findingMeans (Flagged x) = record { number = 0; values = 3 ∷ slotMeans x }
+findingMeans Neither = record { number = 12; values = 0 ∷ [] }
 
 -- a step's answer: its number and stores, then its placing
 unfoldable pub steppedMeans : Stepped → Meaning

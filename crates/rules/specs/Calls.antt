@@ -3,11 +3,11 @@
 -- Assumes nothing.
 use Prim.Native.Nat.{ℕ}
 use mathlib.Core.Bool.{Bool, not, cond}
-use mathlib.Core.List.{List, [], _∷_, flatMap}
+use mathlib.Core.List.{List, [], _∷_, flatMap, head?}
 use mathlib.Core.Option.{Option, none, some}
 use lib.ListN.{length}
 use lib.Dec.{eqb, leb}
-use Rattle.rules.specs.Choice.{all, given, select, firstOf}
+use Rattle.rules.specs.Choice.{all, select, empty}
 use Rattle.rules.specs.Words.{Table, headerOf, headerTests, flagOf, loggedOf, growing, interim, levelsInUse, slotsOf, keyIn, taken}
 use Rattle.rules.specs.Places.{lookup}
 use Rattle.rules.specs.Placing.{placing}
@@ -89,12 +89,16 @@ beginOf h =
     checked refused ((not (growing (h .state)), AlreadyGrowing) ∷ (not (eqb (h .state .k) (h .c)), AtCapacity) ∷ [])
     (listed (beginStores (h .state)))
 
--- "the first taken interim slot (bucket, then slot ascending)"
+-- the taken interim slots, "bucket, then slot ascending"
 unfoldable pub interimSlots : State → List Slot
 interimSlots s = flatMap slotsOf (select (λ (l : Level). eqb (l .name) interim) (levelsInUse s))
 
+unfoldable pub interimItems : Table → Header → List Slot
+interimItems t h = select (taken t h) (interimSlots (h .state))
+
+-- the item that a step takes: "the first taken interim slot"
 unfoldable pub stepItem : Table → Header → Option Slot
-stepItem t h = firstOf (λ (x : Slot). given (taken t h x) x) (interimSlots (h .state))
+stepItem t h = head? (interimItems t h)
 
 -- step: "8 | not growing", "11 | interim empty". "The growth step that finds no place for that first item is refused."
 abbrev pub stepIn : Table → Header → Option Slot → Outcome
@@ -105,12 +109,10 @@ unfoldable pub stepOf : Table → Header → Outcome
 stepOf t h = checked refused ((growing (h .state), NotGrowing) ∷ []) (stepIn t h (stepItem t h))
 
 -- end: "8 | not growing", "10 | interim not empty"
-abbrev pub endIn : Header → Option Slot → Outcome
-endIn h (some x) = refused InterimTaken
-endIn h none = listed (endStores (h .state))
-
 unfoldable pub endOf : Table → Header → Outcome
-endOf t h = checked refused ((growing (h .state), NotGrowing) ∷ []) (endIn h (stepItem t h))
+endOf t h =
+    checked refused ((growing (h .state), NotGrowing) ∷ (empty (interimItems t h), InterimTaken) ∷ [])
+    (listed (endStores (h .state)))
 
 -- recover: "sound: no stores"; "clear the later ..: one store"; "function and place from words 7 and 8, then flag 0: three
 -- stores"; "12 | none of the three kinds above"

@@ -2,8 +2,8 @@
 -- library's `cond`, a map over a list its `map`, and its `flatMap` where each element gives several.
 -- Assumes nothing.
 use Prim.Native.Nat.{ℕ, zero, suc}
-use mathlib.Core.Bool.{Bool, true, false, not, cond, _&&_, _||_}
-use mathlib.Core.List.{List, [], _∷_, map}
+use mathlib.Core.Bool.{Bool, true, false, cond, _&&_, _||_}
+use mathlib.Core.List.{List, [], _∷_}
 use mathlib.Core.Option.{Option, none, some}
 
 -- all of some tests, and at least one of them
@@ -30,6 +30,10 @@ module _ {A : Type 0} where
   abbrev pub select : (A → Bool) → List A → List A
   select p [] = []
   select p (x ∷ xs) = cond (p x) (x ∷ select p xs) (select p xs)
+
+abbrev pub empty : {A : Type 0} → List A → Bool
+empty [] = true
+empty (x ∷ xs) = false
 
 -- the first answer along a list
 abbrev pub firstOf : {A B : Type 0} → (A → Option B) → List A → Option B

@@ -4,23 +4,21 @@
 -- whatever record r gives a key. Tables come about as a caller makes them: created in used words, each call with a list
 -- of 20 words, the stores that it reports made from that list.
 -- Assumes nothing.
-use Prim.Native.Nat.{ℕ, _+_, _-_, _*_, _/_, _%_, _^_}
+use Prim.Native.Nat.{ℕ, _+_, _%_}
 use mathlib.Core.Path.{_≡_, refl}
-use mathlib.Core.Bool.{not}
-use mathlib.Core.List.{List, [], _∷_, _++_, map, flatMap}
-use lib.ListN.{length, replicate}
+use mathlib.Core.List.{List, [], _∷_, map, flatMap}
+use lib.ListN.{replicate}
 use lib.Dec.{eqb}
 use Rattle.words.specs.Product.{productOf, hashOf}
 use Rattle.rules.specs.Choice.{select}
-use Rattle.rules.specs.Words.{Table, word, wordsFor, stateOf, stateWord, growing, headerOf, flagOf, targetOf, loggedOf, stateGood, odd, capacityTests, headerTests, topOf, bottomOf, interimOf, levelsInUse, bucketsOf, allBuckets, inUse, unusedBuckets, slotAt, slotsIn, placeOf, placeAt, slotsOf, slotsInUse, tokenWord, keyWord, functionWord, placeWord, keyIn, recordIn, tokenOf, tidy, isTaken, show, hide, taken}
+use Rattle.rules.specs.Words.{Table, wordsFor, stateOf, stateWord, growing, headerOf, flagOf, targetOf, loggedOf, stateGood, odd, capacityTests, headerTests, topOf, bottomOf, interimOf, levelsInUse, bucketsOf, allBuckets, inUse, unusedBuckets, slotAt, slotsIn, placeOf, placeAt, slotsOf, slotsInUse, tokenWord, keyWord, functionWord, placeWord, keyIn, recordIn, tokenOf, tidy, isTaken, show, hide, taken}
 use Rattle.rules.specs.Places.{hashesOf, firstPlace, secondPlace, samePlace, placesIn, probes, placesOf, holds, hitIn, lookup}
-use Rattle.rules.specs.Placing.{takenIn, freeSlot, emptier, roomIn, otherPlace, itemsOf, candidates, moveOf, placing}
+use Rattle.rules.specs.Placing.{takenIn, freeSlot, fewer, emptier, roomIn, otherPlace, itemsOf, candidates, moveOf, placing}
 use Rattle.rules.specs.Stores.{Store, putStores, clearStores, moveStores, placingStores, redoStores, updateStores, beginStores, endStores, stepStores, written}
 use Rattle.rules.specs.Soundness.{takenSlots, tokensTidy, unusedEmpty, inPlace, orderlyTests, sameKey, twins, sameRecord, target, finding}
-use Rattle.rules.specs.Calls.{headerGood, listLong, flagClear, changingTests, queryTests, recoverTests, Outcome, refused, listed, beginOf, interimSlots, stepItem, stepOf, endOf, Call, query, insert, update, delete, begin, step, end, recover, outcome}
+use Rattle.rules.specs.Calls.{headerGood, listLong, flagClear, changingTests, queryTests, recoverTests, Outcome, refused, listed, beginOf, interimSlots, interimItems, stepItem, stepOf, endOf, Call, insert, update, delete, begin, step, recover, outcome}
 use Rattle.rules.specs.Results.{changeResult, queryResult, createTests, created, createResult, makeTests, makeResult}
 use Rattle.rules.specs.declared.Record.{Record}
-use Rattle.rules.specs.declared.Refusal.{Refusal}
 use Rattle.rules.specs.declared.Refusal.the-variants.{KeyPresent, KeyAbsent, NoPlace}
 use Rattle.rules.specs.declared.Change.{Change}
 use Rattle.rules.specs.declared.Change.the-variants.{Listed, Refused}
@@ -108,7 +106,7 @@ marked r =
     ∷ record { example = 6; computed = ask (beforeE6 r) (update 1 (pos 30 40)); paper = call (listed ((6, 36) ∷ (7, 30) ∷ (8, 40) ∷ (5, 1) ∷ (37, 30) ∷ (38, 40) ∷ (5, 0) ∷ [])) }
     ∷ record { example = 7; computed = ask (cut (beforeE6 r) (update 1 (pos 30 40)) 5) recover; paper = call (listed ((37, 30) ∷ (38, 40) ∷ (5, 0) ∷ [])) }
     ∷ record { example = 7; computed = ask (cut (beforeE6 r) (update 1 (pos 30 40)) 3) recover; paper = call (listed []) }
-    ∷ record { example = 7; computed = asked (queryResult (cut (beforeE6 r) (update 1 (pos 30 40)) 3) 1); paper = asked (Known (r 1) 1) }
+    ∷ record { example = 7; computed = asked (queryResult (whole (cut (beforeE6 r) (update 1 (pos 30 40)) 3) recover) 1); paper = asked (Known (r 1) 1) }
     ∷ record { example = 8; computed = ask (beforeE8 r) (insert 17 (r 17)); paper = call (refused NoPlace) }
     ∷ record { example = 8; computed = words (tokenOf (beforeE8 r) 1 ∷ []); paper = words (0 ∷ []) }
     ∷ record { example = 9; computed = words (indexes (outcome (beforeE9 r) 20 (insert 15 (r 15)))); paper = words (23 ∷ 24 ∷ 25 ∷ 22 ∷ 9 ∷ 10 ∷ 11 ∷ 12 ∷ 9 ∷ []) }
@@ -120,5 +118,5 @@ marked r =
 
 -- the rules compute what document 01 writes
 pub examples : (r : ℕ → Record) → map (λ (x : Row). x .computed) (marked r) ≡ map (λ (x : Row). x .paper) (marked r)
-unfolding productOf hashOf flatMap wordsFor stateOf stateWord growing headerOf flagOf targetOf loggedOf stateGood odd capacityTests headerTests topOf bottomOf interimOf levelsInUse bucketsOf allBuckets inUse unusedBuckets slotAt slotsIn placeOf placeAt slotsOf slotsInUse tokenWord keyWord functionWord placeWord keyIn recordIn tokenOf tidy isTaken show hide taken hashesOf firstPlace secondPlace samePlace placesIn probes holds hitIn lookup takenIn freeSlot emptier roomIn otherPlace itemsOf candidates moveOf placing putStores clearStores moveStores placingStores redoStores updateStores beginStores endStores stepStores written takenSlots tokensTidy unusedEmpty placesOf inPlace orderlyTests sameKey twins sameRecord target finding headerGood listLong flagClear changingTests queryTests recoverTests beginOf interimSlots stepItem stepOf endOf outcome changeResult queryResult createTests created createResult makeTests makeResult cut whole fresh usual afterE1 beforeE6 beforeE8 beforeE9 beforeE11 marked
+unfolding productOf hashOf flatMap wordsFor stateOf stateWord growing headerOf flagOf targetOf loggedOf stateGood odd capacityTests headerTests topOf bottomOf interimOf levelsInUse bucketsOf allBuckets inUse unusedBuckets slotAt slotsIn placeOf placeAt slotsOf slotsInUse tokenWord keyWord functionWord placeWord keyIn recordIn tokenOf tidy isTaken show hide taken hashesOf firstPlace secondPlace samePlace placesIn probes holds hitIn lookup takenIn freeSlot fewer emptier roomIn otherPlace itemsOf candidates moveOf placing putStores clearStores moveStores placingStores redoStores updateStores beginStores endStores stepStores written takenSlots tokensTidy unusedEmpty placesOf inPlace orderlyTests sameKey twins sameRecord target finding headerGood listLong flagClear changingTests queryTests recoverTests beginOf interimSlots interimItems stepItem stepOf endOf outcome changeResult queryResult createTests created createResult makeTests makeResult cut whole fresh usual afterE1 beforeE6 beforeE8 beforeE9 beforeE11 marked
 examples r = refl

@@ -7,4 +7,7 @@ pub mod Soundness
 pub mod Answers
 pub mod Calls
 pub mod Results
+pub mod NoPlace
+pub mod Histories
+pub mod Demands
 pub mod Examples

@@ -1,9 +1,9 @@
 -- Document 01, "Placing": "Placing uses top and bottom only".
 -- Assumes nothing.
 use Prim.Native.Nat.{ℕ}
-use mathlib.Core.Bool.{not, cond}
-use mathlib.Core.List.{List, [], _∷_, _++_, map, flatMap}
-use mathlib.Core.Option.{Option, none, some, Option·map, Option·getD}
+use mathlib.Core.Bool.{Bool, not, cond}
+use mathlib.Core.List.{List, _++_, map, flatMap}
+use mathlib.Core.Option.{Option, Option·map, Option·getD}
 use lib.ListN.{length, take}
 use lib.Dec.{eqb, ltb}
 use Rattle.rules.specs.Choice.{given, orElse, select, firstOf}
@@ -25,8 +25,11 @@ unfoldable pub freeSlot : Table → Header → Place → Option Slot
 freeSlot t h p = firstOf (λ (x : Slot). given (not (taken t h x)) x) (slotsIn p)
 
 -- "the place with fewer taken slots (tie: first place)"
+unfoldable pub fewer : Table → Header → Place → Place → Bool
+fewer t h p q = ltb (takenIn t h p) (takenIn t h q)
+
 unfoldable pub emptier : Table → Header → Place → Place → Place
-emptier t h first second = cond (ltb (takenIn t h second) (takenIn t h first)) second first
+emptier t h first second = cond (fewer t h second first) second first
 
 -- 1. "In the top, the place with fewer taken slots (tie: first place), lowest free slot."
 -- 2. "If both are full, the same in the bottom."

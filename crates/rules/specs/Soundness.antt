@@ -3,13 +3,13 @@
 -- Assumes nothing.
 use Prim.Native.Nat.{ℕ, _+_, _-_, _^_, _<_}
 use mathlib.Core.Path.{_≡_}
-use mathlib.Core.Bool.{Bool, true, false, cond}
+use mathlib.Core.Bool.{Bool, true, cond}
 use mathlib.Core.List.{List, [], _∷_, _++_, map, List·Memᴰ as In}
 use mathlib.Core.Logic.{_⊎_}
 use mathlib.Core.Option.{Option, none, some}
 use lib.ListN.{length}
 use lib.Dec.{eqb}
-use Rattle.rules.specs.Choice.{all, any, given, select, firstOf}
+use Rattle.rules.specs.Choice.{all, any, given, select, empty, firstOf}
 use Rattle.rules.specs.Words.{Table, headerOf, headerTests, flagOf, targetOf, allBuckets, unusedBuckets, slotsInUse, placeOf, keyWord, keyIn, recordIn, tokenOf, tidy, taken}
 use Rattle.rules.specs.Places.{samePlace, placesOf}
 use Rattle.rules.specs.declared.Place.{Place}
@@ -52,10 +52,6 @@ twinsOf t (x ∷ xs) = map (λ (y : Slot). (x, y)) (select (sameKey t x) xs) ++ 
 
 unfoldable pub twins : Table → List (Slot × Slot)
 twins t = twinsOf t (takenSlots t)
-
-abbrev pub empty : {A : Type 0} → List A → Bool
-empty [] = true
-empty (x ∷ xs) = false
 
 -- "Sound: good header; flag 0; every token word at most 15, and 0 in levels not in use; each taken slot in a place of its
 -- key; no key in two taken slots."

@@ -1,0 +1,337 @@
+-- The user's three demands as statements over the rules, each under its sentence. They are types; the laws of proofs/ that
+-- prove them bear the same names, beginning with a small letter.
+-- "The map after" is always the plain map's answer to a call (`mapAfter`), never the map of the table with the call's own
+-- list made.
+-- Assumes nothing.
+use Prim.Native.Nat.{ℕ, _+_, _-_, _*_, _%_, _^_, _≤_, _<_}
+use mathlib.Core.Path.{_≡_}
+use mathlib.Core.Bool.{true, false, cond}
+use mathlib.Core.List.{List, [], _∷_, _++_, List·Memᴰ as In}
+use mathlib.Core.Logic.{_⊎_, _↔_}
+use mathlib.Core.Option.{Option, none, some}
+use lib.ListN.{length, take, drop}
+use lib.Dec.{eqb}
+use Rattle.rules.specs.Choice.{all}
+use Rattle.rules.specs.Words.{Table, headerOf, flagOf, loggedOf, growing, top, bottom, interim, slotsIn, keyIn, recordIn, tokenWord}
+use Rattle.rules.specs.Places.{holds, placesOf}
+use Rattle.rules.specs.Stores.{Store, clearStores, redoStores, pairs, made}
+use Rattle.rules.specs.Soundness.{soundTests, TakenSlot, SoundTable, PlainMap, HasMap, Before, DoubledTable, FlaggedTable}
+use Rattle.rules.specs.Answers.{changeMeans, steppedMeans, verdictMeans}
+use Rattle.rules.specs.Calls.{headerGood, Outcome, refused, listed, Call, query, insert, update, delete, begin, step, end, recover, outcome}
+use Rattle.rules.specs.Results.{changeResult, stepResult, queryResult, createResult, makeResult}
+use Rattle.rules.specs.NoPlace.{NoPlaceFor}
+use Rattle.rules.specs.Histories.{Event, whole, after, History, Whole, Recovery, spent, Accepted, OneGrowth}
+use Rattle.rules.specs.declared.State.{State}
+use Rattle.rules.specs.declared.Place.{Place}
+use Rattle.rules.specs.declared.Slot.{Slot}
+use Rattle.rules.specs.declared.Record.{Record}
+use Rattle.rules.specs.declared.Refusal.the-variants.{BadHeader, ShortList, FlagSet, KeyPresent, KeyAbsent, NoPlace, AlreadyGrowing, NotGrowing, AtCapacity, InterimTaken, InterimEmpty, NoKind}
+use Rattle.rules.specs.declared.Change.the-variants.{Listed}
+use Rattle.rules.specs.declared.Query.{Query}
+use Rattle.rules.specs.declared.Query.the-variants.{Known, Unknown}
+use Rattle.rules.specs.declared.Verdict.the-variants.{Done}
+
+-- ==== Demand 1. "Any words, keys and lengths may be handed in."
+
+-- "A refusal carries its number, reports zero stores and changes neither table nor list."
+abbrev pub RefusalChangesNothing : Type 0
+RefusalChangesNothing =
+    (t : Table) (l : List ℕ) (q : Call) → (changeMeans (changeResult t l q .0) .number ≡ 0 → ⊥)
+    → (changeMeans (changeResult t l q .0) .values ≡ 0 ∷ []) × (changeResult t l q .1 ≡ l)
+
+-- step answers as the call step does, and tells no placing where it is refused
+abbrev pub StepIsACall : Type 0
+StepIsACall =
+    (t : Table) (l : List ℕ) → (stepResult t l .0 .change ≡ changeResult t l step .0) × (stepResult t l .1 ≡ changeResult t l step .1)
+    × ((steppedMeans (stepResult t l .0) .number ≡ 0 → ⊥) → steppedMeans (stepResult t l .0) .values ≡ 0 ∷ [])
+
+-- create: 13 exactly when "c, first k (1 to c), length or a multiplier" is bad, and then the words stay
+pub record GoodCreation (size c k mul1 mul2 : ℕ) : Type 0 where
+  pub capacity : (1 ≤ c) × (c ≤ 20)
+  pub exponent : (1 ≤ k) × (k ≤ c)
+  pub long : size ≡ 9 + 13 * (2 ^ (c + 1) - 1)
+  pub odd1 : mul1 % 2 ≡ 1
+  pub odd2 : mul2 % 2 ≡ 1
+
+abbrev pub CreateAnswers : Type 0
+CreateAnswers =
+    (t : Table) (c k mul1 mul2 : ℕ)
+    → (GoodCreation (length t) c k mul1 mul2 × (createResult t c k mul1 mul2 .0 ≡ Done))
+    ⊎ ((GoodCreation (length t) c k mul1 mul2 → ⊥) × (verdictMeans (createResult t c k mul1 mul2 .0) .number ≡ 13)
+    × (createResult t c k mul1 mul2 .1 ≡ t))
+
+-- "n pairs are not in the list, or an index among them is outside the table", and exactly then
+abbrev pub Outside : Table → List ℕ → ℕ → Type 0
+Outside t l n = (length l < 2 * n) ⊎ ((x : Store) × In x (pairs n l) × (length t ≤ x .0))
+
+abbrev pub MakeAnswers : Type 0
+MakeAnswers =
+    (t : Table) (l : List ℕ) (n : ℕ) → (Outside t l n × (verdictMeans (makeResult t l n .0) .number ≡ 14) × (makeResult t l n .1 ≡ t))
+    ⊎ ((Outside t l n → ⊥) × (makeResult t l n ≡ (Done, made t (pairs n l))))
+
+-- "A changing call or recovery that succeeds writes only the list's first 2·stores words": with the stores that it reports
+abbrev pub SuccessWritesItsStores : Type 0
+SuccessWritesItsStores =
+    (t : Table) (l : List ℕ) (q : Call) (n : ℕ) → changeResult t l q .0 ≡ Listed n
+    → (2 * n ≤ length l) × (length (changeResult t l q .1) ≡ length l) × (drop (2 * n) (changeResult t l q .1) ≡ drop (2 * n) l)
+    × (outcome t (length l) q ≡ listed (pairs n (changeResult t l q .1)))
+
+-- "checks its own input", "Order: 1, 2, 3, then the rest"; query asks for no list, and recovery does not test the flag
+abbrev pub AsksList : Call → Type 0
+AsksList q = (key : ℕ) → q ≡ query key → ⊥
+
+abbrev pub AsksFlag : Call → Type 0
+AsksFlag q = q ≡ recover → ⊥
+
+abbrev pub RefusalsInOrder : Type 0
+RefusalsInOrder =
+    (t : Table) (n : ℕ) (q : Call)
+    → ((outcome t n q ≡ refused BadHeader) ↔ (headerGood t ≡ false))
+    × ((outcome t n q ≡ refused ShortList) ↔ ((headerGood t ≡ true) × AsksList q × (n < 20)))
+    × ((outcome t n q ≡ refused FlagSet) ↔ ((headerGood t ≡ true) × (AsksList q → 20 ≤ n) × AsksFlag q × (flagOf t ≡ 0 → ⊥)))
+
+-- query's number is that of the call query; "with 1 or 3 zeros and count 0"
+abbrev pub QueryRefusals : Type 0
+QueryRefusals =
+    (t : Table) (key : ℕ) → (headerGood t ≡ false → queryResult t key ≡ Unknown BadHeader 0)
+    × (headerGood t ≡ true → (flagOf t ≡ 0 → ⊥) → queryResult t key ≡ Unknown FlagSet 0)
+
+-- "stays within its buffers": every store that a call lists lies in the table
+abbrev pub StoresInside : Type 0
+StoresInside = (t : Table) (n : ℕ) (q : Call) (xs : List Store) → outcome t n q ≡ listed xs → (x : Store) → In x xs → x .0 < length t
+
+-- "a token store is always below 16"
+abbrev pub TokenStoresLow : Type 0
+TokenStoresLow =
+    (t : Table) (n : ℕ) (q : Call) (xs : List Store) → outcome t n q ≡ listed xs
+    → (x : Store) → In x xs → (j : ℕ) → x .0 ≡ tokenWord j → x .1 < 16
+
+-- ==== Demand 2. "On a sound table, with a list of 20 words or more, query, insert, update and delete answer as a plain map
+-- does, and growing keeps the map."
+
+-- soundness as facts is soundness as a test
+abbrev pub SoundnessIsTested : Type 0
+SoundnessIsTested = (t : Table) → (all (soundTests t) ≡ true) ↔ SoundTable t
+
+-- "Its map is its taken slots": there is one, and one only
+abbrev pub MapExists : Type 0
+MapExists = (t : Table) → SoundTable t → (m : PlainMap) × HasMap t m × ((n : PlainMap) → HasMap t n → (key : ℕ) → n key ≡ m key)
+
+-- "Creation zeroes all words and writes the header."
+abbrev pub CreatedIsEmpty : Type 0
+CreatedIsEmpty =
+    (t u : Table) (c k mul1 mul2 : ℕ) → createResult t c k mul1 mul2 ≡ (Done, u)
+    → SoundTable u × (headerOf u .state ≡ record { k = k; phase = 0 }) × HasMap u (λ (key : ℕ). none)
+
+-- what a call makes of a plain map: plus the key, changed at the key, minus the key, or the same
+abbrev pub changed : PlainMap → ℕ → Option Record → PlainMap
+changed m key v = λ (k : ℕ). cond (eqb k key) v (m k)
+
+abbrev pub mapAfter : Call → PlainMap → PlainMap
+mapAfter (insert key r) m = changed m key (some r)
+mapAfter (update key r) m = changed m key (some r)
+mapAfter (delete key) m = changed m key none
+mapAfter (query key) m = m
+mapAfter begin m = m
+mapAfter step m = m
+mapAfter end m = m
+mapAfter recover m = m
+
+-- an accepted call: its stores, made in order, give a sound table with the map m
+pub record Gives (t : Table) (o : Outcome) (m : PlainMap) : Type 0 where
+  pub stores : List Store
+  pub answer : o ≡ listed stores
+  pub sound : SoundTable (made t stores)
+  pub map : HasMap (made t stores) m
+
+-- the premises: a sound table t with the map m, and a list of n words
+pub record Given (t : Table) (m : PlainMap) (n : ℕ) : Type 0 where
+  pub sound : SoundTable t
+  pub map : HasMap t m
+  pub room : 20 ≤ n
+
+-- query: the map's record for the map's keys, 5 for the others
+abbrev pub QueryBy : Option Record → Query → Type 0
+QueryBy (some r) a = (n : ℕ) × (a ≡ Known r n)
+QueryBy none a = (n : ℕ) × (a ≡ Unknown KeyAbsent n)
+
+abbrev pub QueryAnswers : Type 0
+QueryAnswers = (t : Table) (m : PlainMap) → SoundTable t → HasMap t m → (key : ℕ) → QueryBy (m key) (queryResult t key)
+
+-- insert: 4 for the map's keys. "For an absent key, insert says "no place" exactly when every candidate slot is taken and no
+-- single permitted move frees one."
+abbrev pub InsertBy : Table → PlainMap → ℕ → Record → Option Record → Outcome → Type 0
+InsertBy t m key r (some v) o = o ≡ refused KeyPresent
+InsertBy t m key r none o =
+    (NoPlaceFor t (headerOf t) key × (o ≡ refused NoPlace))
+    ⊎ ((NoPlaceFor t (headerOf t) key → ⊥) × Gives t o (mapAfter (insert key r) m))
+
+abbrev pub InsertAnswers : Type 0
+InsertAnswers = (t : Table) (m : PlainMap) (n : ℕ) → Given t m n → (key : ℕ) (r : Record) → InsertBy t m key r (m key) (outcome t n (insert key r))
+
+-- update and delete: 5 for keys that the map does not have
+abbrev pub ChangeBy : Table → PlainMap → Option Record → Outcome → Type 0
+ChangeBy t m (some v) o = Gives t o m
+ChangeBy t m none o = o ≡ refused KeyAbsent
+
+abbrev pub UpdateAnswers : Type 0
+UpdateAnswers = (t : Table) (m : PlainMap) (n : ℕ) → Given t m n → (key : ℕ) (r : Record) → ChangeBy t (mapAfter (update key r) m) (m key) (outcome t n (update key r))
+
+abbrev pub DeleteAnswers : Type 0
+DeleteAnswers = (t : Table) (m : PlainMap) (n : ℕ) → Given t m n → (key : ℕ) → ChangeBy t (mapAfter (delete key) m) (m key) (outcome t n (delete key))
+
+-- growth keeps the map, and the state becomes s
+abbrev pub GivesState : Table → Outcome → PlainMap → State → Type 0
+GivesState t o m s = (g : Gives t o m) × (headerOf (made t (g .stores)) .state ≡ s)
+
+abbrev pub BeginAnswers : Type 0
+BeginAnswers =
+    (t : Table) (m : PlainMap) (n : ℕ) → Given t m n
+    → (growing (headerOf t .state) ≡ true → outcome t n begin ≡ refused AlreadyGrowing)
+    × (growing (headerOf t .state) ≡ false → headerOf t .state .k ≡ headerOf t .c → outcome t n begin ≡ refused AtCapacity)
+    × (growing (headerOf t .state) ≡ false → (headerOf t .state .k ≡ headerOf t .c → ⊥)
+    → GivesState t (outcome t n begin) m (record { k = headerOf t .state .k + 1; phase = 1 }))
+
+-- the first taken interim slot, "bucket, then slot ascending"; and none
+pub record InterimItem (t : Table) (x : Slot) : Type 0 where
+  pub item : TakenSlot t x
+  pub level : x .level ≡ interim
+
+pub record FirstInterim (t : Table) (x : Slot) : Type 0 where
+  pub item : InterimItem t x
+  pub first : (y : Slot) → InterimItem t y → (y ≡ x) ⊎ Before x y
+
+abbrev pub NoInterim : Table → Type 0
+NoInterim t = (x : Slot) → InterimItem t x → ⊥
+
+-- after a step: the interim items are those before without the first; its key and record stand in top or bottom
+pub record StepMoves (t u : Table) (x : Slot) : Type 0 where
+  pub state : headerOf u .state ≡ headerOf t .state
+  pub rest : (y : Slot) → InterimItem u y ↔ (InterimItem t y × (y ≡ x → ⊥))
+  pub slot : Slot
+  pub placed : TakenSlot u slot
+  pub level : (slot .level ≡ top) ⊎ (slot .level ≡ bottom)
+  pub key : keyIn u slot ≡ keyIn t x
+  pub value : recordIn u slot ≡ recordIn t x
+
+abbrev pub StepBy : Table → PlainMap → Slot → Outcome → Type 0
+StepBy t m x o =
+    (NoPlaceFor t (headerOf t) (keyIn t x) × (o ≡ refused NoPlace))
+    ⊎ ((NoPlaceFor t (headerOf t) (keyIn t x) → ⊥) × ((g : Gives t o m) × StepMoves t (made t (g .stores)) x))
+
+abbrev pub StepAnswers : Type 0
+StepAnswers =
+    (t : Table) (m : PlainMap) (n : ℕ) → Given t m n
+    → (growing (headerOf t .state) ≡ false → outcome t n step ≡ refused NotGrowing)
+    × (growing (headerOf t .state) ≡ true → (NoInterim t × (outcome t n step ≡ refused InterimEmpty))
+    ⊎ ((x : Slot) × FirstInterim t x × StepBy t m x (outcome t n step)))
+
+abbrev pub EndAnswers : Type 0
+EndAnswers =
+    (t : Table) (m : PlainMap) (n : ℕ) → Given t m n
+    → (growing (headerOf t .state) ≡ false → outcome t n end ≡ refused NotGrowing)
+    × (growing (headerOf t .state) ≡ true → ((x : Slot) × InterimItem t x × (outcome t n end ≡ refused InterimTaken))
+    ⊎ (NoInterim t × GivesState t (outcome t n end) m (record { k = headerOf t .state .k; phase = 0 })))
+
+-- recovery: "sound: no stores"
+abbrev pub RecoverAnswers : Type 0
+RecoverAnswers = (t : Table) (m : PlainMap) (n : ℕ) → Given t m n → outcome t n recover ≡ listed []
+
+-- ==== Demand 3, "made in order .."
+
+-- "From a sound table an accepted change lists at most ten stores": the numbers of document 01's table
+abbrev pub Number : Call → ℕ → Type 0
+Number (insert key r) n = (n ≡ 4) ⊎ (n ≡ 9)
+Number (update key r) n = (n ≡ 4) ⊎ (n ≡ 7)
+Number (delete key) n = n ≡ 1
+Number begin n = n ≡ 1
+Number step n = (n ≡ 5) ⊎ (n ≡ 10)
+Number end n = n ≡ 1
+Number recover n = (n ≡ 0) ⊎ ((n ≡ 1) ⊎ (n ≡ 3))
+Number (query key) n = n ≡ 0
+
+abbrev pub StoreNumbers : Type 0
+StoreNumbers = (t : Table) (n : ℕ) (q : Call) (xs : List Store) → outcome t n q ≡ listed xs → Number q (length xs) × (length xs ≤ 10)
+
+-- the list as the call left it, with any n up to the reported stores, is one that make accepts: it gives the table with the
+-- first n stores
+abbrev pub MakeTakesTheList : Type 0
+MakeTakesTheList =
+    (t : Table) (l : List ℕ) (q : Call) (s : ℕ) → changeResult t l q .0 ≡ Listed s → (n : ℕ) → n ≤ s
+    → (xs : List Store) × (outcome t (length l) q ≡ listed xs) × (length xs ≡ s)
+    × (makeResult t (changeResult t l q .1) n ≡ (Done, made t (take n xs)))
+
+-- recovery of u, with any list of 20 words or more, "lists at most three stores and brings back" the map m
+pub record Recovered (u : Table) (m : PlainMap) : Type 0 where
+  pub stores : List Store
+  pub answer : (n : ℕ) → 20 ≤ n → outcome u n recover ≡ listed stores
+  pub few : length stores ≤ 3
+  pub sound : SoundTable (made u stores)
+  pub map : HasMap (made u stores) m
+
+-- "A cut after any number of them is accepted by recovery .., which .. brings back exactly the map before or the map after".
+-- The first n stores are made by make from the list as the call left it; made whole they give the map after, so that a call
+-- that lists nothing fails here
+abbrev pub CutsAreSafe : Type 0
+CutsAreSafe =
+    (t : Table) (m : PlainMap) (l : List ℕ) → Given t m (length l) → (q : Call) (s : ℕ) → changeResult t l q .0 ≡ Listed s
+    → (SoundTable (makeResult t (changeResult t l q .1) s .1) × HasMap (makeResult t (changeResult t l q .1) s .1) (mapAfter q m))
+    × ((n : ℕ) → n ≤ s → Recovered (makeResult t (changeResult t l q .1) n .1) m
+    ⊎ Recovered (makeResult t (changeResult t l q .1) n .1) (mapAfter q m))
+
+-- "also when recovery is cut, however often": after any recoveries, each cut anywhere, one that is whole brings the same map
+abbrev pub RecoveryMayBeCut : Type 0
+RecoveryMayBeCut = (t u : Table) (m : PlainMap) (es : List Event) → Recovered t m → History Recovery t es u → Recovered u m
+
+-- "Recovery accepts exactly three kinds of table", each with its stores
+abbrev pub RecoveryAccepts : Type 0
+RecoveryAccepts =
+    (t : Table) (n : ℕ) → headerGood t ≡ true → 20 ≤ n
+    → (SoundTable t × (outcome t n recover ≡ listed []))
+    ⊎ (((x : Slot) × (y : Slot) × DoubledTable t x y × (outcome t n recover ≡ listed (clearStores t (headerOf t) y)))
+    ⊎ (((x : Slot) × FlaggedTable t x × (outcome t n recover ≡ listed (redoStores x (loggedOf t))))
+    ⊎ ((SoundTable t → ⊥) × ((x y : Slot) → DoubledTable t x y → ⊥) × ((x : Slot) → FlaggedTable t x → ⊥)
+    × (outcome t n recover ≡ refused NoKind))))
+
+-- "One whole growth from N top buckets, each list made once, whole, on its own table, before the next call and no other store
+-- made, spends at most 20N + 2 stores in its own calls, whatever but creation is called between."
+abbrev pub GrowthBound : Type 0
+GrowthBound =
+    (t u : Table) (room : ℕ) (es : List Event) → Accepted (outcome t room begin) → OneGrowth (after t (whole begin room)) es
+    → History Whole t (whole begin room ∷ es) u
+    → spent t (whole begin room ∷ es) ≤ 20 * 2 ^ headerOf t .state .k + 2
+
+-- "A query looks at no more than four buckets, six while growing, and reports the number truly looked at": the position, in
+-- the list of distinct probed buckets, of the bucket where it stopped, or that list's length
+abbrev pub NoneHolds : Table → ℕ → List Place → Type 0
+NoneHolds t key ps = (p : Place) → In p ps → (x : Slot) → In x (slotsIn p) → holds t (headerOf t) key x ≡ false
+
+pub record StoppedAt (t : Table) (key : ℕ) (r : Record) (n : ℕ) : Type 0 where
+  pub before : List Place
+  pub place : Place
+  pub behind : List Place
+  pub order : placesOf (headerOf t) key ≡ before ++ (place ∷ behind)
+  pub position : n ≡ length before + 1
+  pub none-before : NoneHolds t key before
+  pub slot : Slot
+  pub here : In slot (slotsIn place)
+  pub holding : holds t (headerOf t) key slot ≡ true
+  pub first : (y : Slot) → In y (slotsIn place) → y .slot < slot .slot → holds t (headerOf t) key y ≡ false
+  pub value : recordIn t slot ≡ r
+
+abbrev pub CountBy : Table → ℕ → Query → Type 0
+CountBy t key (Known r n) = StoppedAt t key r n
+CountBy t key (Unknown e n) = (e ≡ KeyAbsent) × (n ≡ length (placesOf (headerOf t) key)) × NoneHolds t key (placesOf (headerOf t) key)
+
+abbrev pub QueryCounts : Type 0
+QueryCounts = (t : Table) (key : ℕ) → headerGood t ≡ true → flagOf t ≡ 0 → CountBy t key (queryResult t key)
+
+abbrev pub ProbesAreFew : Type 0
+ProbesAreFew =
+    (t : Table) (key : ℕ) → (growing (headerOf t .state) ≡ false → length (placesOf (headerOf t) key) ≤ 4)
+    × (length (placesOf (headerOf t) key) ≤ 6)
+
+abbrev pub ProbesAreDistinct : Type 0
+ProbesAreDistinct =
+    (t : Table) (key : ℕ) → headerGood t ≡ true → (before between behind : List Place) (p q : Place)
+    → placesOf (headerOf t) key ≡ before ++ (p ∷ (between ++ (q ∷ behind))) → p .bucket ≡ q .bucket → ⊥
