@@ -1,0 +1,9 @@
+pub mod Lists
+pub mod Checked
+pub mod FreeSlots
+pub mod Probing
+pub mod Chosen
+pub mod Moves
+pub mod Ending
+pub mod Later
+pub mod Meanings

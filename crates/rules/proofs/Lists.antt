@@ -1,0 +1,152 @@
+-- What the rules' choices from lists mean: the first answer, those that pass a test, what each element gives.
+-- Assumes nothing.
+use Prim.Native.Nat.{ℕ, zero, suc, _+_, _≤_, _<_}
+use mathlib.Core.Path.{_≡_, refl, sym, ap, _∙_}
+use mathlib.Core.Bool.{Bool, true, false, cond}
+use mathlib.Core.List.{List, [], _∷_, _++_, map, flatMap, List·Memᴰ as In, List·Memᴰ·head as here, List·Memᴰ·tail as there, List·Memᴰ·not-nil, List·Memᴰ·cases-cons, List·Memᴰ·append-cases}
+use mathlib.Core.Logic.{⊎-elim}
+use mathlib.Core.Option.{Option, none, some}
+use native.Mathlib.Omega.{arith}
+use Rattle.rules.specs.Choice.{given, orElse, select, empty, firstOf, from}
+
+pub never : {A : Type 0} {b : Bool} → b ≡ true → b ≡ false → A
+never p q = absurd (let z : _≡_ {A = ℕ} 0 1 = cc in omega arith)
+
+pub not-some : {A B : Type 0} {b : B} → _≡_ {A = Option B} none (some b) → A
+not-some p = absurd (let z : _≡_ {A = ℕ} 0 1 = cc in omega arith)
+
+pub some-one : {B : Type 0} {a b : B} → some a ≡ some b → a ≡ b
+some-one p = cc
+
+-- ---- the first answer
+
+module _ {A B : Type 0} (f : A → Option B) where
+  -- where there is one: what stands before it gives none
+  pub record First (l : List A) (b : B) : Type 0 where
+    pub earlier : List A
+    pub one : A
+    pub later : List A
+    pub split : l ≡ earlier ++ (one ∷ later)
+    pub inside : In one l
+    pub gives : f one ≡ some b
+    pub before : (x : A) → In x earlier → f x ≡ none
+
+  pub firstOf-some : (l : List A) (b : B) → firstOf f l ≡ some b → First l b
+  firstOf-some [] b e = not-some e
+  firstOf-some (x ∷ xs) b e = go (f x) refl e (firstOf-some xs b)
+    where
+      go : (o : Option B) → f x ≡ o → orElse o (firstOf f xs) ≡ some b → (firstOf f xs ≡ some b → First xs b) → First (x ∷ xs) b
+      go (some c) q e k = record { earlier = []; one = x; later = xs; split = refl; inside = here refl; gives = q ∙ e; before = λ y i. absurd (List·Memᴰ·not-nil i) }
+      go none q e k =
+          let r = k e in
+          record {
+            earlier = x ∷ r .earlier;
+            one = r .one;
+            later = r .later;
+            split = ap (λ l. x ∷ l) (r .split);
+            inside = there (r .inside);
+            gives = r .gives;
+            before = λ y i. ⊎-elim (λ (h : y ≡ x). rw h q) (λ (h : In y (r .earlier)). r .before y h) (List·Memᴰ·cases-cons i);
+          }
+
+  pub firstOf-none : (l : List A) → firstOf f l ≡ none → (x : A) → In x l → f x ≡ none
+  firstOf-none [] e x i = absurd (List·Memᴰ·not-nil i)
+  firstOf-none (y ∷ ys) e x i = go (f y) refl e (λ g j. firstOf-none ys g x j)
+    where
+      go : (o : Option B) → f y ≡ o → orElse o (firstOf f ys) ≡ none → (firstOf f ys ≡ none → In x ys → f x ≡ none) → f x ≡ none
+      go (some c) q e k = not-some (sym e)
+      go none q e k = ⊎-elim (λ (h : x ≡ y). rw h q) (λ (h : In x ys). k e h) (List·Memᴰ·cases-cons i)
+
+-- a value given by a test
+pub given-some : {A : Type 0} (b : Bool) (a c : A) → given b a ≡ some c → (b ≡ true) × (a ≡ c)
+given-some true a c e = (refl, some-one e)
+given-some false a c e = not-some e
+
+pub given-none : {A : Type 0} (b : Bool) (a : A) → given b a ≡ none → b ≡ false
+given-none true a e = not-some (sym e)
+given-none false a e = refl
+
+-- ---- those that pass a test
+
+module _ {A : Type 0} (p : A → Bool) where
+  pub select-in : (l : List A) (x : A) → In x (select p l) → In x l × (p x ≡ true)
+  select-in [] x i = absurd (List·Memᴰ·not-nil i)
+  select-in (y ∷ ys) x i = go (p y) refl i (select-in ys x)
+    where
+      go : (b : Bool) → p y ≡ b → In x (cond b (y ∷ select p ys) (select p ys)) → (In x (select p ys) → In x ys × (p x ≡ true)) → In x (y ∷ ys) × (p x ≡ true)
+      go true q i k = ⊎-elim (λ (h : x ≡ y). (here h, rw h q)) (λ (h : In x (select p ys)). (there (k h .0), k h .1)) (List·Memᴰ·cases-cons i)
+      go false q i k = (there (k i .0), k i .1)
+
+  pub select-none : (l : List A) → empty (select p l) ≡ true → (x : A) → In x l → p x ≡ false
+  select-none [] e x i = absurd (List·Memᴰ·not-nil i)
+  select-none (y ∷ ys) e x i = go (p y) refl e (λ g j. select-none ys g x j)
+    where
+      go : (b : Bool) → p y ≡ b → empty (cond b (y ∷ select p ys) (select p ys)) ≡ true → (empty (select p ys) ≡ true → In x ys → p x ≡ false) → p x ≡ false
+      go true q e k = never e refl
+      go false q e k = ⊎-elim (λ (h : x ≡ y). rw h q) (λ (h : In x ys). k e h) (List·Memᴰ·cases-cons i)
+
+-- ---- what each element gives
+
+pub map-in : {A B : Type 0} (f : A → B) (l : List A) (y : B) → In y (map f l) → (x : A) × In x l × (y ≡ f x)
+map-in f [] y i = absurd (List·Memᴰ·not-nil i)
+map-in f (x ∷ xs) y i =
+    ⊎-elim (λ (h : y ≡ f x). (x, here refl, h)) (λ (h : In y (map f xs)). let r = map-in f xs y h in (r .0, there (r .1), r .2)) (List·Memᴰ·cases-cons i)
+
+pub in-map : {A B : Type 0} (f : A → B) {l : List A} {x : A} → In x l → In (f x) (map f l)
+in-map f (here e) = here (ap f e)
+in-map f (there i) = there (in-map f i)
+
+pub flatMap-in : {A B : Type 0} (f : A → List B) (l : List A) (y : B) → In y (flatMap f l) → (x : A) × In x l × In y (f x)
+unfolding flatMap
+flatMap-in f [] y i = absurd (List·Memᴰ·not-nil i)
+flatMap-in f (x ∷ xs) y i =
+    ⊎-elim (λ (h : In y (f x)). (x, here refl, h)) (λ (h : In y (flatMap f xs)). let r = flatMap-in f xs y h in (r .0, there (r .1), r .2)) (List·Memᴰ·append-cases (f x) i)
+
+pub from-in : (a n x : ℕ) → In x (from a n) → (a ≤ x) × (x < a + n)
+from-in a zero x i = absurd (List·Memᴰ·not-nil i)
+from-in a (suc n) x i = ⊎-elim (λ (h : x ≡ a). omega arith) (λ (h : In x (from (suc a) n)). omega (arith, from-in (suc a) n x h)) (List·Memᴰ·cases-cons i)
+
+-- ---- lists in order
+
+module _ {A : Type 0} (R : A → A → Type 0) where
+  -- each element stands in R to every later one
+  abbrev pub Ascending : List A → Type 0
+  Ascending [] = Unit {0}
+  Ascending (x ∷ xs) = ((y : A) → In y xs → R x y) × Ascending xs
+
+  pub ascending-append : (xs ys : List A) → Ascending xs → Ascending ys → ((x y : A) → In x xs → In y ys → R x y) → Ascending (xs ++ ys)
+  ascending-append [] ys a b c = b
+  ascending-append (x ∷ xs) ys a b c = (
+    λ y i. ⊎-elim (λ (h : In y xs). a .0 y h) (λ (h : In y ys). c x y (here refl) h) (List·Memᴰ·append-cases xs i),
+    ascending-append xs ys (a .1) b (λ z y i j. c z y (there i) j),
+  )
+
+  pub ascending-select : (p : A → Bool) (l : List A) → Ascending l → Ascending (select p l)
+  ascending-select p [] a = tt
+  ascending-select p (x ∷ xs) a = go (p x) (ascending-select p xs (a .1))
+    where
+      go : (b : Bool) → Ascending (select p xs) → Ascending (cond b (x ∷ select p xs) (select p xs))
+      go true k = (λ y i. a .0 y (select-in p xs y i .0), k)
+      go false k = k
+
+pub ascending-flatMap : {A B : Type 0} (R : A → A → Type 0) (S : B → B → Type 0) (f : A → List B) (l : List A) → Ascending R l
+    → ((x : A) → Ascending S (f x)) → ((x y : A) → R x y → (u v : B) → In u (f x) → In v (f y) → S u v) → Ascending S (flatMap f l)
+unfolding flatMap
+ascending-flatMap R S f [] a b c = tt
+ascending-flatMap R S f (x ∷ xs) a b c =
+    ascending-append S (f x) (flatMap f xs) (b x) (ascending-flatMap R S f xs (a .1) b c)
+    (λ u v i j. let r = flatMap-in f xs v j in c x (r .0) (a .0 (r .0) (r .1)) u v i (r .2))
+
+pub ascending-map : {A B : Type 0} (R : A → A → Type 0) (S : B → B → Type 0) (f : A → B) (l : List A) → Ascending R l
+    → ((x y : A) → R x y → S (f x) (f y)) → Ascending S (map f l)
+ascending-map R S f [] a c = tt
+ascending-map R S f (x ∷ xs) a c =
+    (λ y i. let r = map-in f xs y i in rw (r .2) (c x (r .0) (a .0 (r .0) (r .1))), ascending-map R S f xs (a .1) c)
+
+pub ascending-of-map : {A B : Type 0} (S : B → B → Type 0) (f : A → B) (l : List A) → Ascending S (map f l) → Ascending (λ x y. S (f x) (f y)) l
+ascending-of-map S f [] a = tt
+ascending-of-map S f (x ∷ xs) a = (λ y i. a .0 (f y) (in-map f i), ascending-of-map S f xs (a .1))
+
+pub ascending-from : (a n : ℕ) → Ascending _<_ (from a n)
+ascending-from a zero = tt
+ascending-from a (suc n) = (λ y i. omega (arith, from-in (suc a) n y i), ascending-from (suc a) n)
