@@ -12,12 +12,12 @@ use mathlib.Core.Option.{Option, none, some}
 use lib.ListN.{length, take, drop}
 use lib.Dec.{eqb}
 use Rattle.rules.specs.Choice.{all}
-use Rattle.rules.specs.Words.{Table, headerOf, flagOf, loggedOf, growing, top, bottom, interim, slotsIn, keyIn, recordIn, tokenWord}
+use Rattle.rules.specs.Words.{Table, headerOf, GoodHeader, flagOf, loggedOf, top, bottom, interim, slotsIn, keyIn, recordIn, tokenWord}
 use Rattle.rules.specs.Places.{holds, placesOf}
 use Rattle.rules.specs.Stores.{Store, clearStores, redoStores, pairs, made}
 use Rattle.rules.specs.Soundness.{soundTests, TakenSlot, SoundTable, PlainMap, HasMap, Before, DoubledTable, FlaggedTable}
 use Rattle.rules.specs.Answers.{changeMeans, steppedMeans, verdictMeans}
-use Rattle.rules.specs.Calls.{headerGood, Outcome, refused, listed, Call, query, insert, update, delete, begin, step, end, recover, outcome}
+use Rattle.rules.specs.Calls.{Outcome, refused, listed, Call, query, insert, update, delete, begin, step, end, recover, outcome}
 use Rattle.rules.specs.Results.{changeResult, stepResult, queryResult, createResult, makeResult}
 use Rattle.rules.specs.NoPlace.{NoPlaceFor}
 use Rattle.rules.specs.Histories.{Event, whole, after, History, Whole, Recovery, spent, Accepted, OneGrowth}
@@ -25,6 +25,7 @@ use Rattle.rules.specs.declared.State.{State}
 use Rattle.rules.specs.declared.Place.{Place}
 use Rattle.rules.specs.declared.Slot.{Slot}
 use Rattle.rules.specs.declared.Record.{Record}
+use Rattle.rules.specs.declared.Refusal.{Refusal}
 use Rattle.rules.specs.declared.Refusal.the-variants.{BadHeader, ShortList, FlagSet, KeyPresent, KeyAbsent, NoPlace, AlreadyGrowing, NotGrowing, AtCapacity, InterimTaken, InterimEmpty, NoKind}
 use Rattle.rules.specs.declared.Change.the-variants.{Listed}
 use Rattle.rules.specs.declared.Query.{Query}
@@ -76,25 +77,68 @@ SuccessWritesItsStores =
     → (2 * n ≤ length l) × (length (changeResult t l q .1) ≡ length l) × (drop (2 * n) (changeResult t l q .1) ≡ drop (2 * n) l)
     × (outcome t (length l) q ≡ listed (pairs n (changeResult t l q .1)))
 
--- "checks its own input", "Order: 1, 2, 3, then the rest"; query asks for no list, and recovery does not test the flag
-abbrev pub AsksList : Call → Type 0
-AsksList q = (key : ℕ) → q ≡ query key → ⊥
+-- "phase 0 at rest, 1 growing"
+abbrev pub AtRest : Table → Type 0
+AtRest t = headerOf t .state .phase ≡ 0
 
-abbrev pub AsksFlag : Call → Type 0
-AsksFlag q = q ≡ recover → ⊥
+abbrev pub Growing : Table → Type 0
+Growing t = headerOf t .state .phase ≡ 1
 
+-- "checks its own input": when each refusal is given, in facts. The key stands in a probed bucket
+abbrev pub Held : Table → ℕ → Type 0
+Held t key = (p : Place) × (x : Slot) × In p (placesOf (headerOf t) key) × In x (slotsIn p) × (holds t (headerOf t) key x ≡ true)
+
+-- an item of the interim level; the first of them, "bucket, then slot ascending"; and none
+pub record InterimItem (t : Table) (x : Slot) : Type 0 where
+  pub item : TakenSlot t x
+  pub level : x .level ≡ interim
+
+pub record FirstInterim (t : Table) (x : Slot) : Type 0 where
+  pub item : InterimItem t x
+  pub first : (y : Slot) → InterimItem t y → (y ≡ x) ⊎ Before x y
+
+abbrev pub NoInterim : Table → Type 0
+NoInterim t = (x : Slot) → InterimItem t x → ⊥
+
+pub record OfNoKind (t : Table) : Type 0 where
+  pub unsound : SoundTable t → ⊥
+  pub undoubled : (x y : Slot) → DoubledTable t x y → ⊥
+  pub unflagged : (x : Slot) → FlaggedTable t x → ⊥
+
+abbrev pub changingRefusals : Table → ℕ → List (Type 0 × Refusal)
+changingRefusals t n =
+    ((GoodHeader (length t) (headerOf t) → ⊥), BadHeader) ∷ (n < 20, ShortList) ∷ ((flagOf t ≡ 0 → ⊥), FlagSet) ∷ []
+
+abbrev pub refusals : Table → ℕ → Call → List (Type 0 × Refusal)
+refusals t n (query key) = ((GoodHeader (length t) (headerOf t) → ⊥), BadHeader) ∷ ((flagOf t ≡ 0 → ⊥), FlagSet) ∷ ((Held t key → ⊥), KeyAbsent) ∷ []
+refusals t n (insert key r) = changingRefusals t n ++ ((Held t key, KeyPresent) ∷ (NoPlaceFor t (headerOf t) key, NoPlace) ∷ [])
+refusals t n (update key r) = changingRefusals t n ++ (((Held t key → ⊥), KeyAbsent) ∷ [])
+refusals t n (delete key) = changingRefusals t n ++ (((Held t key → ⊥), KeyAbsent) ∷ [])
+refusals t n begin = changingRefusals t n ++ ((Growing t, AlreadyGrowing) ∷ (headerOf t .state .k ≡ headerOf t .c, AtCapacity) ∷ [])
+refusals t n step =
+    changingRefusals t n ++ (((Growing t → ⊥), NotGrowing) ∷ (NoInterim t, InterimEmpty)
+    ∷ (((x : Slot) × FirstInterim t x × NoPlaceFor t (headerOf t) (keyIn t x)), NoPlace) ∷ [])
+refusals t n end = changingRefusals t n ++ (((Growing t → ⊥), NotGrowing) ∷ (((x : Slot) × InterimItem t x), InterimTaken) ∷ [])
+refusals t n recover = ((GoodHeader (length t) (headerOf t) → ⊥), BadHeader) ∷ (n < 20, ShortList) ∷ (OfNoKind t, NoKind) ∷ []
+
+-- the first that holds refuses; where none does, the call is accepted
+abbrev pub FirstRefuses : List (Type 0 × Refusal) → Outcome → Type 0
+FirstRefuses [] o = Accepted o
+FirstRefuses (x ∷ xs) o = (x .0 × (o ≡ refused (x .1))) ⊎ ((x .0 → ⊥) × FirstRefuses xs o)
+
+-- "Order: 1, 2, 3, then the rest; for insert 4 before 6; for begin 7 before 9; for step and end 8 first."
 abbrev pub RefusalsInOrder : Type 0
-RefusalsInOrder =
-    (t : Table) (n : ℕ) (q : Call)
-    → ((outcome t n q ≡ refused BadHeader) ↔ (headerGood t ≡ false))
-    × ((outcome t n q ≡ refused ShortList) ↔ ((headerGood t ≡ true) × AsksList q × (n < 20)))
-    × ((outcome t n q ≡ refused FlagSet) ↔ ((headerGood t ≡ true) × (AsksList q → 20 ≤ n) × AsksFlag q × (flagOf t ≡ 0 → ⊥)))
+RefusalsInOrder = (t : Table) (n : ℕ) (q : Call) → FirstRefuses (refusals t n q) (outcome t n q)
 
--- query's number is that of the call query; "with 1 or 3 zeros and count 0"
-abbrev pub QueryRefusals : Type 0
-QueryRefusals =
-    (t : Table) (key : ℕ) → (headerGood t ≡ false → queryResult t key ≡ Unknown BadHeader 0)
-    × (headerGood t ≡ true → (flagOf t ≡ 0 → ⊥) → queryResult t key ≡ Unknown FlagSet 0)
+-- query answers by the call query's outcome; "with 1 or 3 zeros and count 0"
+abbrev pub QueryAs : Outcome → Query → Type 0
+QueryAs (listed stores) (Known r n) = Unit {0}
+QueryAs (listed stores) (Unknown e n) = ⊥
+QueryAs (refused e) (Known r n) = ⊥
+QueryAs (refused e) (Unknown f n) = (e ≡ f) × ((e ≡ KeyAbsent) ⊎ (n ≡ 0))
+
+abbrev pub QueryIsACall : Type 0
+QueryIsACall = (t : Table) (n key : ℕ) → QueryAs (outcome t n (query key)) (queryResult t key)
 
 -- "stays within its buffers": every store that a call lists lies in the table
 abbrev pub StoresInside : Type 0
@@ -187,22 +231,10 @@ GivesState t o m s = (g : Gives t o m) × (headerOf (made t (g .stores)) .state 
 abbrev pub BeginAnswers : Type 0
 BeginAnswers =
     (t : Table) (m : PlainMap) (n : ℕ) → Given t m n
-    → (growing (headerOf t .state) ≡ true → outcome t n begin ≡ refused AlreadyGrowing)
-    × (growing (headerOf t .state) ≡ false → headerOf t .state .k ≡ headerOf t .c → outcome t n begin ≡ refused AtCapacity)
-    × (growing (headerOf t .state) ≡ false → (headerOf t .state .k ≡ headerOf t .c → ⊥)
+    → (Growing t → outcome t n begin ≡ refused AlreadyGrowing)
+    × (AtRest t → headerOf t .state .k ≡ headerOf t .c → outcome t n begin ≡ refused AtCapacity)
+    × (AtRest t → (headerOf t .state .k ≡ headerOf t .c → ⊥)
     → GivesState t (outcome t n begin) m (record { k = headerOf t .state .k + 1; phase = 1 }))
-
--- the first taken interim slot, "bucket, then slot ascending"; and none
-pub record InterimItem (t : Table) (x : Slot) : Type 0 where
-  pub item : TakenSlot t x
-  pub level : x .level ≡ interim
-
-pub record FirstInterim (t : Table) (x : Slot) : Type 0 where
-  pub item : InterimItem t x
-  pub first : (y : Slot) → InterimItem t y → (y ≡ x) ⊎ Before x y
-
-abbrev pub NoInterim : Table → Type 0
-NoInterim t = (x : Slot) → InterimItem t x → ⊥
 
 -- after a step: the interim items are those before without the first; its key and record stand in top or bottom
 pub record StepMoves (t u : Table) (x : Slot) : Type 0 where
@@ -222,15 +254,15 @@ StepBy t m x o =
 abbrev pub StepAnswers : Type 0
 StepAnswers =
     (t : Table) (m : PlainMap) (n : ℕ) → Given t m n
-    → (growing (headerOf t .state) ≡ false → outcome t n step ≡ refused NotGrowing)
-    × (growing (headerOf t .state) ≡ true → (NoInterim t × (outcome t n step ≡ refused InterimEmpty))
+    → (AtRest t → outcome t n step ≡ refused NotGrowing)
+    × (Growing t → (NoInterim t × (outcome t n step ≡ refused InterimEmpty))
     ⊎ ((x : Slot) × FirstInterim t x × StepBy t m x (outcome t n step)))
 
 abbrev pub EndAnswers : Type 0
 EndAnswers =
     (t : Table) (m : PlainMap) (n : ℕ) → Given t m n
-    → (growing (headerOf t .state) ≡ false → outcome t n end ≡ refused NotGrowing)
-    × (growing (headerOf t .state) ≡ true → ((x : Slot) × InterimItem t x × (outcome t n end ≡ refused InterimTaken))
+    → (AtRest t → outcome t n end ≡ refused NotGrowing)
+    × (Growing t → ((x : Slot) × InterimItem t x × (outcome t n end ≡ refused InterimTaken))
     ⊎ (NoInterim t × GivesState t (outcome t n end) m (record { k = headerOf t .state .k; phase = 0 })))
 
 -- recovery: "sound: no stores"
@@ -286,12 +318,11 @@ RecoveryMayBeCut = (t u : Table) (m : PlainMap) (es : List Event) → Recovered 
 -- "Recovery accepts exactly three kinds of table", each with its stores
 abbrev pub RecoveryAccepts : Type 0
 RecoveryAccepts =
-    (t : Table) (n : ℕ) → headerGood t ≡ true → 20 ≤ n
+    (t : Table) (n : ℕ) → GoodHeader (length t) (headerOf t) → 20 ≤ n
     → (SoundTable t × (outcome t n recover ≡ listed []))
     ⊎ (((x : Slot) × (y : Slot) × DoubledTable t x y × (outcome t n recover ≡ listed (clearStores t (headerOf t) y)))
     ⊎ (((x : Slot) × FlaggedTable t x × (outcome t n recover ≡ listed (redoStores x (loggedOf t))))
-    ⊎ ((SoundTable t → ⊥) × ((x y : Slot) → DoubledTable t x y → ⊥) × ((x : Slot) → FlaggedTable t x → ⊥)
-    × (outcome t n recover ≡ refused NoKind))))
+    ⊎ (OfNoKind t × (outcome t n recover ≡ refused NoKind))))
 
 -- "One whole growth from N top buckets, each list made once, whole, on its own table, before the next call and no other store
 -- made, spends at most 20N + 2 stores in its own calls, whatever but creation is called between."
@@ -324,14 +355,14 @@ CountBy t key (Known r n) = StoppedAt t key r n
 CountBy t key (Unknown e n) = (e ≡ KeyAbsent) × (n ≡ length (placesOf (headerOf t) key)) × NoneHolds t key (placesOf (headerOf t) key)
 
 abbrev pub QueryCounts : Type 0
-QueryCounts = (t : Table) (key : ℕ) → headerGood t ≡ true → flagOf t ≡ 0 → CountBy t key (queryResult t key)
+QueryCounts = (t : Table) (key : ℕ) → GoodHeader (length t) (headerOf t) → flagOf t ≡ 0 → CountBy t key (queryResult t key)
 
 abbrev pub ProbesAreFew : Type 0
 ProbesAreFew =
-    (t : Table) (key : ℕ) → (growing (headerOf t .state) ≡ false → length (placesOf (headerOf t) key) ≤ 4)
+    (t : Table) (key : ℕ) → ((Growing t → ⊥) → length (placesOf (headerOf t) key) ≤ 4)
     × (length (placesOf (headerOf t) key) ≤ 6)
 
 abbrev pub ProbesAreDistinct : Type 0
 ProbesAreDistinct =
-    (t : Table) (key : ℕ) → headerGood t ≡ true → (before between behind : List Place) (p q : Place)
+    (t : Table) (key : ℕ) → GoodHeader (length t) (headerOf t) → (before between behind : List Place) (p q : Place)
     → placesOf (headerOf t) key ≡ before ++ (p ∷ (between ++ (q ∷ behind))) → p .bucket ≡ q .bucket → ⊥

@@ -10,7 +10,7 @@ use mathlib.Core.Option.{Option, none, some}
 use lib.ListN.{length}
 use lib.Dec.{eqb}
 use Rattle.rules.specs.Choice.{all, any, given, select, empty, firstOf}
-use Rattle.rules.specs.Words.{Table, headerOf, headerTests, flagOf, targetOf, allBuckets, unusedBuckets, slotsInUse, placeOf, keyWord, keyIn, recordIn, tokenOf, tidy, taken}
+use Rattle.rules.specs.Words.{Table, headerOf, headerTests, GoodHeader, flagOf, targetOf, allBuckets, unusedBuckets, slotsInUse, placeOf, keyWord, keyIn, recordIn, tokenOf, tidy, taken}
 use Rattle.rules.specs.Places.{samePlace, placesOf}
 use Rattle.rules.specs.declared.Place.{Place}
 use Rattle.rules.specs.declared.Slot.{Slot}
@@ -65,7 +65,7 @@ pub record TakenSlot (t : Table) (x : Slot) : Type 0 where
   pub shown : taken t (headerOf t) x ≡ true
 
 pub record OrderlyTable (f : ℕ) (t : Table) : Type 0 where
-  pub header : all (headerTests (length t) (headerOf t)) ≡ true
+  pub header : GoodHeader (length t) (headerOf t)
   pub flag : flagOf t ≡ f
   pub tidied : (j : ℕ) → j < 2 ^ (headerOf t .c + 1) - 1 → tokenOf t j ≡ tidy (headerOf t) (tokenOf t j)
   pub unused : (j : ℕ) → In j (unusedBuckets (headerOf t)) → tokenOf t j ≡ 0

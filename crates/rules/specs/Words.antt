@@ -4,9 +4,11 @@
 -- which tables a call accepts is said in `Calls`.
 -- Token words are read and written only by `tidy`, `isTaken`, `show` and `hide`, which also know the header and the key.
 -- Assumes nothing.
-use Prim.Native.Nat.{ℕ, _+_, _-_, _*_, _/_, _%_, _^_}
+use Prim.Native.Nat.{ℕ, _+_, _-_, _*_, _/_, _%_, _^_, _≤_}
+use mathlib.Core.Path.{_≡_}
 use mathlib.Core.Bool.{Bool, not, cond}
 use mathlib.Core.List.{List, [], _∷_, map, flatMap}
+use mathlib.Core.Logic.{_⊎_}
 use lib.ListN.{getD}
 use lib.Dec.{eqb, leb}
 use Rattle.rules.specs.Choice.{all, any, select, from}
@@ -58,6 +60,11 @@ stateGood c s =
     any (all (eqb (s .phase) 0 ∷ leb 1 (s .k) ∷ leb (s .k) c ∷ [])
     ∷ all (eqb (s .phase) 1 ∷ leb 2 (s .k) ∷ leb (s .k) c ∷ []) ∷ [])
 
+-- the same as a fact
+abbrev pub GoodState : ℕ → State → Type 0
+GoodState c s =
+    ((s .phase ≡ 0) × (1 ≤ s .k) × (s .k ≤ c)) ⊎ ((s .phase ≡ 1) × (2 ≤ s .k) × (s .k ≤ c))
+
 -- "multipliers A1, A2, both odd"
 unfoldable pub odd : ℕ → Bool
 odd n = eqb (n % 2) 1
@@ -71,6 +78,14 @@ unfoldable pub headerTests : ℕ → Header → List Bool
 headerTests size h =
     all (capacityTests (h .c)) ∷ eqb size (wordsFor (h .c)) ∷ eqb (h .form) 1
     ∷ odd (h .mul1) ∷ odd (h .mul2) ∷ stateGood (h .c) (h .state) ∷ []
+
+pub record GoodHeader (size : ℕ) (h : Header) : Type 0 where
+  pub capacity : (1 ≤ h .c) × (h .c ≤ 20)
+  pub long : size ≡ wordsFor (h .c)
+  pub form : h .form ≡ 1
+  pub odd1 : h .mul1 % 2 ≡ 1
+  pub odd2 : h .mul2 % 2 ≡ 1
+  pub state : GoodState (h .c) (h .state)
 
 -- the names of the levels
 abbrev pub top : ℕ
