@@ -7,3 +7,4 @@ pub mod Moves
 pub mod Ending
 pub mod Later
 pub mod Meanings
+pub mod Figures
