@@ -1,5 +1,5 @@
--- The place that a placing chooses in a level has no more taken slots than the other, and is the first on a tie.
--- No marked example and no theorem about maps sees this.
+-- The place that a placing chooses in a level has no more taken slots than the other, and is the first on a tie; its lowest
+-- free slot is taken. No theorem about maps sees this.
 -- Assumes nothing.
 use Prim.Native.Nat.{ℕ, _≤_, _<_}
 use mathlib.Core.Path.{_≡_, refl, ap, _∙_}
@@ -9,7 +9,7 @@ use mathlib.Core.Option.{Option, none, some, Option·map, Option·getD}
 use native.Mathlib.Omega.{arith}
 use borrow.Author.Tests.{ltb-true, ltb-false}
 use Rattle.rules.specs.Choice.{orElse, firstOf}
-use Rattle.rules.specs.Words.{Table, topOf, bottomOf, placeOf, taken}
+use Rattle.rules.specs.Words.{Table, topOf, bottomOf, placeOf}
 use Rattle.rules.specs.Places.{hashesOf, firstPlace, secondPlace}
 use Rattle.rules.specs.Placing.{takenIn, freeSlot, fewer, emptier, roomIn, Candidate, candidates, moveOf, placing}
 use Rattle.rules.specs.declared.Header.{Header}
@@ -19,7 +19,7 @@ use Rattle.rules.specs.declared.Slot.{Slot}
 use Rattle.rules.specs.declared.Placing.{Placing}
 use Rattle.rules.specs.declared.Placing.the-variants.{Free, Move, Nowhere}
 use Rattle.rules.proofs.Lists.{firstOf-some, not-some}
-use Rattle.rules.proofs.FreeSlots.{free-slot}
+use Rattle.rules.proofs.FreeSlots.{Lowest, free-slot}
 
 -- slot s was chosen in level l for a key with hashes x
 pub record Chosen (t : Table) (h : Header) (x : Hashes) (l : Level) (s : Slot) : Type 0 where
@@ -27,7 +27,7 @@ pub record Chosen (t : Table) (h : Header) (x : Hashes) (l : Level) (s : Slot) :
   pub no-more-than-first : takenIn t h (placeOf s) ≤ takenIn t h (firstPlace x l)
   pub no-more-than-second : takenIn t h (placeOf s) ≤ takenIn t h (secondPlace x l)
   pub first-on-tie : takenIn t h (firstPlace x l) ≡ takenIn t h (secondPlace x l) → placeOf s ≡ firstPlace x l
-  pub free : taken t h s ≡ false
+  pub lowest : Lowest t h (placeOf s) s
 
 module _ (t : Table) (h : Header) where
   room-chosen : (x : Hashes) (l : Level) (s : Slot) → roomIn t h x l ≡ some s → Chosen t h x l s
@@ -39,21 +39,21 @@ module _ (t : Table) (h : Header) where
           let f = free-slot t h (secondPlace x l) s e in
           let less : takenIn t h (secondPlace x l) < takenIn t h (firstPlace x l) = ltb-true _ _ q in
           record {
-            among = inr (f .0);
-            no-more-than-first = rw (f .0) (omega arith);
-            no-more-than-second = rw (f .0) (omega arith);
+            among = inr (f .place);
+            no-more-than-first = rw (f .place) (omega arith);
+            no-more-than-second = rw (f .place) (omega arith);
             first-on-tie = λ tie. absurd (omega arith);
-            free = f .1;
+            lowest = rw (f .place) f;
           }
       go false q e =
           let f = free-slot t h (firstPlace x l) s e in
           let most : takenIn t h (firstPlace x l) ≤ takenIn t h (secondPlace x l) = ltb-false _ _ q in
           record {
-            among = inl (f .0);
-            no-more-than-first = rw (f .0) (omega arith);
-            no-more-than-second = rw (f .0) (omega arith);
-            first-on-tie = λ tie. f .0;
-            free = f .1;
+            among = inl (f .place);
+            no-more-than-first = rw (f .place) (omega arith);
+            no-more-than-second = rw (f .place) (omega arith);
+            first-on-tie = λ tie. f .place;
+            lowest = rw (f .place) f;
           }
 
   -- a candidate that moves gives a move
@@ -79,4 +79,4 @@ module _ (t : Table) (h : Header) where
       go none none none p q r e = absurd (let z : _≡_ {A = ℕ} 0 1 = cc in omega arith)
       go none none (some x) p q r e =
           let f = firstOf-some (moveOf t h) (candidates t h (hashesOf h key)) x r in
-          absurd (moves-only (f .one) s (f .gives ∙ ap some e))
+          absurd (moves-only (f .found) s (f .gives ∙ ap some e))

@@ -1,30 +1,73 @@
--- The lowest free slot of a bucket: where there is one it is a free slot of that bucket, and where there is none every slot
--- is taken.
+-- The lowest free slot of a bucket: where there is one it is free, and every lower slot of the bucket is taken; where there is
+-- none every slot is taken. And how many are taken.
 -- Assumes nothing.
-use mathlib.Core.Path.{_≡_}
+use Prim.Native.Nat.{_+_, _<_}
+use mathlib.Core.Path.{_≡_, ap, _∙_}
 use mathlib.Core.Bool.{true, false, not}
-use mathlib.Core.List.{[], _∷_, List·Memᴰ as In}
+use mathlib.Core.List.{[], _∷_, _++_, List·Memᴰ as In, List·Memᴰ·cases-cons, List·Memᴰ·append-cases}
+use mathlib.Core.Logic.{_⊎_, inl, inr}
 use mathlib.Core.Option.{none, some}
+use native.Mathlib.Omega.{arith}
 use borrow.Author.Tests.{not-true, not-false}
 use Rattle.rules.specs.Choice.{given}
 use Rattle.rules.specs.Words.{Table, slotAt, slotsIn, placeOf, taken}
-use Rattle.rules.specs.Placing.{freeSlot}
+use Rattle.rules.specs.Placing.{takenIn, freeSlot}
 use Rattle.rules.specs.declared.Header.{Header}
 use Rattle.rules.specs.declared.Place.{Place}
 use Rattle.rules.specs.declared.Slot.{Slot}
-use Rattle.rules.proofs.Lists.{firstOf-some, firstOf-none, given-some, given-none, map-in}
+use Rattle.rules.proofs.Lists.{First, firstOf-some, firstOf-none, given-some, given-none, one, select-length, map-in, Ascending, ascending-after, ascending-map, ascending-from}
 
 pub slot-place : (p : Place) (s : Slot) → In s (slotsIn p) → placeOf s ≡ p
 unfolding slotsIn slotAt placeOf
 slot-place p s i = let r = map-in (slotAt p) (0 ∷ 1 ∷ 2 ∷ 3 ∷ []) s i in rw (r .2)
 
+-- the slots of a bucket ascend
+abbrev pub Below : Slot → Slot → Type 0
+Below x y = x .slot < y .slot
+
+pub slots-ascend : (p : Place) → Ascending Below (slotsIn p)
+unfolding slotsIn slotAt
+slots-ascend p = ascending-map _<_ Below (slotAt p) (0 ∷ 1 ∷ 2 ∷ 3 ∷ []) (ascending-from 0 4) (λ x y e. e)
+
+-- slot s of place p is its lowest free one
+pub record Lowest (t : Table) (h : Header) (p : Place) (s : Slot) : Type 0 where
+  pub place : placeOf s ≡ p
+  pub free : taken t h s ≡ false
+  pub lower : (y : Slot) → In y (slotsIn p) → y .slot < s .slot → taken t h y ≡ true
+
 module _ (t : Table) (h : Header) (p : Place) where
-  pub free-slot : (s : Slot) → freeSlot t h p ≡ some s → (placeOf s ≡ p) × (taken t h s ≡ false)
+  -- as the first in a list of the bucket's slots
+  lowest-of : (s : Slot) → First (λ (x : Slot). given (not (taken t h x)) x) (slotsIn p) s → Lowest t h p s
+  lowest-of s f =
+      let g = given-some (not (taken t h (f .found))) (f .found) s (f .gives) in
+      record {
+        place = rw (← (g .1)) (slot-place p (f .found) (f .inside));
+        free = rw (← (g .1)) (not-true (taken t h (f .found)) (g .0));
+        lower = λ y i l. below y l (List·Memᴰ·append-cases (f .earlier) (rw (f .split) at i));
+      }
+    where
+      order : Ascending Below (f .earlier ++ (f .found ∷ f .later))
+      order = rw (f .split) at (slots-ascend p)
+
+      same : f .found ≡ s
+      same = given-some (not (taken t h (f .found))) (f .found) s (f .gives) .1
+
+      after : (y : Slot) → y .slot < s .slot → (y ≡ f .found) ⊎ In y (f .later) → ⊥
+      after y l (inl e) = let k : y ≡ s = e ∙ same in omega (arith, ap (λ (z : Slot). z .slot) k)
+      after y l (inr i) = omega (arith, ascending-after Below (f .earlier) (f .found) (f .later) order y i, ap (λ (z : Slot). z .slot) same)
+
+      below : (y : Slot) → y .slot < s .slot → In y (f .earlier) ⊎ In y (f .found ∷ f .later) → taken t h y ≡ true
+      below y l (inl i) = not-false (taken t h y) (given-none (not (taken t h y)) y (f .before y i))
+      below y l (inr i) = absurd (after y l (List·Memᴰ·cases-cons i))
+
+  pub free-slot : (s : Slot) → freeSlot t h p ≡ some s → Lowest t h p s
   unfolding freeSlot
-  free-slot s e =
-      let f = firstOf-some (λ (x : Slot). given (not (taken t h x)) x) (slotsIn p) s e in
-      let g = given-some (not (taken t h (f .one))) (f .one) s (f .gives) in
-      (rw (← (g .1)) (slot-place p (f .one) (f .inside)), rw (← (g .1)) (not-true (taken t h (f .one)) (g .0)))
+  free-slot s e = lowest-of s (firstOf-some (λ (x : Slot). given (not (taken t h x)) x) (slotsIn p) s e)
+
+  -- how many slots are taken
+  pub taken-count : takenIn t h p ≡ one (taken t h (slotAt p 0)) + (one (taken t h (slotAt p 1)) + (one (taken t h (slotAt p 2)) + (one (taken t h (slotAt p 3)) + 0)))
+  unfolding takenIn slotsIn
+  taken-count = rw (select-length, select-length, select-length, select-length)
 
   pub all-taken : freeSlot t h p ≡ none → (s : Slot) → In s (slotsIn p) → taken t h s ≡ true
   unfolding freeSlot

@@ -11,7 +11,7 @@ use mathlib.Core.Option.{Option, none, some}
 use native.Mathlib.Omega.{arith}
 use borrow.Author.Tests.{eqb-true}
 use Rattle.rules.specs.Choice.{all, select}
-use Rattle.rules.specs.Words.{Table, headerOf, growing, topOf, bottomOf, interimOf, levelsInUse, bucketsOf, slotAt, slotsIn, placeOf, placeAt, slotsOf, slotsInUse, keyIn, recordIn, taken}
+use Rattle.rules.specs.Words.{Table, headerOf, atRest, topOf, bottomOf, interimOf, levelsInUse, bucketsOf, slotAt, slotsIn, placeOf, placeAt, slotsOf, slotsInUse, InLevel, InUse, keyIn, recordIn, tokenOf, taken}
 use Rattle.rules.specs.Stores.{Store, clearStores}
 use Rattle.rules.specs.Soundness.{takenSlots, TakenSlot, Before, orderlyTests, sameKey, twinsOf, twins, sameRecord, whenStill, target, whenFlagged, finding}
 use Rattle.rules.specs.Calls.{recoverTests, listed, recover, recoverOf, outcome}
@@ -21,7 +21,7 @@ use Rattle.rules.specs.declared.Place.{Place}
 use Rattle.rules.specs.declared.Slot.{Slot}
 use Rattle.rules.specs.declared.Finding.{Finding}
 use Rattle.rules.specs.declared.Finding.the-variants.{Doubled, Neither}
-use Rattle.rules.proofs.Lists.{select-in, map-in, flatMap-in, Ascending, ascending-select, ascending-flatMap, ascending-map, ascending-of-map, ascending-from}
+use Rattle.rules.proofs.Lists.{select-in, map-in, flatMap-in, from-in, Ascending, ascending-select, ascending-flatMap, ascending-map, ascending-of-map, ascending-from}
 use Rattle.rules.proofs.FreeSlots.{slot-place}
 use Rattle.rules.proofs.Checked.{checked-listed}
 
@@ -47,26 +47,39 @@ slots-of-level l =
     let b = slot-place q y j in
     inr (ap (λ (z : Place). z .level) a ∙ u .0 ∙ sym (ap (λ (z : Place). z .level) b), inl (rw (ap (λ (z : Place). z .bucket) a, ap (λ (z : Place). z .bucket) b) (u .1))))
 
-level-of : (l : Level) (x : Slot) → In x (slotsOf l) → x .level ≡ l .name
-unfolding slotsOf placeAt placeOf
-level-of l x i =
+-- a slot of a level, by its name and range
+slot-of-level : (l : Level) (x : Slot) → In x (slotsOf l) → (x .level ≡ l .name) × InLevel l (x .bucket) × (x .slot < 4)
+unfolding slotsOf bucketsOf slotsIn slotAt placeAt
+slot-of-level l x i =
     let r = flatMap-in slotsIn (map (placeAt l) (bucketsOf (l .size))) x i in
     let q = map-in (placeAt l) (bucketsOf (l .size)) (r .0) (r .1) in
-    ap (λ (z : Place). z .level) (slot-place (r .0) x (r .2)) ∙ ap (λ (z : Place). z .level) (q .2)
+    let s = map-in (slotAt (r .0)) (0 ∷ 1 ∷ 2 ∷ 3 ∷ []) x (r .2) in
+    let place : x .bucket ≡ q .0 = ap (λ (z : Slot). z .bucket) (s .2) ∙ ap (λ (z : Place). z .bucket) (q .2) in (
+      ap (λ (z : Slot). z .level) (s .2) ∙ ap (λ (z : Place). z .level) (q .2),
+      rw place (omega (arith, from-in (l .size - 1) (l .size) (q .0) (q .1))),
+      rw (ap (λ (z : Slot). z .slot) (s .2)) (omega (arith, from-in 0 4 (s .0) (s .1))),
+    )
+
+slot-in-use : (s : State) (x : Slot) → In x (slotsInUse s) → InUse s x
+unfolding slotsInUse
+slot-in-use s x i =
+    let r = flatMap-in slotsOf (levelsInUse s) x i in
+    let q = slot-of-level (r .0) x (r .2) in
+    record { level = r .0; used = r .1; name = q .0; bucket = q .1; slot = q .2 }
 
 levels-ascend : (s : State) → Ascending Lower (levelsInUse s)
 unfolding levelsInUse topOf bottomOf interimOf Lower
-levels-ascend s = go (growing s)
+levels-ascend s = go (atRest s)
   where
-    go : (b : Bool) → Ascending Lower (topOf s ∷ bottomOf s ∷ cond b (interimOf s ∷ []) [])
-    go true = ascending-of-map _<_ (λ (l : Level). l .name) (topOf s ∷ bottomOf s ∷ interimOf s ∷ []) (ascending-from 0 3)
-    go false = ascending-of-map _<_ (λ (l : Level). l .name) (topOf s ∷ bottomOf s ∷ []) (ascending-from 0 2)
+    go : (b : Bool) → Ascending Lower (topOf s ∷ bottomOf s ∷ cond b [] (interimOf s ∷ []))
+    go true = ascending-of-map _<_ (λ (l : Level). l .name) (topOf s ∷ bottomOf s ∷ []) (ascending-from 0 2)
+    go false = ascending-of-map _<_ (λ (l : Level). l .name) (topOf s ∷ bottomOf s ∷ interimOf s ∷ []) (ascending-from 0 3)
 
 pub slots-ascend : (s : State) → Ascending Before (slotsInUse s)
 unfolding slotsInUse Lower
 slots-ascend s =
     ascending-flatMap Lower Before slotsOf (levelsInUse s) (levels-ascend s) slots-of-level
-    (λ l m u x y i j. inl (rw (level-of l x i, level-of m y j) u))
+    (λ l m u x y i j. inl (rw (slot-of-level l x i .0, slot-of-level m y j .0) u))
 
 -- ---- and so do the pairs of slots with the same key
 
@@ -79,7 +92,7 @@ pub record Twins (t : Table) (x y : Slot) : Type 0 where
 
 taken-in : (t : Table) (x : Slot) → In x (takenSlots t) → TakenSlot t x
 unfolding takenSlots
-taken-in t x i = let r = select-in (taken t (headerOf t)) (slotsInUse (headerOf t .state)) x i in record { used = r .0; shown = r .1 }
+taken-in t x i = let r = select-in (taken t (headerOf t)) (slotsInUse (headerOf t .state)) x i in record { used = slot-in-use (headerOf t .state) x (r .0); shown = r .1 }
 
 twins-of : (t : Table) (l : List Slot) → ((x : Slot) → In x l → TakenSlot t x) → Ascending Before l → (x y : Slot) → In {A = Slot × Slot} (x, y) (twinsOf t l) → Twins t x y
 unfolding sameKey
@@ -127,10 +140,10 @@ doubled-twins t x y e = go (all (orderlyTests 0 t)) (all (orderlyTests 1 t)) (tw
     go false false l q e = absurd (let z : _≡_ {A = ℕ} 0 1 = cc in omega arith)
 
 pub clears-later : (t : Table) (n : ℕ) (x y : Slot) (xs : List Store) → finding t ≡ Doubled x y → outcome t n recover ≡ listed xs
-    → (xs ≡ clearStores t (headerOf t) y) × Twins t x y
+    → (xs ≡ clearStores (headerOf t) (tokenOf t (y .bucket)) y) × Twins t x y
 unfolding outcome
 clears-later t n x y xs f e =
     (go (finding t) f (checked-listed _ xs (recoverTests t n) e), twins-ordered t x y (doubled-twins t x y f))
   where
-    go : (o : Finding) → o ≡ Doubled x y → recoverOf t (headerOf t) o ≡ listed xs → xs ≡ clearStores t (headerOf t) y
-    go o f e = let g : listed (clearStores t (headerOf t) y) ≡ listed xs = rw f at e in cc
+    go : (o : Finding) → o ≡ Doubled x y → recoverOf t (headerOf t) o ≡ listed xs → xs ≡ clearStores (headerOf t) (tokenOf t (y .bucket)) y
+    go o f e = let g : listed (clearStores (headerOf t) (tokenOf t (y .bucket)) y) ≡ listed xs = rw f at e in cc

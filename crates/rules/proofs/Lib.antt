@@ -1,10 +1,13 @@
 pub mod Lists
 pub mod Checked
+pub mod Tokens
 pub mod FreeSlots
 pub mod Probing
 pub mod Chosen
+pub mod MoveOrder
 pub mod Moves
 pub mod Ending
 pub mod Later
+pub mod StoreLists
 pub mod Meanings
 pub mod Figures

@@ -6,7 +6,10 @@ use mathlib.Core.Bool.{Bool, true, false, cond}
 use mathlib.Core.List.{List, [], _∷_, _++_, map, flatMap, List·Memᴰ as In, List·Memᴰ·head as here, List·Memᴰ·tail as there, List·Memᴰ·not-nil, List·Memᴰ·cases-cons, List·Memᴰ·append-cases}
 use mathlib.Core.Logic.{⊎-elim}
 use mathlib.Core.Option.{Option, none, some}
+use native.Mathlib.Nat.{zero-add}
+use native.Mathlib.Numerals.{one-add}
 use native.Mathlib.Omega.{arith}
+use lib.ListN.{length}
 use Rattle.rules.specs.Choice.{given, orElse, select, empty, firstOf, from}
 
 pub never : {A : Type 0} {b : Bool} → b ≡ true → b ≡ false → A
@@ -24,11 +27,11 @@ module _ {A B : Type 0} (f : A → Option B) where
   -- where there is one: what stands before it gives none
   pub record First (l : List A) (b : B) : Type 0 where
     pub earlier : List A
-    pub one : A
+    pub found : A
     pub later : List A
-    pub split : l ≡ earlier ++ (one ∷ later)
-    pub inside : In one l
-    pub gives : f one ≡ some b
+    pub split : l ≡ earlier ++ (found ∷ later)
+    pub inside : In found l
+    pub gives : f found ≡ some b
     pub before : (x : A) → In x earlier → f x ≡ none
 
   pub firstOf-some : (l : List A) (b : B) → firstOf f l ≡ some b → First l b
@@ -36,12 +39,12 @@ module _ {A B : Type 0} (f : A → Option B) where
   firstOf-some (x ∷ xs) b e = go (f x) refl e (firstOf-some xs b)
     where
       go : (o : Option B) → f x ≡ o → orElse o (firstOf f xs) ≡ some b → (firstOf f xs ≡ some b → First xs b) → First (x ∷ xs) b
-      go (some c) q e k = record { earlier = []; one = x; later = xs; split = refl; inside = here refl; gives = q ∙ e; before = λ y i. absurd (List·Memᴰ·not-nil i) }
+      go (some c) q e k = record { earlier = []; found = x; later = xs; split = refl; inside = here refl; gives = q ∙ e; before = λ y i. absurd (List·Memᴰ·not-nil i) }
       go none q e k =
           let r = k e in
           record {
             earlier = x ∷ r .earlier;
-            one = r .one;
+            found = r .found;
             later = r .later;
             split = ap (λ l. x ∷ l) (r .split);
             inside = there (r .inside);
@@ -68,6 +71,11 @@ given-none false a e = refl
 
 -- ---- those that pass a test
 
+-- a test as a number
+abbrev pub one : Bool → ℕ
+one true = 1
+one false = 0
+
 module _ {A : Type 0} (p : A → Bool) where
   pub select-in : (l : List A) (x : A) → In x (select p l) → In x l × (p x ≡ true)
   select-in [] x i = absurd (List·Memᴰ·not-nil i)
@@ -84,6 +92,13 @@ module _ {A : Type 0} (p : A → Bool) where
       go : (b : Bool) → p y ≡ b → empty (cond b (y ∷ select p ys) (select p ys)) ≡ true → (empty (select p ys) ≡ true → In x ys → p x ≡ false) → p x ≡ false
       go true q e k = never e refl
       go false q e k = ⊎-elim (λ (h : x ≡ y). rw h q) (λ (h : In x ys). k e h) (List·Memᴰ·cases-cons i)
+
+  pub select-length : (x : A) (l : List A) → length (select p (x ∷ l)) ≡ one (p x) + length (select p l)
+  select-length x l = go (p x)
+    where
+      go : (b : Bool) → length (cond b (x ∷ select p l) (select p l)) ≡ one b + length (select p l)
+      go true = sym (one-add _)
+      go false = sym (zero-add _)
 
 -- ---- what each element gives
 
@@ -120,6 +135,11 @@ module _ {A : Type 0} (R : A → A → Type 0) where
     λ y i. ⊎-elim (λ (h : In y xs). a .0 y h) (λ (h : In y ys). c x y (here refl) h) (List·Memᴰ·append-cases xs i),
     ascending-append xs ys (a .1) b (λ z y i j. c z y (there i) j),
   )
+
+  -- what stands after an element
+  pub ascending-after : (xs : List A) (x : A) (ys : List A) → Ascending (xs ++ (x ∷ ys)) → (y : A) → In y ys → R x y
+  ascending-after [] x ys a y i = a .0 y i
+  ascending-after (z ∷ xs) x ys a y i = ascending-after xs x ys (a .1) y i
 
   pub ascending-select : (p : A → Bool) (l : List A) → Ascending l → Ascending (select p l)
   ascending-select p [] a = tt

@@ -1,10 +1,10 @@
 -- No two answers mean the same: document 01's number and values tell which answer was given. Each answer is read back from
 -- them, and what can be read back is one.
 -- Assumes nothing.
-use Prim.Native.Nat.{ℕ}
+use Prim.Native.Nat.{ℕ, _-_}
 use mathlib.Core.Path.{_≡_, refl, sym, ap, _∙_}
 use mathlib.Core.Bool.{false, cond}
-use mathlib.Core.List.{List, [], _∷_}
+use mathlib.Core.List.{List, [], _∷_, map}
 use lib.ListN.{length, getD, drop}
 use lib.Dec.{eqb}
 use Rattle.rules.specs.Answers.{numberOf, Meaning, changeMeans, queryMeans, verdictMeans, lookupMeans, placingMeans, findingMeans, steppedMeans}
@@ -31,11 +31,16 @@ told f back h a b e = sym (h a) ∙ ap back e ∙ h b
 
 -- ---- refusals
 
+-- all of them, in the order of the table
+abbrev pub refusals : List Refusal
+refusals =
+    BadHeader ∷ ShortList ∷ FlagSet ∷ KeyPresent ∷ KeyAbsent ∷ NoPlace ∷ AlreadyGrowing ∷ NotGrowing ∷ AtCapacity ∷ InterimTaken ∷ InterimEmpty ∷ NoKind ∷ BadCreation ∷ BadMaking ∷ []
+
+pub numbers : map numberOf refusals ≡ 1 ∷ 2 ∷ 3 ∷ 4 ∷ 5 ∷ 6 ∷ 7 ∷ 8 ∷ 9 ∷ 10 ∷ 11 ∷ 12 ∷ 13 ∷ 14 ∷ []
+numbers = refl
+
 readRefusal : ℕ → Refusal
-readRefusal n =
-    getD
-    (BadHeader ∷ BadHeader ∷ ShortList ∷ FlagSet ∷ KeyPresent ∷ KeyAbsent ∷ NoPlace ∷ AlreadyGrowing ∷ NotGrowing ∷ AtCapacity ∷ InterimTaken ∷ InterimEmpty ∷ NoKind ∷ BadCreation ∷ BadMaking ∷ [])
-    n BadHeader
+readRefusal n = getD refusals (n - 1) BadHeader
 
 refusal-back : (r : Refusal) → readRefusal (numberOf r) ≡ r
 unfolding readRefusal

@@ -1,11 +1,11 @@
 -- Where a placing moves an item, both levels were full, and no earlier candidate in the listed order could move: every place
 -- tried before, of an earlier candidate or of this one, has all its slots taken.
--- No marked example and no theorem about maps sees this.
+-- No theorem about maps sees this.
 -- Assumes nothing.
 use Prim.Native.Nat.{ℕ}
-use mathlib.Core.Path.{_≡_, refl, ap, _∙_}
+use mathlib.Core.Path.{_≡_, refl, sym, ap, _∙_}
 use mathlib.Core.List.{List, _∷_, _++_, List·Memᴰ as In}
-use mathlib.Core.Bool.{true, false}
+use mathlib.Core.Bool.{true}
 use mathlib.Core.Option.{Option, none, some, Option·map, Option·getD}
 use native.Mathlib.Omega.{arith}
 use Rattle.rules.specs.Choice.{orElse, firstOf}
@@ -18,7 +18,7 @@ use Rattle.rules.specs.declared.Slot.{Slot}
 use Rattle.rules.specs.declared.Placing.{Placing}
 use Rattle.rules.specs.declared.Placing.the-variants.{Free, Move, Nowhere}
 use Rattle.rules.proofs.Lists.{First, firstOf-some, firstOf-none, not-some}
-use Rattle.rules.proofs.FreeSlots.{free-slot, all-taken}
+use Rattle.rules.proofs.FreeSlots.{Lowest, free-slot, all-taken}
 
 -- every slot of a place is taken
 abbrev pub Full : Table → Header → Place → Type 0
@@ -34,7 +34,7 @@ pub record Moved (t : Table) (h : Header) (key : ℕ) (from to : Slot) : Type 0 
   pub order : candidates t h (hashesOf h key) ≡ earlier ++ (record { item = from; goals = goals-before ++ (placeOf to ∷ goals-after) } ∷ later)
   pub full-earlier : (c : Candidate) → In c earlier → (p : Place) → In p (c .goals) → Full t h p
   pub full-before : (p : Place) → In p goals-before → Full t h p
-  pub free : taken t h to ≡ false
+  pub lowest : Lowest t h (placeOf to) to
 
 module _ (t : Table) (h : Header) where
   -- a candidate that cannot move has no goal with a free slot
@@ -59,8 +59,8 @@ module _ (t : Table) (h : Header) where
     moved-of : roomIn t h (hashesOf h key) (topOf (h .state)) ≡ none → roomIn t h (hashesOf h key) (bottomOf (h .state)) ≡ none
         → First (moveOf t h) (candidates t h (hashesOf h key)) (Move from to) → Moved t h key from to
     moved-of a b f =
-        let g = goes (f .one) from to (f .gives) in
-        let k = free-slot t h (g .1 .one) to (g .1 .gives) in
+        let g = goes (f .found) from to (f .gives) in
+        let k = free-slot t h (g .1 .found) to (g .1 .gives) in
         record {
           no-room-above = a;
           no-room-below = b;
@@ -68,10 +68,10 @@ module _ (t : Table) (h : Header) where
           later = f .later;
           goals-before = g .1 .earlier;
           goals-after = g .1 .later;
-          order = f .split ∙ ap (λ (c : Candidate). f .earlier ++ (c ∷ f .later)) (λ i. record { item = g .0 i; goals = (g .1 .split ∙ ap (λ (p : Place). g .1 .earlier ++ (p ∷ g .1 .later)) (mathlib.Core.Path.sym (k .0))) i });
+          order = f .split ∙ ap (λ (c : Candidate). f .earlier ++ (c ∷ f .later)) (λ i. record { item = g .0 i; goals = (g .1 .split ∙ ap (λ (p : Place). g .1 .earlier ++ (p ∷ g .1 .later)) (sym (k .place))) i });
           full-earlier = λ c i p j. stuck c (f .before c i) p j;
           full-before = λ p i. all-taken t h p (g .1 .before p i);
-          free = k .1;
+          lowest = rw (k .place) k;
         }
 
     pub move-first : placing t h key ≡ Move from to → Moved t h key from to

@@ -1,15 +1,29 @@
--- The probe order, without the definitions that make the list: "top, bottom, interim; in each, first place, then second if
--- different".
+-- Where a key may stand, and the probe order, without the definitions that make them: the buckets of its two places in a level,
+-- and "top, bottom, interim; in each, first place, then second if different".
 -- Assumes nothing.
-use mathlib.Core.Path.{_≡_}
+use Prim.Native.Nat.{ℕ, _+_, _-_, _*_, _/_, _%_, _^_}
+use mathlib.Core.Path.{_≡_, refl}
 use mathlib.Core.Bool.{true, false}
 use mathlib.Core.List.{[], _∷_, _++_, flatMap, append-nil}
 use borrow.Author.Tests.{eq-eqb, ne-eqb}
-use Rattle.rules.specs.Words.{growing, topOf, bottomOf, interimOf, levelsInUse}
-use Rattle.rules.specs.Places.{firstPlace, secondPlace, samePlace, placesIn, probes}
+use Rattle.words.specs.Product.{productOf, hashOf}
+use Rattle.rules.specs.Words.{atRest, topOf, bottomOf, interimOf, levelsInUse, placeAt}
+use Rattle.rules.specs.Places.{hashesOf, firstPlace, secondPlace, samePlace, placesIn, probes}
 use Rattle.rules.specs.declared.State.{State}
+use Rattle.rules.specs.declared.Header.{Header}
 use Rattle.rules.specs.declared.Level.{Level}
 use Rattle.rules.specs.declared.Hashes.{Hashes}
+
+-- "hash i of key K is the product K·Ai modulo 2^64, divided by 2^32, rounded down. In a level of M buckets the first and second
+-- places are hash 1 modulo M and hash 2 modulo M"; "A level of M buckets .. is always buckets M − 1 to 2M − 2."
+module _ (h : Header) (key : ℕ) (l : Level) where
+  pub first-bucket : firstPlace (hashesOf h key) l .bucket ≡ l .size - 1 + (key * h .mul1 % 2 ^ 64 / 2 ^ 32) % l .size
+  unfolding firstPlace placeAt hashesOf hashOf productOf
+  first-bucket = refl
+
+  pub second-bucket : secondPlace (hashesOf h key) l .bucket ≡ l .size - 1 + (key * h .mul2 % 2 ^ 64 / 2 ^ 32) % l .size
+  unfolding secondPlace placeAt hashesOf hashOf productOf
+  second-bucket = refl
 
 module _ (x : Hashes) where
   -- "They may coincide; then they are one bucket."
@@ -21,10 +35,10 @@ module _ (x : Hashes) where
   unfolding placesIn samePlace
   places-two l e = rw (ne-eqb _ _ e)
 
-  pub probes-at-rest : (s : State) → growing s ≡ false → probes s x ≡ placesIn x (topOf s) ++ placesIn x (bottomOf s)
+  pub probes-at-rest : (s : State) → atRest s ≡ true → probes s x ≡ placesIn x (topOf s) ++ placesIn x (bottomOf s)
   unfolding probes levelsInUse flatMap
   probes-at-rest s e = rw e (rw append-nil)
 
-  pub probes-growing : (s : State) → growing s ≡ true → probes s x ≡ placesIn x (topOf s) ++ (placesIn x (bottomOf s) ++ placesIn x (interimOf s))
+  pub probes-growing : (s : State) → atRest s ≡ false → probes s x ≡ placesIn x (topOf s) ++ (placesIn x (bottomOf s) ++ placesIn x (interimOf s))
   unfolding probes levelsInUse flatMap
   probes-growing s e = rw e (rw append-nil)

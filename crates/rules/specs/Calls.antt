@@ -8,7 +8,7 @@ use mathlib.Core.Option.{Option, none, some}
 use lib.ListN.{length}
 use lib.Dec.{eqb, leb}
 use Rattle.rules.specs.Choice.{all, select, empty}
-use Rattle.rules.specs.Words.{Table, headerOf, headerTests, flagOf, loggedOf, growing, interim, levelsInUse, slotsOf, keyIn, taken}
+use Rattle.rules.specs.Words.{Table, headerOf, headerTests, flagOf, loggedOf, atRest, interim, levelsInUse, slotsOf, keyIn, tokenOf, taken}
 use Rattle.rules.specs.Places.{lookup}
 use Rattle.rules.specs.Placing.{placing}
 use Rattle.rules.specs.Stores.{Store, clearStores, placingStores, updateStores, beginStores, endStores, stepStores, redoStores}
@@ -46,7 +46,7 @@ abbrev pub checked : {A : Type 0} → (Refusal → A) → List (Bool × Refusal)
 checked refuse [] a = a
 checked refuse (x ∷ xs) a = cond (x .0) (checked refuse xs a) (refuse (x .1))
 
--- "1 | all but create and make", "2 | changing calls, recovery", "3 | all but create, make, recovery"
+-- 1 is given by "all but create and make", 2 by "changing calls, recovery", 3 by "all but create, make, recovery"
 unfoldable pub changingTests : Table → ℕ → List (Bool × Refusal)
 changingTests t n = (headerGood t, BadHeader) ∷ (listLong n, ShortList) ∷ (flagClear t, FlagSet) ∷ []
 
@@ -80,14 +80,15 @@ updateIn t h (Stands x n) key r = listed (updateStores t h x key r)
 updateIn t h (Absent n) key r = refused KeyAbsent
 
 abbrev pub deleteIn : Table → Header → Lookup → Outcome
-deleteIn t h (Stands x n) = listed (clearStores t h x)
+deleteIn t h (Stands x n) = listed (clearStores h (tokenOf t (x .bucket)) x)
 deleteIn t h (Absent n) = refused KeyAbsent
 
 -- begin: "7 | already growing", "9 | k = c"
+unfoldable pub beginTests : Header → List (Bool × Refusal)
+beginTests h = (atRest (h .state), AlreadyGrowing) ∷ (not (eqb (h .state .k) (h .c)), AtCapacity) ∷ []
+
 unfoldable pub beginOf : Header → Outcome
-beginOf h =
-    checked refused ((not (growing (h .state)), AlreadyGrowing) ∷ (not (eqb (h .state .k) (h .c)), AtCapacity) ∷ [])
-    (listed (beginStores (h .state)))
+beginOf h = checked refused (beginTests h) (listed (beginStores (h .state)))
 
 -- the taken interim slots, "bucket, then slot ascending"
 unfoldable pub interimSlots : State → List Slot
@@ -105,20 +106,24 @@ abbrev pub stepIn : Table → Header → Option Slot → Outcome
 stepIn t h none = refused InterimEmpty
 stepIn t h (some x) = let p = placing t h (keyIn t x) in placedBy p (stepStores t h x p)
 
+unfoldable pub stepTests : Header → List (Bool × Refusal)
+stepTests h = (not (atRest (h .state)), NotGrowing) ∷ []
+
 unfoldable pub stepOf : Table → Header → Outcome
-stepOf t h = checked refused ((growing (h .state), NotGrowing) ∷ []) (stepIn t h (stepItem t h))
+stepOf t h = checked refused (stepTests h) (stepIn t h (stepItem t h))
 
 -- end: "8 | not growing", "10 | interim not empty"
+unfoldable pub endTests : Table → Header → List (Bool × Refusal)
+endTests t h = (not (atRest (h .state)), NotGrowing) ∷ (empty (interimItems t h), InterimTaken) ∷ []
+
 unfoldable pub endOf : Table → Header → Outcome
-endOf t h =
-    checked refused ((growing (h .state), NotGrowing) ∷ (empty (interimItems t h), InterimTaken) ∷ [])
-    (listed (endStores (h .state)))
+endOf t h = checked refused (endTests t h) (listed (endStores (h .state)))
 
 -- recover: "sound: no stores"; "clear the later ..: one store"; "function and place from words 7 and 8, then flag 0: three
 -- stores"; "12 | none of the three kinds above"
 abbrev pub recoverOf : Table → Header → Finding → Outcome
 recoverOf t h Sound = listed []
-recoverOf t h (Doubled kept later) = listed (clearStores t h later)
+recoverOf t h (Doubled kept later) = listed (clearStores h (tokenOf t (later .bucket)) later)
 recoverOf t h (Flagged x) = listed (redoStores x (loggedOf t))
 recoverOf t h Neither = refused NoKind
 

@@ -1,5 +1,5 @@
--- The user's three demands as statements over the rules, each under its sentence. They are types; the laws of proofs/ that
--- prove them bear the same names, beginning with a small letter.
+-- The user's three demands as statements over the rules, each under its sentence. They are types: a law of proofs/ that
+-- proves one bears its name, beginning with a small letter.
 -- "The map after" is always the plain map's answer to a call (`mapAfter`), never the map of the table with the call's own
 -- list made.
 -- Assumes nothing.
@@ -12,21 +12,29 @@ use mathlib.Core.Option.{Option, none, some}
 use lib.ListN.{length, take, drop}
 use lib.Dec.{eqb}
 use Rattle.rules.specs.Choice.{all}
-use Rattle.rules.specs.Words.{Table, headerOf, GoodHeader, flagOf, loggedOf, top, bottom, interim, slotsIn, keyIn, recordIn, tokenWord}
-use Rattle.rules.specs.Places.{holds, placesOf}
+use Rattle.rules.specs.Words.{Table, word, headerOf, GoodHeader, flagOf, loggedOf, top, bottom, interim, slotsIn, placeOf, keyWord, keyIn, recordIn, tokenWord, tokenOf, show, hide}
+use Rattle.rules.specs.Places.{holds, placesOf, lookup}
+use Rattle.rules.specs.Placing.{freeSlot, placing}
 use Rattle.rules.specs.Stores.{Store, clearStores, redoStores, pairs, made}
-use Rattle.rules.specs.Soundness.{soundTests, TakenSlot, SoundTable, PlainMap, HasMap, Before, DoubledTable, FlaggedTable}
-use Rattle.rules.specs.Answers.{changeMeans, steppedMeans, verdictMeans}
-use Rattle.rules.specs.Calls.{Outcome, refused, listed, Call, query, insert, update, delete, begin, step, end, recover, outcome}
+use Rattle.rules.specs.Soundness.{finding, soundTests, TakenSlot, SoundTable, PlainMap, HasMap, Before, DoubledTable, FlaggedTable}
+use Rattle.rules.specs.Answers.{numberOf, Meaning, changeMeans, queryMeans, steppedMeans, verdictMeans}
+use Rattle.rules.specs.Calls.{Outcome, refused, listed, Call, query, insert, update, delete, begin, step, end, recover, stepItem, outcome}
 use Rattle.rules.specs.Results.{changeResult, stepResult, queryResult, createResult, makeResult}
 use Rattle.rules.specs.NoPlace.{NoPlaceFor}
 use Rattle.rules.specs.Histories.{Event, whole, after, History, Whole, Recovery, spent, Accepted, OneGrowth}
 use Rattle.rules.specs.declared.State.{State}
+use Rattle.rules.specs.declared.Header.{Header}
 use Rattle.rules.specs.declared.Place.{Place}
 use Rattle.rules.specs.declared.Slot.{Slot}
 use Rattle.rules.specs.declared.Record.{Record}
+use Rattle.rules.specs.declared.Lookup.the-variants.{Stands}
+use Rattle.rules.specs.declared.Placing.{Placing}
+use Rattle.rules.specs.declared.Placing.the-variants.{Free, Move, Nowhere}
+use Rattle.rules.specs.declared.Finding.{Finding}
+use Rattle.rules.specs.declared.Finding.the-variants.{Sound, Doubled, Flagged, Neither}
 use Rattle.rules.specs.declared.Refusal.{Refusal}
 use Rattle.rules.specs.declared.Refusal.the-variants.{BadHeader, ShortList, FlagSet, KeyPresent, KeyAbsent, NoPlace, AlreadyGrowing, NotGrowing, AtCapacity, InterimTaken, InterimEmpty, NoKind}
+use Rattle.rules.specs.declared.Change.{Change}
 use Rattle.rules.specs.declared.Change.the-variants.{Listed}
 use Rattle.rules.specs.declared.Query.{Query}
 use Rattle.rules.specs.declared.Query.the-variants.{Known, Unknown}
@@ -34,17 +42,16 @@ use Rattle.rules.specs.declared.Verdict.the-variants.{Done}
 
 -- ==== Demand 1. "Any words, keys and lengths may be handed in."
 
--- "A refusal carries its number, reports zero stores and changes neither table nor list."
-abbrev pub RefusalChangesNothing : Type 0
-RefusalChangesNothing =
-    (t : Table) (l : List ℕ) (q : Call) → (changeMeans (changeResult t l q .0) .number ≡ 0 → ⊥)
-    → (changeMeans (changeResult t l q .0) .values ≡ 0 ∷ []) × (changeResult t l q .1 ≡ l)
+-- "A refusal carries its number, reports zero stores and changes neither table nor list." "A changing call or recovery that
+-- succeeds writes only the list's first 2·stores words": with the stores that it reports. l is the list at entry, m at exit
+abbrev pub AnswersBy : Outcome → Change → List ℕ → List ℕ → Type 0
+AnswersBy (refused r) a l m = (changeMeans a ≡ record { number = numberOf r; values = 0 ∷ [] }) × (m ≡ l)
+AnswersBy (listed xs) a l m =
+    (changeMeans a ≡ record { number = 0; values = length xs ∷ [] }) × (2 * length xs ≤ length l) × (length m ≡ length l)
+    × (pairs (length xs) m ≡ xs) × (drop (2 * length xs) m ≡ drop (2 * length xs) l)
 
--- step answers as the call step does, and tells no placing where it is refused
-abbrev pub StepIsACall : Type 0
-StepIsACall =
-    (t : Table) (l : List ℕ) → (stepResult t l .0 .change ≡ changeResult t l step .0) × (stepResult t l .1 ≡ changeResult t l step .1)
-    × ((steppedMeans (stepResult t l .0) .number ≡ 0 → ⊥) → steppedMeans (stepResult t l .0) .values ≡ 0 ∷ [])
+abbrev pub ChangeAnswers : Type 0
+ChangeAnswers = (t : Table) (l : List ℕ) (q : Call) → AnswersBy (outcome t (length l) q) (changeResult t l q .0) l (changeResult t l q .1)
 
 -- create: 13 exactly when "c, first k (1 to c), length or a multiplier" is bad, and then the words stay
 pub record GoodCreation (size c k mul1 mul2 : ℕ) : Type 0 where
@@ -54,10 +61,21 @@ pub record GoodCreation (size c k mul1 mul2 : ℕ) : Type 0 where
   pub odd1 : mul1 % 2 ≡ 1
   pub odd2 : mul2 % 2 ≡ 1
 
+-- "Creation zeroes all words and writes the header."
+pub record Created (size c k mul1 mul2 : ℕ) (u : Table) : Type 0 where
+  pub long : length u ≡ size
+  pub form : word u 0 ≡ 1
+  pub capacity : word u 1 ≡ c
+  pub multiplier1 : word u 2 ≡ mul1
+  pub multiplier2 : word u 3 ≡ mul2
+  pub state : word u 4 ≡ k
+  pub zeros : (i : ℕ) → 5 ≤ i → word u i ≡ 0
+
 abbrev pub CreateAnswers : Type 0
 CreateAnswers =
     (t : Table) (c k mul1 mul2 : ℕ)
-    → (GoodCreation (length t) c k mul1 mul2 × (createResult t c k mul1 mul2 .0 ≡ Done))
+    → (GoodCreation (length t) c k mul1 mul2 × (verdictMeans (createResult t c k mul1 mul2 .0) .number ≡ 0)
+    × Created (length t) c k mul1 mul2 (createResult t c k mul1 mul2 .1))
     ⊎ ((GoodCreation (length t) c k mul1 mul2 → ⊥) × (verdictMeans (createResult t c k mul1 mul2 .0) .number ≡ 13)
     × (createResult t c k mul1 mul2 .1 ≡ t))
 
@@ -70,19 +88,12 @@ MakeAnswers =
     (t : Table) (l : List ℕ) (n : ℕ) → (Outside t l n × (verdictMeans (makeResult t l n .0) .number ≡ 14) × (makeResult t l n .1 ≡ t))
     ⊎ ((Outside t l n → ⊥) × (makeResult t l n ≡ (Done, made t (pairs n l))))
 
--- "A changing call or recovery that succeeds writes only the list's first 2·stores words": with the stores that it reports
-abbrev pub SuccessWritesItsStores : Type 0
-SuccessWritesItsStores =
-    (t : Table) (l : List ℕ) (q : Call) (n : ℕ) → changeResult t l q .0 ≡ Listed n
-    → (2 * n ≤ length l) × (length (changeResult t l q .1) ≡ length l) × (drop (2 * n) (changeResult t l q .1) ≡ drop (2 * n) l)
-    × (outcome t (length l) q ≡ listed (pairs n (changeResult t l q .1)))
-
--- "phase 0 at rest, 1 growing"
+-- "phase 0 at rest, 1 growing"; "Other states are bad."
 abbrev pub AtRest : Table → Type 0
 AtRest t = headerOf t .state .phase ≡ 0
 
 abbrev pub Growing : Table → Type 0
-Growing t = headerOf t .state .phase ≡ 1
+Growing t = AtRest t → ⊥
 
 -- "checks its own input": when each refusal is given, in facts. The key stands in a probed bucket
 abbrev pub Held : Table → ℕ → Type 0
@@ -116,9 +127,9 @@ refusals t n (update key r) = changingRefusals t n ++ (((Held t key → ⊥), Ke
 refusals t n (delete key) = changingRefusals t n ++ (((Held t key → ⊥), KeyAbsent) ∷ [])
 refusals t n begin = changingRefusals t n ++ ((Growing t, AlreadyGrowing) ∷ (headerOf t .state .k ≡ headerOf t .c, AtCapacity) ∷ [])
 refusals t n step =
-    changingRefusals t n ++ (((Growing t → ⊥), NotGrowing) ∷ (NoInterim t, InterimEmpty)
+    changingRefusals t n ++ ((AtRest t, NotGrowing) ∷ (NoInterim t, InterimEmpty)
     ∷ (((x : Slot) × FirstInterim t x × NoPlaceFor t (headerOf t) (keyIn t x)), NoPlace) ∷ [])
-refusals t n end = changingRefusals t n ++ (((Growing t → ⊥), NotGrowing) ∷ (((x : Slot) × InterimItem t x), InterimTaken) ∷ [])
+refusals t n end = changingRefusals t n ++ ((AtRest t, NotGrowing) ∷ (((x : Slot) × InterimItem t x), InterimTaken) ∷ [])
 refusals t n recover = ((GoodHeader (length t) (headerOf t) → ⊥), BadHeader) ∷ (n < 20, ShortList) ∷ (OfNoKind t, NoKind) ∷ []
 
 -- the first that holds refuses; where none does, the call is accepted
@@ -130,15 +141,21 @@ FirstRefuses (x ∷ xs) o = (x .0 × (o ≡ refused (x .1))) ⊎ ((x .0 → ⊥)
 abbrev pub RefusalsInOrder : Type 0
 RefusalsInOrder = (t : Table) (n : ℕ) (q : Call) → FirstRefuses (refusals t n q) (outcome t n q)
 
--- query answers by the call query's outcome; "with 1 or 3 zeros and count 0"
-abbrev pub QueryAs : Outcome → Query → Type 0
-QueryAs (listed stores) (Known r n) = Unit {0}
-QueryAs (listed stores) (Unknown e n) = ⊥
-QueryAs (refused e) (Known r n) = ⊥
-QueryAs (refused e) (Unknown f n) = (e ≡ f) × ((e ≡ KeyAbsent) ⊎ (n ≡ 0))
+-- step answers as the call step does; where it is accepted it tells the placing of the first interim item, else none
+abbrev pub StepIsACall : Type 0
+StepIsACall =
+    (t : Table) (l : List ℕ) → (stepResult t l .0 .change ≡ changeResult t l step .0) × (stepResult t l .1 ≡ changeResult t l step .1)
+    × ((steppedMeans (stepResult t l .0) .number ≡ 0 → ⊥) → steppedMeans (stepResult t l .0) .values ≡ 0 ∷ [])
+    × (steppedMeans (stepResult t l .0) .number ≡ 0 → (x : Slot) → FirstInterim t x → stepResult t l .0 .placing ≡ placing t (headerOf t) (keyIn t x))
+
+-- query answers by the call query's outcome. "Query returns zeros with 5 and the full probe count; with 1 or 3 zeros and
+-- count 0."
+abbrev pub QueryAs : Outcome → Meaning → Type 0
+QueryAs (listed stores) a = a .number ≡ 0
+QueryAs (refused e) a = (n : ℕ) × (a ≡ record { number = numberOf e; values = 0 ∷ 0 ∷ n ∷ [] }) × ((e ≡ KeyAbsent) ⊎ (n ≡ 0))
 
 abbrev pub QueryIsACall : Type 0
-QueryIsACall = (t : Table) (n key : ℕ) → QueryAs (outcome t n (query key)) (queryResult t key)
+QueryIsACall = (t : Table) (n key : ℕ) → QueryAs (outcome t n (query key)) (queryMeans (queryResult t key))
 
 -- "stays within its buffers": every store that a call lists lies in the table
 abbrev pub StoresInside : Type 0
@@ -161,7 +178,7 @@ SoundnessIsTested = (t : Table) → (all (soundTests t) ≡ true) ↔ SoundTable
 abbrev pub MapExists : Type 0
 MapExists = (t : Table) → SoundTable t → (m : PlainMap) × HasMap t m × ((n : PlainMap) → HasMap t n → (key : ℕ) → n key ≡ m key)
 
--- "Creation zeroes all words and writes the header."
+-- a created table is sound, at rest with the k asked for, and empty
 abbrev pub CreatedIsEmpty : Type 0
 CreatedIsEmpty =
     (t u : Table) (c k mul1 mul2 : ℕ) → createResult t c k mul1 mul2 ≡ (Done, u)
@@ -181,12 +198,16 @@ mapAfter step m = m
 mapAfter end m = m
 mapAfter recover m = m
 
--- an accepted call: its stores, made in order, give a sound table with the map m
-pub record Gives (t : Table) (o : Outcome) (m : PlainMap) : Type 0 where
+unfoldable pub withState : Header → State → Header
+withState h s = record { form = h .form; c = h .c; mul1 = h .mul1; mul2 = h .mul2; state = s }
+
+-- an accepted call: its stores, made in order, give a sound table with the map m and the state s; c and the multipliers stay
+pub record Gives (t : Table) (o : Outcome) (m : PlainMap) (s : State) : Type 0 where
   pub stores : List Store
   pub answer : o ≡ listed stores
   pub sound : SoundTable (made t stores)
   pub map : HasMap (made t stores) m
+  pub header : headerOf (made t stores) ≡ withState (headerOf t) s
 
 -- the premises: a sound table t with the map m, and a list of n words
 pub record Given (t : Table) (m : PlainMap) (n : ℕ) : Type 0 where
@@ -208,14 +229,14 @@ abbrev pub InsertBy : Table → PlainMap → ℕ → Record → Option Record �
 InsertBy t m key r (some v) o = o ≡ refused KeyPresent
 InsertBy t m key r none o =
     (NoPlaceFor t (headerOf t) key × (o ≡ refused NoPlace))
-    ⊎ ((NoPlaceFor t (headerOf t) key → ⊥) × Gives t o (mapAfter (insert key r) m))
+    ⊎ ((NoPlaceFor t (headerOf t) key → ⊥) × Gives t o (mapAfter (insert key r) m) (headerOf t .state))
 
 abbrev pub InsertAnswers : Type 0
 InsertAnswers = (t : Table) (m : PlainMap) (n : ℕ) → Given t m n → (key : ℕ) (r : Record) → InsertBy t m key r (m key) (outcome t n (insert key r))
 
 -- update and delete: 5 for keys that the map does not have
 abbrev pub ChangeBy : Table → PlainMap → Option Record → Outcome → Type 0
-ChangeBy t m (some v) o = Gives t o m
+ChangeBy t m (some v) o = Gives t o m (headerOf t .state)
 ChangeBy t m none o = o ≡ refused KeyAbsent
 
 abbrev pub UpdateAnswers : Type 0
@@ -224,21 +245,17 @@ UpdateAnswers = (t : Table) (m : PlainMap) (n : ℕ) → Given t m n → (key : 
 abbrev pub DeleteAnswers : Type 0
 DeleteAnswers = (t : Table) (m : PlainMap) (n : ℕ) → Given t m n → (key : ℕ) → ChangeBy t (mapAfter (delete key) m) (m key) (outcome t n (delete key))
 
--- growth keeps the map, and the state becomes s
-abbrev pub GivesState : Table → Outcome → PlainMap → State → Type 0
-GivesState t o m s = (g : Gives t o m) × (headerOf (made t (g .stores)) .state ≡ s)
-
+-- growth keeps the map
 abbrev pub BeginAnswers : Type 0
 BeginAnswers =
     (t : Table) (m : PlainMap) (n : ℕ) → Given t m n
     → (Growing t → outcome t n begin ≡ refused AlreadyGrowing)
     × (AtRest t → headerOf t .state .k ≡ headerOf t .c → outcome t n begin ≡ refused AtCapacity)
     × (AtRest t → (headerOf t .state .k ≡ headerOf t .c → ⊥)
-    → GivesState t (outcome t n begin) m (record { k = headerOf t .state .k + 1; phase = 1 }))
+    → Gives t (outcome t n begin) m (record { k = headerOf t .state .k + 1; phase = 1 }))
 
 -- after a step: the interim items are those before without the first; its key and record stand in top or bottom
 pub record StepMoves (t u : Table) (x : Slot) : Type 0 where
-  pub state : headerOf u .state ≡ headerOf t .state
   pub rest : (y : Slot) → InterimItem u y ↔ (InterimItem t y × (y ≡ x → ⊥))
   pub slot : Slot
   pub placed : TakenSlot u slot
@@ -249,7 +266,7 @@ pub record StepMoves (t u : Table) (x : Slot) : Type 0 where
 abbrev pub StepBy : Table → PlainMap → Slot → Outcome → Type 0
 StepBy t m x o =
     (NoPlaceFor t (headerOf t) (keyIn t x) × (o ≡ refused NoPlace))
-    ⊎ ((NoPlaceFor t (headerOf t) (keyIn t x) → ⊥) × ((g : Gives t o m) × StepMoves t (made t (g .stores)) x))
+    ⊎ ((NoPlaceFor t (headerOf t) (keyIn t x) → ⊥) × ((g : Gives t o m (headerOf t .state)) × StepMoves t (made t (g .stores)) x))
 
 abbrev pub StepAnswers : Type 0
 StepAnswers =
@@ -263,13 +280,57 @@ EndAnswers =
     (t : Table) (m : PlainMap) (n : ℕ) → Given t m n
     → (AtRest t → outcome t n end ≡ refused NotGrowing)
     × (Growing t → ((x : Slot) × InterimItem t x × (outcome t n end ≡ refused InterimTaken))
-    ⊎ (NoInterim t × GivesState t (outcome t n end) m (record { k = headerOf t .state .k; phase = 0 })))
+    ⊎ (NoInterim t × Gives t (outcome t n end) m (record { k = headerOf t .state .k; phase = 0 })))
 
 -- recovery: "sound: no stores"
 abbrev pub RecoverAnswers : Type 0
 RecoverAnswers = (t : Table) (m : PlainMap) (n : ℕ) → Given t m n → outcome t n recover ≡ listed []
 
 -- ==== Demand 3, "made in order .."
+
+-- "the sound table that document 01 fixes": the stores are those of its table, word by word and in its order, on every table.
+-- A record put to a slot whose bucket has the token word w
+abbrev pub recordStores : Header → ℕ → Slot → ℕ → Record → List Store
+recordStores h w x key r =
+    (keyWord x, key) ∷ (keyWord x + 1, r .function) ∷ (keyWord x + 2, r .place)
+    ∷ (tokenWord (x .bucket), show h w (x .slot) key) ∷ []
+
+-- "insert, free slot", or "insert with move": its first five stores, with the token word that the fifth leaves, then the rest
+abbrev pub PlacingWritten : Table → Header → ℕ → Record → Placing → List Store → Type 0
+PlacingWritten t h key r (Free x) xs = xs ≡ recordStores h (tokenOf t (x .bucket)) x key r
+PlacingWritten t h key r (Move from to) xs =
+    let w = hide h (tokenOf t (from .bucket)) (from .slot) in
+    xs ≡ recordStores h (tokenOf t (to .bucket)) to (keyIn t from) (recordIn t from)
+    ++ ((tokenWord (from .bucket), w) ∷ recordStores h w from key r)
+PlacingWritten t h key r Nowhere xs = ⊥
+
+-- "update, bucket has a free slot", or "update, bucket full"
+abbrev pub UpdateWritten : Table → Header → Slot → ℕ → Record → Option Slot → List Store → Type 0
+UpdateWritten t h x key r (some y) xs = xs ≡ recordStores h (hide h (tokenOf t (x .bucket)) (x .slot)) y key r
+UpdateWritten t h x key r none xs =
+    xs ≡ (6, keyWord x) ∷ (7, r .function) ∷ (8, r .place) ∷ (5, 1) ∷ (keyWord x + 1, r .function) ∷ (keyWord x + 2, r .place) ∷ (5, 0) ∷ []
+
+abbrev pub RecoveryWritten : Table → Header → Finding → List Store → Type 0
+RecoveryWritten t h Sound xs = xs ≡ []
+RecoveryWritten t h (Doubled kept later) xs = xs ≡ (tokenWord (later .bucket), hide h (tokenOf t (later .bucket)) (later .slot)) ∷ []
+RecoveryWritten t h (Flagged x) xs = xs ≡ (keyWord x + 1, word t 7) ∷ (keyWord x + 2, word t 8) ∷ (5, 0) ∷ []
+RecoveryWritten t h Neither xs = ⊥
+
+abbrev pub Written : Table → Header → Call → List Store → Type 0
+Written t h (query key) xs = xs ≡ []
+Written t h (insert key r) xs = PlacingWritten t h key r (placing t h key) xs
+Written t h (update key r) xs = (x : Slot) × (n : ℕ) × (lookup t h key ≡ Stands x n) × UpdateWritten t h x key r (freeSlot t h (placeOf x)) xs
+Written t h (delete key) xs =
+    (x : Slot) × (n : ℕ) × (lookup t h key ≡ Stands x n) × (xs ≡ (tokenWord (x .bucket), hide h (tokenOf t (x .bucket)) (x .slot)) ∷ [])
+Written t h begin xs = xs ≡ (4, h .state .k + 1 + 256 * 1) ∷ []
+Written t h step xs =
+    (x : Slot) × (ys : List Store) × (stepItem t h ≡ some x) × PlacingWritten t h (keyIn t x) (recordIn t x) (placing t h (keyIn t x)) ys
+    × (xs ≡ ys ++ ((tokenWord (x .bucket), hide h (tokenOf t (x .bucket)) (x .slot)) ∷ []))
+Written t h end xs = xs ≡ (4, h .state .k + 256 * 0) ∷ []
+Written t h recover xs = RecoveryWritten t h (finding t) xs
+
+abbrev pub StoresAsWritten : Type 0
+StoresAsWritten = (t : Table) (n : ℕ) (q : Call) (xs : List Store) → outcome t n q ≡ listed xs → Written t (headerOf t) q xs
 
 -- "From a sound table an accepted change lists at most ten stores": the numbers of document 01's table
 abbrev pub Number : Call → ℕ → Type 0
@@ -320,7 +381,7 @@ abbrev pub RecoveryAccepts : Type 0
 RecoveryAccepts =
     (t : Table) (n : ℕ) → GoodHeader (length t) (headerOf t) → 20 ≤ n
     → (SoundTable t × (outcome t n recover ≡ listed []))
-    ⊎ (((x : Slot) × (y : Slot) × DoubledTable t x y × (outcome t n recover ≡ listed (clearStores t (headerOf t) y)))
+    ⊎ (((x : Slot) × (y : Slot) × DoubledTable t x y × (outcome t n recover ≡ listed (clearStores (headerOf t) (tokenOf t (y .bucket)) y)))
     ⊎ (((x : Slot) × FlaggedTable t x × (outcome t n recover ≡ listed (redoStores x (loggedOf t))))
     ⊎ (OfNoKind t × (outcome t n recover ≡ refused NoKind))))
 
@@ -359,7 +420,7 @@ QueryCounts = (t : Table) (key : ℕ) → GoodHeader (length t) (headerOf t) →
 
 abbrev pub ProbesAreFew : Type 0
 ProbesAreFew =
-    (t : Table) (key : ℕ) → ((Growing t → ⊥) → length (placesOf (headerOf t) key) ≤ 4)
+    (t : Table) (key : ℕ) → (AtRest t → length (placesOf (headerOf t) key) ≤ 4)
     × (length (placesOf (headerOf t) key) ≤ 6)
 
 abbrev pub ProbesAreDistinct : Type 0

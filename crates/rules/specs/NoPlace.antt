@@ -12,16 +12,16 @@ use Rattle.rules.specs.declared.Hashes.{Hashes}
 use Rattle.rules.specs.declared.Slot.{Slot}
 
 -- a slot of the first or the second place, in a level, of a key with hashes y
-abbrev pub InPlace : Hashes → Level → Slot → Type 0
-InPlace y l x = (x .slot < 4) × ((placeOf x ≡ firstPlace y l) ⊎ (placeOf x ≡ secondPlace y l))
+abbrev pub AtPlace : Hashes → Level → Slot → Type 0
+AtPlace y l x = (x .slot < 4) × ((placeOf x ≡ firstPlace y l) ⊎ (placeOf x ≡ secondPlace y l))
 
 -- "Placing uses top and bottom only"
 abbrev pub CandidateSlot : Header → ℕ → Slot → Type 0
-CandidateSlot h key x = InPlace (hashesOf h key) (topOf (h .state)) x ⊎ InPlace (hashesOf h key) (bottomOf (h .state)) x
+CandidateSlot h key x = AtPlace (hashesOf h key) (topOf (h .state)) x ⊎ AtPlace (hashesOf h key) (bottomOf (h .state)) x
 
--- "Other" means the first bucket, of the item's first and second place in that order, that is not the one it stands in."
-abbrev pub InOtherPlace : Hashes → Level → Slot → Slot → Type 0
-InOtherPlace y l from to =
+-- the "other" place: "the first bucket, of the item's first and second place in that order, that is not the one it stands in"
+abbrev pub AtOtherPlace : Hashes → Level → Slot → Slot → Type 0
+AtOtherPlace y l from to =
     ((placeOf to ≡ firstPlace y l) × (firstPlace y l .bucket ≡ from .bucket → ⊥))
     ⊎ ((placeOf to ≡ secondPlace y l) × (firstPlace y l .bucket ≡ from .bucket) × (secondPlace y l .bucket ≡ from .bucket → ⊥))
 
@@ -29,9 +29,9 @@ InOtherPlace y l from to =
 -- or "to the item's first top place, else its second". "A top item never moves down."
 abbrev pub MayGo : Header → Hashes → Slot → Slot → Type 0
 MayGo h y from to =
-    ((from .level ≡ top) × InOtherPlace y (topOf (h .state)) from to)
-    ⊎ (((from .level ≡ bottom) × InOtherPlace y (bottomOf (h .state)) from to)
-    ⊎ ((from .level ≡ bottom) × InPlace y (topOf (h .state)) to))
+    ((from .level ≡ top) × AtOtherPlace y (topOf (h .state)) from to)
+    ⊎ (((from .level ≡ bottom) × AtOtherPlace y (bottomOf (h .state)) from to)
+    ⊎ ((from .level ≡ bottom) × AtPlace y (topOf (h .state)) to))
 
 -- a permitted move of one slot to another
 pub record PermittedMove (t : Table) (h : Header) (from to : Slot) : Type 0 where

@@ -36,8 +36,8 @@ emptier t h first second = cond (fewer t h second first) second first
 unfoldable pub roomIn : Table → Header → Hashes → Level → Option Slot
 roomIn t h x l = freeSlot t h (emptier t h (firstPlace x l) (secondPlace x l))
 
--- "Other" means the first bucket, of the item's first and second place in that order, that is not the one it stands in."
--- As a list of one place, or of none
+-- "the first bucket, of the item's first and second place in that order, that is not the one it stands in": the "other"
+-- place, as a list of one place or of none
 unfoldable pub otherPlace : Hashes → Level → Slot → List Place
 otherPlace x l from = take 1 (select (λ (p : Place). not (eqb (p .bucket) (from .bucket))) (placesIn x l))
 

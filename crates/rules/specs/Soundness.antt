@@ -10,8 +10,9 @@ use mathlib.Core.Option.{Option, none, some}
 use lib.ListN.{length}
 use lib.Dec.{eqb}
 use Rattle.rules.specs.Choice.{all, any, given, select, empty, firstOf}
-use Rattle.rules.specs.Words.{Table, headerOf, headerTests, GoodHeader, flagOf, targetOf, allBuckets, unusedBuckets, slotsInUse, placeOf, keyWord, keyIn, recordIn, tokenOf, tidy, taken}
+use Rattle.rules.specs.Words.{Table, headerOf, headerTests, GoodHeader, flagOf, targetOf, levelsInUse, InLevel, allBuckets, unusedBuckets, slotsInUse, InUse, placeOf, keyWord, keyIn, recordIn, tokenOf, tidyOf, taken}
 use Rattle.rules.specs.Places.{samePlace, placesOf}
+use Rattle.rules.specs.declared.Level.{Level}
 use Rattle.rules.specs.declared.Place.{Place}
 use Rattle.rules.specs.declared.Slot.{Slot}
 use Rattle.rules.specs.declared.Record.{Record}
@@ -26,7 +27,7 @@ takenSlots t = select (taken t (headerOf t)) (slotsInUse (headerOf t .state))
 
 -- "every token word at most 15": it is its own tidy word
 unfoldable pub tokensTidy : Table → Bool
-tokensTidy t = all (map (λ (j : ℕ). eqb (tokenOf t j) (tidy (headerOf t) (tokenOf t j))) (allBuckets (headerOf t)))
+tokensTidy t = all (map (λ (j : ℕ). eqb (tokenOf t j) (tidyOf t (headerOf t) j)) (allBuckets (headerOf t)))
 
 -- "and 0 in levels not in use"
 unfoldable pub unusedEmpty : Table → Bool
@@ -61,14 +62,14 @@ soundTests t = all (orderlyTests 0 t) ∷ empty (twins t) ∷ []
 -- ---- as facts
 
 pub record TakenSlot (t : Table) (x : Slot) : Type 0 where
-  pub used : In x (slotsInUse (headerOf t .state))
+  pub used : InUse (headerOf t .state) x
   pub shown : taken t (headerOf t) x ≡ true
 
 pub record OrderlyTable (f : ℕ) (t : Table) : Type 0 where
   pub header : GoodHeader (length t) (headerOf t)
   pub flag : flagOf t ≡ f
-  pub tidied : (j : ℕ) → j < 2 ^ (headerOf t .c + 1) - 1 → tokenOf t j ≡ tidy (headerOf t) (tokenOf t j)
-  pub unused : (j : ℕ) → In j (unusedBuckets (headerOf t)) → tokenOf t j ≡ 0
+  pub tidied : (j : ℕ) → j < 2 ^ (headerOf t .c + 1) - 1 → tokenOf t j ≡ tidyOf t (headerOf t) j
+  pub unused : (j : ℕ) → j < 2 ^ (headerOf t .c + 1) - 1 → ((l : Level) → In l (levelsInUse (headerOf t .state)) → InLevel l j → ⊥) → tokenOf t j ≡ 0
   pub placed : (x : Slot) → TakenSlot t x → (p : Place) × In p (placesOf (headerOf t) (keyIn t x)) × (p .bucket ≡ x .bucket)
 
 pub record SoundTable (t : Table) : Type 0 where

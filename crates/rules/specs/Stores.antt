@@ -25,13 +25,13 @@ putStores h w x key r =
     (keyWord x, key) ∷ (functionWord x, r .function) ∷ (placeWord x, r .place)
     ∷ (tokenWord (x .bucket), show h w (x .slot) key) ∷ []
 
--- "delete | token cleared"
-unfoldable pub clearStores : Table → Header → Slot → List Store
-clearStores t h x = (tokenWord (x .bucket), hide h (tokenOf t (x .bucket)) (x .slot)) ∷ []
+-- "delete | token cleared", where the bucket's token word is w
+unfoldable pub clearStores : Header → ℕ → Slot → List Store
+clearStores h w x = (tokenWord (x .bucket), hide h w (x .slot)) ∷ []
 
 -- a move: "the item's three words and token at its new slot; old token cleared"
 unfoldable pub moveStores : Table → Header → Slot → Slot → List Store
-moveStores t h from to = putStores h (tokenOf t (to .bucket)) to (keyIn t from) (recordIn t from) ++ clearStores t h from
+moveStores t h from to = putStores h (tokenOf t (to .bucket)) to (keyIn t from) (recordIn t from) ++ clearStores h (tokenOf t (from .bucket)) from
 
 -- a placing of a key and its record. "insert with move | the item's three words and token at its new slot; old token
 -- cleared; new item's three words; token": a move, then a put in the slot that it freed
@@ -64,7 +64,7 @@ endStores s = (4, stateWord (record { k = s .k; phase = 0 })) ∷ []
 
 -- "growth step | placing of the first taken interim slot .., then its interim token cleared"
 unfoldable pub stepStores : Table → Header → Slot → Placing → List Store
-stepStores t h x p = placingStores t h p (keyIn t x) (recordIn t x) ++ clearStores t h x
+stepStores t h x p = placingStores t h p (keyIn t x) (recordIn t x) ++ clearStores h (tokenOf t (x .bucket)) x
 
 -- the stores as words, and written to the front of a lent list, whose rest stays
 abbrev pub flat : List Store → List ℕ

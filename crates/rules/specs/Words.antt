@@ -4,10 +4,10 @@
 -- which tables a call accepts is said in `Calls`.
 -- Token words are read and written only by `tidy`, `isTaken`, `show` and `hide`, which also know the header and the key.
 -- Assumes nothing.
-use Prim.Native.Nat.{ℕ, _+_, _-_, _*_, _/_, _%_, _^_, _≤_}
+use Prim.Native.Nat.{ℕ, _+_, _-_, _*_, _/_, _%_, _^_, _≤_, _<_}
 use mathlib.Core.Path.{_≡_}
 use mathlib.Core.Bool.{Bool, not, cond}
-use mathlib.Core.List.{List, [], _∷_, map, flatMap}
+use mathlib.Core.List.{List, [], _∷_, map, flatMap, List·Memᴰ as In}
 use mathlib.Core.Logic.{_⊎_}
 use lib.ListN.{getD}
 use lib.Dec.{eqb, leb}
@@ -37,8 +37,8 @@ unfoldable pub stateWord : State → ℕ
 stateWord s = s .k + 256 * s .phase
 
 -- "phase 0 at rest, 1 growing"
-unfoldable pub growing : State → Bool
-growing s = eqb (s .phase) 1
+unfoldable pub atRest : State → Bool
+atRest s = eqb (s .phase) 0
 
 -- words 0 to 4: form; c; "multipliers A1, A2"; state
 unfoldable pub headerOf : Table → Header
@@ -109,11 +109,15 @@ interimOf s = record { name = interim; size = 2 ^ (s .k - 2) }
 
 -- the levels in use, in the order "top, bottom, interim"
 unfoldable pub levelsInUse : State → List Level
-levelsInUse s = topOf s ∷ bottomOf s ∷ cond (growing s) (interimOf s ∷ []) []
+levelsInUse s = topOf s ∷ bottomOf s ∷ cond (atRest s) [] (interimOf s ∷ [])
 
 -- "A level of M buckets (M a power of two) is always buckets M − 1 to 2M − 2."
 unfoldable pub bucketsOf : ℕ → List ℕ
 bucketsOf m = from (m - 1) m
+
+-- the same as a fact
+abbrev pub InLevel : Level → ℕ → Type 0
+InLevel l j = (l .size - 1 ≤ j) × (j ≤ 2 * l .size - 2)
 
 -- all the table's buckets
 unfoldable pub allBuckets : Header → List ℕ
@@ -147,6 +151,14 @@ slotsOf l = flatMap slotsIn (map (placeAt l) (bucketsOf (l .size)))
 unfoldable pub slotsInUse : State → List Slot
 slotsInUse s = flatMap slotsOf (levelsInUse s)
 
+-- a slot of a level in use, as a fact
+pub record InUse (s : State) (x : Slot) : Type 0 where
+  pub level : Level
+  pub used : In level (levelsInUse s)
+  pub name : x .level ≡ level .name
+  pub bucket : InLevel level (x .bucket)
+  pub slot : x .slot < 4
+
 -- "Bucket j starts at word 9 + 13j: one token word, then four slots of three words: key, function, place.
 -- Slot s starts at offset 1 + 3s."
 unfoldable pub tokenWord : ℕ → ℕ
@@ -173,6 +185,10 @@ tokenOf t j = word t (tokenWord j)
 -- "Calls read token words modulo 16"
 unfoldable pub tidy : Header → ℕ → ℕ
 tidy h w = w % 16
+
+-- what bucket j's token word should be
+unfoldable pub tidyOf : Table → Header → ℕ → ℕ
+tidyOf t h j = tidy h (tokenOf t j)
 
 -- "Token bit s is 1 when slot s is taken."
 unfoldable pub isTaken : Header → ℕ → ℕ → Bool
