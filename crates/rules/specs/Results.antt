@@ -39,7 +39,8 @@ abbrev pub listAfter : Outcome → List ℕ → List ℕ
 listAfter (refused r) l = l
 listAfter (listed stores) l = written stores l
 
--- insert, update, delete, begin, end, recover: the answer, and the list l at exit. The table is only read
+-- insert, update, delete, begin, end, recover: the answer, and the list l at exit. The table is only read. (Of step and query
+-- this is what they share with the others; what they answer beside it is below.)
 unfoldable pub changeResult : Table → List ℕ → Call → Change × List ℕ
 changeResult t l q = (changeOf (outcome t (length l) q), listAfter (outcome t (length l) q) l)
 
