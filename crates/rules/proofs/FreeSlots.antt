@@ -25,9 +25,9 @@ slot-place p s i = let r = map-in (slotAt p) (0 ∷ 1 ∷ 2 ∷ 3 ∷ []) s i in
 abbrev pub Below : Slot → Slot → Type 0
 Below x y = x .slot < y .slot
 
-pub slots-ascend : (p : Place) → Ascending Below (slotsIn p)
+pub slots-below : (p : Place) → Ascending Below (slotsIn p)
 unfolding slotsIn slotAt
-slots-ascend p = ascending-map _<_ Below (slotAt p) (0 ∷ 1 ∷ 2 ∷ 3 ∷ []) (ascending-from 0 4) (λ x y e. e)
+slots-below p = ascending-map _<_ Below (slotAt p) (0 ∷ 1 ∷ 2 ∷ 3 ∷ []) (ascending-from 0 4) (λ x y e. e)
 
 -- slot s of place p is its lowest free one
 pub record Lowest (t : Table) (h : Header) (p : Place) (s : Slot) : Type 0 where
@@ -47,7 +47,7 @@ module _ (t : Table) (h : Header) (p : Place) where
       }
     where
       order : Ascending Below (f .earlier ++ (f .found ∷ f .later))
-      order = rw (f .split) at (slots-ascend p)
+      order = rw (f .split) at (slots-below p)
 
       same : f .found ≡ s
       same = given-some (not (taken t h (f .found))) (f .found) s (f .gives) .1

@@ -2,86 +2,27 @@
 -- other copy of its key.
 -- No theorem about maps sees which of the two is cleared.
 -- Assumes nothing.
-use Prim.Native.Nat.{ℕ, _-_, _<_}
-use mathlib.Core.Path.{_≡_, refl, sym, ap, _∙_}
+use Prim.Native.Nat.{ℕ}
+use mathlib.Core.Path.{_≡_, refl, sym, ap}
 use mathlib.Core.Bool.{Bool, true, false, cond}
 use mathlib.Core.List.{List, [], _∷_, map, List·Memᴰ as In, List·Memᴰ·head as here, List·Memᴰ·tail as there, List·Memᴰ·not-nil, List·Memᴰ·append-cases}
-use mathlib.Core.Logic.{inl, inr, ⊎-elim}
+use mathlib.Core.Logic.{⊎-elim}
 use mathlib.Core.Option.{Option, none, some}
 use native.Mathlib.Omega.{arith}
 use borrow.Author.Tests.{eqb-true}
 use Rattle.rules.specs.Choice.{all, select}
-use Rattle.rules.specs.Words.{Table, headerOf, atRest, topOf, bottomOf, interimOf, levelsInUse, bucketsOf, slotAt, slotsIn, placeOf, placeAt, slotsOf, slotsInUse, InLevel, InUse, keyIn, recordIn, tokenOf, taken}
+use Rattle.rules.specs.Words.{Table, headerOf, slotsInUse, keyIn, recordIn, tokenOf, taken}
 use Rattle.rules.specs.Stores.{Store, clearStores}
 use Rattle.rules.specs.Soundness.{takenSlots, TakenSlot, Before, orderlyTests, sameKey, twinsOf, twins, sameRecord, whenStill, target, whenFlagged, finding}
 use Rattle.rules.specs.Calls.{recoverTests, listed, recover, recoverOf, outcome}
-use Rattle.rules.specs.declared.State.{State}
-use Rattle.rules.specs.declared.Level.{Level}
-use Rattle.rules.specs.declared.Place.{Place}
 use Rattle.rules.specs.declared.Slot.{Slot}
 use Rattle.rules.specs.declared.Finding.{Finding}
 use Rattle.rules.specs.declared.Finding.the-variants.{Doubled, Neither}
-use Rattle.rules.proofs.Lists.{select-in, map-in, flatMap-in, from-in, Ascending, ascending-select, ascending-flatMap, ascending-map, ascending-of-map, ascending-from}
-use Rattle.rules.proofs.FreeSlots.{slot-place}
+use Rattle.rules.proofs.Lists.{select-in, map-in, Ascending, ascending-select}
 use Rattle.rules.proofs.Checked.{checked-listed}
+use Rattle.rules.proofs.SlotsInUse.{slot-in-use, slots-ascend}
 
--- ---- the slots in use stand in that order
-
-Lower : Level → Level → Type 0
-Lower l m = l .name < m .name
-
-Under : Place → Place → Type 0
-Under p q = (p .level ≡ q .level) × (p .bucket < q .bucket)
-
-slots-of-place : (p : Place) → Ascending Before (slotsIn p)
-unfolding slotsIn slotAt
-slots-of-place p = ascending-map _<_ Before (slotAt p) (0 ∷ 1 ∷ 2 ∷ 3 ∷ []) (ascending-from 0 4) (λ x y e. inr (refl, inr (refl, e)))
-
-slots-of-level : (l : Level) → Ascending Before (slotsOf l)
-unfolding slotsOf bucketsOf placeAt Under placeOf
-slots-of-level l =
-    ascending-flatMap Under Before slotsIn (map (placeAt l) (bucketsOf (l .size)))
-    (ascending-map _<_ Under (placeAt l) (bucketsOf (l .size)) (ascending-from (l .size - 1) (l .size)) (λ x y e. (refl, e))) slots-of-place
-    (λ p q u x y i j.
-    let a = slot-place p x i in
-    let b = slot-place q y j in
-    inr (ap (λ (z : Place). z .level) a ∙ u .0 ∙ sym (ap (λ (z : Place). z .level) b), inl (rw (ap (λ (z : Place). z .bucket) a, ap (λ (z : Place). z .bucket) b) (u .1))))
-
--- a slot of a level, by its name and range
-slot-of-level : (l : Level) (x : Slot) → In x (slotsOf l) → (x .level ≡ l .name) × InLevel l (x .bucket) × (x .slot < 4)
-unfolding slotsOf bucketsOf slotsIn slotAt placeAt
-slot-of-level l x i =
-    let r = flatMap-in slotsIn (map (placeAt l) (bucketsOf (l .size))) x i in
-    let q = map-in (placeAt l) (bucketsOf (l .size)) (r .0) (r .1) in
-    let s = map-in (slotAt (r .0)) (0 ∷ 1 ∷ 2 ∷ 3 ∷ []) x (r .2) in
-    let place : x .bucket ≡ q .0 = ap (λ (z : Slot). z .bucket) (s .2) ∙ ap (λ (z : Place). z .bucket) (q .2) in (
-      ap (λ (z : Slot). z .level) (s .2) ∙ ap (λ (z : Place). z .level) (q .2),
-      rw place (omega (arith, from-in (l .size - 1) (l .size) (q .0) (q .1))),
-      rw (ap (λ (z : Slot). z .slot) (s .2)) (omega (arith, from-in 0 4 (s .0) (s .1))),
-    )
-
-slot-in-use : (s : State) (x : Slot) → In x (slotsInUse s) → InUse s x
-unfolding slotsInUse
-slot-in-use s x i =
-    let r = flatMap-in slotsOf (levelsInUse s) x i in
-    let q = slot-of-level (r .0) x (r .2) in
-    record { level = r .0; used = r .1; name = q .0; bucket = q .1; slot = q .2 }
-
-levels-ascend : (s : State) → Ascending Lower (levelsInUse s)
-unfolding levelsInUse topOf bottomOf interimOf Lower
-levels-ascend s = go (atRest s)
-  where
-    go : (b : Bool) → Ascending Lower (topOf s ∷ bottomOf s ∷ cond b [] (interimOf s ∷ []))
-    go true = ascending-of-map _<_ (λ (l : Level). l .name) (topOf s ∷ bottomOf s ∷ []) (ascending-from 0 2)
-    go false = ascending-of-map _<_ (λ (l : Level). l .name) (topOf s ∷ bottomOf s ∷ interimOf s ∷ []) (ascending-from 0 3)
-
-pub slots-ascend : (s : State) → Ascending Before (slotsInUse s)
-unfolding slotsInUse Lower
-slots-ascend s =
-    ascending-flatMap Lower Before slotsOf (levelsInUse s) (levels-ascend s) slots-of-level
-    (λ l m u x y i j. inl (rw (slot-of-level l x i .0, slot-of-level m y j .0) u))
-
--- ---- and so do the pairs of slots with the same key
+-- ---- the pairs of slots with the same key stand in the order of slots
 
 -- two taken slots with the same key, in order
 pub record Twins (t : Table) (x y : Slot) : Type 0 where

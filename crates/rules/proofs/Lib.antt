@@ -7,6 +7,7 @@ pub mod Chosen
 pub mod MoveOrder
 pub mod Moves
 pub mod Ending
+pub mod SlotsInUse
 pub mod Later
 pub mod StoreLists
 pub mod Meanings
