@@ -61,10 +61,12 @@ soundTests t = all (orderlyTests 0 t) ∷ empty (twins t) ∷ []
 
 -- ---- as facts
 
+-- a taken slot in a level in use
 pub record TakenSlot (t : Table) (x : Slot) : Type 0 where
   pub used : InUse (headerOf t .state) x
   pub shown : taken t (headerOf t) x ≡ true
 
+-- "good header"; the flag is f; "every token word at most 15, and 0 in levels not in use; each taken slot in a place of its key"
 pub record OrderlyTable (f : ℕ) (t : Table) : Type 0 where
   pub header : GoodHeader (length t) (headerOf t)
   pub flag : flagOf t ≡ f
@@ -72,6 +74,7 @@ pub record OrderlyTable (f : ℕ) (t : Table) : Type 0 where
   pub unused : (j : ℕ) → j < 2 ^ (headerOf t .c + 1) - 1 → ((l : Level) → In l (levelsInUse (headerOf t .state)) → InLevel l j → ⊥) → tokenOf t j ≡ 0
   pub placed : (x : Slot) → TakenSlot t x → (p : Place) × In p (placesOf (headerOf t) (keyIn t x)) × (p .bucket ≡ x .bucket)
 
+-- with flag 0, and "no key in two taken slots"
 pub record SoundTable (t : Table) : Type 0 where
   pub orderly : OrderlyTable 0 t
   pub alone : (x y : Slot) → TakenSlot t x → TakenSlot t y → keyIn t x ≡ keyIn t y → x ≡ y

@@ -124,11 +124,11 @@ unfoldable pub allBuckets : Header → List ℕ
 allBuckets h = from 0 (2 ^ (h .c + 1) - 1)
 
 -- the sizes of the table's levels, 1 to 2^c, that no level in use has; and their buckets
-unfoldable pub inUse : State → ℕ → Bool
-inUse s m = any (map (λ (l : Level). eqb (l .size) m) (levelsInUse s))
+unfoldable pub sizeInUse : State → ℕ → Bool
+sizeInUse s m = any (map (λ (l : Level). eqb (l .size) m) (levelsInUse s))
 
 unfoldable pub unusedBuckets : Header → List ℕ
-unusedBuckets h = flatMap bucketsOf (select (λ (m : ℕ). not (inUse (h .state) m)) (map (λ (e : ℕ). 2 ^ e) (from 0 (h .c + 1))))
+unusedBuckets h = flatMap bucketsOf (select (λ (m : ℕ). not (sizeInUse (h .state) m)) (map (λ (e : ℕ). 2 ^ e) (from 0 (h .c + 1))))
 
 -- "a bucket as four such records": the slots of a bucket, 0 to 3
 unfoldable pub slotAt : Place → ℕ → Slot
