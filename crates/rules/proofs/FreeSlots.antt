@@ -32,6 +32,7 @@ slots-below p = ascending-map _<_ Below (slotAt p) (0 ∷ 1 ∷ 2 ∷ 3 ∷ []) 
 -- slot s of place p is its lowest free one
 pub record Lowest (t : Table) (h : Header) (p : Place) (s : Slot) : Type 0 where
   pub place : placeOf s ≡ p
+  pub inside : In s (slotsIn p)
   pub free : taken t h s ≡ false
   pub lower : (y : Slot) → In y (slotsIn p) → y .slot < s .slot → taken t h y ≡ true
 
@@ -42,6 +43,7 @@ module _ (t : Table) (h : Header) (p : Place) where
       let g = given-some (not (taken t h (f .found))) (f .found) s (f .gives) in
       record {
         place = rw (← (g .1)) (slot-place p (f .found) (f .inside));
+        inside = rw (← (g .1)) (f .inside);
         free = rw (← (g .1)) (not-true (taken t h (f .found)) (g .0));
         lower = λ y i l. below y l (List·Memᴰ·append-cases (f .earlier) (rw (f .split) at i));
       }
