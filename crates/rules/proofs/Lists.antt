@@ -3,12 +3,13 @@
 use Prim.Native.Nat.{ℕ, zero, suc, _+_, _≤_, _<_}
 use mathlib.Core.Path.{_≡_, refl, sym, ap, _∙_}
 use mathlib.Core.Bool.{Bool, true, false, cond}
-use mathlib.Core.List.{List, [], _∷_, _++_, map, flatMap, List·Memᴰ as In, List·Memᴰ·head as here, List·Memᴰ·tail as there, List·Memᴰ·not-nil, List·Memᴰ·cases-cons, List·Memᴰ·append-cases}
-use mathlib.Core.Logic.{⊎-elim}
-use mathlib.Core.Option.{Option, none, some}
+use mathlib.Core.List.{List, [], _∷_, _++_, map, flatMap, List·Memᴰ as In, List·Memᴰ·head as here, List·Memᴰ·tail as there, List·Memᴰ·not-nil, List·Memᴰ·cases-cons, List·Memᴰ·append-cases, Memᴰ·append-left, Memᴰ·append-right}
+use mathlib.Core.Logic.{_⊎_, inl, inr, ⊎-elim}
+use mathlib.Core.Option.{Option, none, some, Option·map}
 use native.Mathlib.Nat.{zero-add}
 use native.Mathlib.Numerals.{one-add}
 use native.Mathlib.Omega.{arith}
+use native.Mathlib.Decide.{ℕ-discrete}
 use lib.ListN.{length}
 use Rattle.rules.specs.Choice.{given, orElse, select, empty, firstOf, from}
 
@@ -170,3 +171,78 @@ ascending-of-map S f (x ∷ xs) a = (λ y i. a .0 (f y) (in-map f i), ascending-
 pub ascending-from : (a n : ℕ) → Ascending _<_ (from a n)
 ascending-from a zero = tt
 ascending-from a (suc n) = (λ y i. omega (arith, from-in (suc a) n y i), ascending-from (suc a) n)
+
+-- ---- the first answer along joined lists
+
+module _ {A B : Type 0} where
+  pub firstOf-append : (f : A → Option B) (xs ys : List A) → firstOf f (xs ++ ys) ≡ orElse (firstOf f xs) (firstOf f ys)
+  firstOf-append f [] ys = refl
+  firstOf-append f (x ∷ xs) ys = go (f x) (firstOf-append f xs ys)
+    where
+      go : (o : Option B) → firstOf f (xs ++ ys) ≡ orElse (firstOf f xs) (firstOf f ys) → orElse o (firstOf f (xs ++ ys)) ≡ orElse (orElse o (firstOf f xs)) (firstOf f ys)
+      go (some b) k = refl
+      go none k = k
+
+  module _ {C : Type 0} (f : B → Option C) where
+    pub firstOf-map : (g : A → B) (xs : List A) → firstOf f (map g xs) ≡ firstOf (λ x. f (g x)) xs
+    firstOf-map g [] = refl
+    firstOf-map g (x ∷ xs) = ap (orElse (f (g x))) (firstOf-map g xs)
+
+pub firstOf-flatMap : {A B C : Type 0} (f : B → Option C) (g : A → List B) (xs : List A) → firstOf f (flatMap g xs) ≡ firstOf (λ x. firstOf f (g x)) xs
+unfolding flatMap
+firstOf-flatMap f g [] = refl
+firstOf-flatMap f g (x ∷ xs) = firstOf-append f (g x) (flatMap g xs) ∙ ap (orElse (firstOf f (g x))) (firstOf-flatMap f g xs)
+
+-- the first that passes a test, each under a name
+pub firstOf-given : {A B : Type 0} (p : A → Bool) (g : A → B) (xs : List A) → firstOf (λ x. given (p x) (g x)) xs ≡ Option·map g (firstOf (λ x. given (p x) x) xs)
+firstOf-given p g [] = refl
+firstOf-given p g (x ∷ xs) = go (p x) (firstOf-given p g xs)
+  where
+    go : (b : Bool) → firstOf (λ x. given (p x) (g x)) xs ≡ Option·map g (firstOf (λ x. given (p x) x) xs)
+        → orElse (given b (g x)) (firstOf (λ x. given (p x) (g x)) xs) ≡ Option·map g (orElse (given b x) (firstOf (λ x. given (p x) x) xs))
+    go true k = refl
+    go false k = k
+
+-- ---- what is in a list: the converses
+
+pub in-select : {A : Type 0} (p : A → Bool) {l : List A} {x : A} → In x l → p x ≡ true → In x (select p l)
+in-select p (here {x = y} e) q = let r : p y ≡ true = rw e at q in rw r (here e)
+in-select p {x = x} (there {x = y} {xs = ys} i) q = go (p y) (in-select p i q)
+  where
+    go : (b : Bool) → In x (select p ys) → In x (cond b (y ∷ select p ys) (select p ys))
+    go true k = there k
+    go false k = k
+
+pub in-flatMap : {A B : Type 0} (f : A → List B) {l : List A} {x : A} {y : B} → In x l → In y (f x) → In y (flatMap f l)
+unfolding flatMap
+in-flatMap f (here {xs = xs} e) j = Memᴰ·append-left (flatMap f xs) (rw e at j)
+in-flatMap f (there {x = z} i) j = Memᴰ·append-right (f z) (in-flatMap f i j)
+
+pub in-from : (a n x : ℕ) → a ≤ x → x < a + n → In x (from a n)
+in-from a zero x low high = absurd (omega arith)
+in-from a (suc n) x low high = go (ℕ-discrete x a) (in-from (suc a) n x)
+  where
+    go : Dec (x ≡ a) → (suc a ≤ x → x < suc a + n → In x (from (suc a) n)) → In x (a ∷ from (suc a) n)
+    go (yes e) k = here e
+    go (no d) k = there (k (omega arith) (omega arith))
+
+-- ---- lists in order, and without repetition
+
+module _ {A : Type 0} where
+  -- of two elements of an ascending list one comes first
+  pub ascending-compare : (R : A → A → Type 0) (l : List A) → Ascending R l → (x y : A) → In x l → In y l → (x ≡ y) ⊎ (R x y ⊎ R y x)
+  ascending-compare R [] a x y i j = absurd (List·Memᴰ·not-nil i)
+  ascending-compare R (z ∷ zs) a x y i j = go (List·Memᴰ·cases-cons i) (List·Memᴰ·cases-cons j) (ascending-compare R zs (a .1) x y)
+    where
+      go : (x ≡ z) ⊎ In x zs → (y ≡ z) ⊎ In y zs → (In x zs → In y zs → (x ≡ y) ⊎ (R x y ⊎ R y x)) → (x ≡ y) ⊎ (R x y ⊎ R y x)
+      go (inl e) (inl f) k = inl (e ∙ sym f)
+      go (inl e) (inr j) k = inr (inl (rw e (a .0 y j)))
+      go (inr i) (inl f) k = inr (inr (rw f (a .0 x i)))
+      go (inr i) (inr j) k = k i j
+
+  pub ascending-weaken : (R S : A → A → Type 0) (l : List A) → Ascending R l → ((x y : A) → R x y → S x y) → Ascending S l
+  ascending-weaken R S [] a c = tt
+  ascending-weaken R S (x ∷ xs) a c = (λ y i. c x y (a .0 y i), ascending-weaken R S xs (a .1) c)
+
+  abbrev pub NoRepeat : List A → Type 0
+  NoRepeat = Ascending (λ (x y : A). x ≡ y → ⊥)

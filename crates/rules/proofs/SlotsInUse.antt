@@ -13,8 +13,9 @@ use Rattle.rules.specs.declared.State.{State}
 use Rattle.rules.specs.declared.Level.{Level}
 use Rattle.rules.specs.declared.Place.{Place}
 use Rattle.rules.specs.declared.Slot.{Slot}
-use Rattle.rules.proofs.Lists.{map-in, flatMap-in, from-in, Ascending, ascending-flatMap, ascending-map, ascending-of-map, ascending-from}
+use Rattle.rules.proofs.Lists.{map-in, in-map, flatMap-in, in-flatMap, from-in, in-from, Ascending, ascending-flatMap, ascending-map, ascending-of-map, ascending-from}
 use Rattle.rules.proofs.FreeSlots.{slot-place}
+use Rattle.rules.proofs.Levels.{level-filled}
 
 Lower : Level → Level → Type 0
 Lower l m = l .name < m .name
@@ -22,31 +23,36 @@ Lower l m = l .name < m .name
 Under : Place → Place → Type 0
 Under p q = (p .level ≡ q .level) × (p .bucket < q .bucket)
 
-slots-of-place : (p : Place) → Ascending Before (slotsIn p)
+pub place-ascends : (p : Place) → Ascending Before (slotsIn p)
 unfolding slotsIn slotAt
-slots-of-place p = ascending-map _<_ Before (slotAt p) (0 ∷ 1 ∷ 2 ∷ 3 ∷ []) (ascending-from 0 4) (λ x y e. inr (refl, inr (refl, e)))
+place-ascends p = ascending-map _<_ Before (slotAt p) (0 ∷ 1 ∷ 2 ∷ 3 ∷ []) (ascending-from 0 4) (λ x y e. inr (refl, inr (refl, e)))
 
-slots-of-level : (l : Level) → Ascending Before (slotsOf l)
+level-ascends : (l : Level) → Ascending Before (slotsOf l)
 unfolding slotsOf bucketsOf placeAt Under placeOf
-slots-of-level l =
+level-ascends l =
     ascending-flatMap Under Before slotsIn (map (placeAt l) (bucketsOf (l .size)))
-    (ascending-map _<_ Under (placeAt l) (bucketsOf (l .size)) (ascending-from (l .size - 1) (l .size)) (λ x y e. (refl, e))) slots-of-place
+    (ascending-map _<_ Under (placeAt l) (bucketsOf (l .size)) (ascending-from (l .size - 1) (l .size)) (λ x y e. (refl, e))) place-ascends
     (λ p q u x y i j.
     let a = slot-place p x i in
     let b = slot-place q y j in
     inr (ap (λ (z : Place). z .level) a ∙ u .0 ∙ sym (ap (λ (z : Place). z .level) b), inl (rw (ap (λ (z : Place). z .bucket) a, ap (λ (z : Place). z .bucket) b) (u .1))))
 
+pub slot-number : (p : Place) (x : Slot) → In x (slotsIn p) → x .slot < 4
+unfolding slotsIn slotAt
+slot-number p x i =
+    let r = map-in (slotAt p) (0 ∷ 1 ∷ 2 ∷ 3 ∷ []) x i in
+    rw (ap (λ (z : Slot). z .slot) (r .2)) (omega (arith, from-in 0 4 (r .0) (r .1)))
+
 -- a slot of a level, by its name and range
 slot-of-level : (l : Level) (x : Slot) → In x (slotsOf l) → (x .level ≡ l .name) × InLevel l (x .bucket) × (x .slot < 4)
-unfolding slotsOf bucketsOf slotsIn slotAt placeAt
+unfolding slotsOf bucketsOf placeAt placeOf
 slot-of-level l x i =
     let r = flatMap-in slotsIn (map (placeAt l) (bucketsOf (l .size))) x i in
     let q = map-in (placeAt l) (bucketsOf (l .size)) (r .0) (r .1) in
-    let s = map-in (slotAt (r .0)) (0 ∷ 1 ∷ 2 ∷ 3 ∷ []) x (r .2) in
-    let place : x .bucket ≡ q .0 = ap (λ (z : Slot). z .bucket) (s .2) ∙ ap (λ (z : Place). z .bucket) (q .2) in (
-      ap (λ (z : Slot). z .level) (s .2) ∙ ap (λ (z : Place). z .level) (q .2),
-      rw place (omega (arith, from-in (l .size - 1) (l .size) (q .0) (q .1))),
-      rw (ap (λ (z : Slot). z .slot) (s .2)) (omega (arith, from-in 0 4 (s .0) (s .1))),
+    let place : placeOf x ≡ placeAt l (q .0) = slot-place (r .0) x (r .2) ∙ q .2 in (
+      ap (λ (z : Place). z .level) place,
+      rw (ap (λ (z : Place). z .bucket) place) (omega (arith, from-in (l .size - 1) (l .size) (q .0) (q .1))),
+      slot-number (r .0) x (r .2),
     )
 
 pub slot-in-use : (s : State) (x : Slot) → In x (slotsInUse s) → InUse s x
@@ -55,6 +61,25 @@ slot-in-use s x i =
     let r = flatMap-in slotsOf (levelsInUse s) x i in
     let q = slot-of-level (r .0) x (r .2) in
     record { level = r .0; used = r .1; name = q .0; bucket = q .1; slot = q .2 }
+
+-- and back: the slots of a place, of a level, and of the levels in use are all there
+pub slots-of-place : (x : Slot) → x .slot < 4 → In x (slotsIn (placeOf x))
+unfolding slotsIn slotAt placeOf
+slots-of-place x h = in-map (slotAt (placeOf x)) (in-from 0 4 (x .slot) (omega arith) (omega arith))
+
+place-of-level : (l : Level) (x : Slot) → x .level ≡ l .name → placeOf x ≡ placeAt l (x .bucket)
+unfolding placeAt placeOf
+place-of-level l x e = λ i. record { level = e i; bucket = x .bucket }
+
+slots-of-level : (l : Level) (x : Slot) → 0 < l .size → x .level ≡ l .name → InLevel l (x .bucket) → x .slot < 4 → In x (slotsOf l)
+unfolding slotsOf bucketsOf
+slots-of-level l x filled name range less =
+    in-flatMap slotsIn (in-map (placeAt l) (in-from (l .size - 1) (l .size) (x .bucket) (range .0) (omega arith)))
+    (rw (place-of-level l x name) at (slots-of-place x less))
+
+pub slots-in-use : (s : State) (x : Slot) → InUse s x → In x (slotsInUse s)
+unfolding slotsInUse
+slots-in-use s x u = in-flatMap slotsOf (u .used) (slots-of-level (u .level) x (level-filled s (u .level) (u .used)) (u .name) (u .bucket) (u .slot))
 
 levels-ascend : (s : State) → Ascending Lower (levelsInUse s)
 unfolding levelsInUse topOf bottomOf interimOf Lower
@@ -67,5 +92,5 @@ levels-ascend s = go (atRest s)
 pub slots-ascend : (s : State) → Ascending Before (slotsInUse s)
 unfolding slotsInUse Lower
 slots-ascend s =
-    ascending-flatMap Lower Before slotsOf (levelsInUse s) (levels-ascend s) slots-of-level
+    ascending-flatMap Lower Before slotsOf (levelsInUse s) (levels-ascend s) level-ascends
     (λ l m u x y i j. inl (rw (slot-of-level l x i .0, slot-of-level m y j .0) u))
