@@ -1,0 +1,83 @@
+-- A header with one thing wrong fails its tests, and with nothing else wrong the state decides.
+-- Assumes nothing.
+use Prim.Native.Nat.{ℕ, _+_, _-_, _*_, _%_, _^_, _≤_, _<_}
+use mathlib.Core.Path.{_≡_, refl, sym, _∙_}
+use mathlib.Core.Bool.{Bool, true, false, _&&_, _||_}
+use native.Mathlib.Omega.{arith}
+use borrow.Author.Tests.{lt-leb, le-leb, eq-eqb, ne-eqb}
+use lib.ListN.{length}
+use lib.Dec.{leb}
+use Rattle.rules.specs.Choice.{all}
+use Rattle.rules.specs.Words.{Table, wordsFor, stateGood, odd, capacityTests, headerTests, headerOf}
+use Rattle.rules.specs.Calls.{headerGood}
+use Rattle.rules.specs.declared.State.{State}
+use Rattle.rules.specs.declared.Header.{Header}
+use Rattle.rules.proofs.Tests.{all-no}
+
+and-true : (b : Bool) → b ≡ (b && true)
+and-true true = refl
+and-true false = refl
+
+or-false : (b : Bool) → b ≡ (b || false)
+or-false true = refl
+or-false false = refl
+
+and-false : (b : Bool) → (b && false) ≡ false
+and-false true = refl
+and-false false = refl
+
+module _ (c : ℕ) (s : State) where
+  pub state-above : c < s .k → false ≡ stateGood c s
+  unfolding stateGood
+  state-above h = simp (lt-leb _ _ h, and-false)
+
+  pub state-other : (s .phase ≡ 0 → ⊥) → (s .phase ≡ 1 → ⊥) → false ≡ stateGood c s
+  unfolding stateGood
+  state-other p q = rw (ne-eqb _ _ p, ne-eqb _ _ q)
+
+  pub state-rest : s .k ≤ c → s .phase ≡ 0 → leb 1 (s .k) ≡ stateGood c s
+  unfolding stateGood
+  state-rest h p = rw (eq-eqb _ _ p, le-leb _ _ h, ne-eqb (s .phase) 1 (omega arith)) (and-true _ ∙ or-false _)
+
+  pub state-growing : s .k ≤ c → s .phase ≡ 1 → leb 2 (s .k) ≡ stateGood c s
+  unfolding stateGood
+  state-growing h p = rw (ne-eqb (s .phase) 0 (omega arith), eq-eqb _ _ p, le-leb _ _ h) (and-true _ ∙ or-false _)
+
+module _ (size : ℕ) (h : Header) where
+  pub low : h .c < 1 → false ≡ all (headerTests size h)
+  unfolding headerTests capacityTests
+  low e = all-no (headerTests size h) 0 (sym (all-no (capacityTests (h .c)) 0 (lt-leb _ _ e)))
+
+  pub high : 20 < h .c → false ≡ all (headerTests size h)
+  unfolding headerTests capacityTests
+  high e = all-no (headerTests size h) 0 (sym (all-no (capacityTests (h .c)) 1 (lt-leb _ _ e)))
+
+  pub wrong-length : (size ≡ wordsFor (h .c) → ⊥) → false ≡ all (headerTests size h)
+  unfolding headerTests
+  wrong-length e = all-no (headerTests size h) 1 (ne-eqb _ _ e)
+
+  pub wrong-form : (h .form ≡ 1 → ⊥) → false ≡ all (headerTests size h)
+  unfolding headerTests
+  wrong-form e = all-no (headerTests size h) 2 (ne-eqb _ _ e)
+
+  pub even1 : (h .mul1 % 2 ≡ 1 → ⊥) → false ≡ all (headerTests size h)
+  unfolding headerTests odd
+  even1 e = all-no (headerTests size h) 3 (ne-eqb _ _ e)
+
+  pub even2 : (h .mul2 % 2 ≡ 1 → ⊥) → false ≡ all (headerTests size h)
+  unfolding headerTests odd
+  even2 e = all-no (headerTests size h) 4 (ne-eqb _ _ e)
+
+  pub by-state : 1 ≤ h .c → h .c ≤ 20 → size ≡ wordsFor (h .c) → h .form ≡ 1 → h .mul1 % 2 ≡ 1 → h .mul2 % 2 ≡ 1 → stateGood (h .c) (h .state) ≡ all (headerTests size h)
+  unfolding headerTests capacityTests odd
+  by-state a b l f m n = rw (le-leb _ _ a, le-leb _ _ b, eq-eqb _ _ l, eq-eqb _ _ f, eq-eqb _ _ m, eq-eqb _ _ n) (and-true _)
+
+-- the length that the code computes
+pub sized : (p c : ℕ) → p ≡ 2 ^ (c + 1) → 9 + 13 * (p - 1) ≡ wordsFor c
+unfolding wordsFor
+sized p c e = rw e
+
+-- a table without room for the header's nine words is too short for every c
+pub too-short : (t : Table) → length t < 9 → headerGood t ≡ false
+unfolding headerGood wordsFor
+too-short t l = sym (wrong-length (length t) (headerOf t) (λ e. omega arith))

@@ -1,0 +1,4 @@
+pub mod HeaderTests
+pub mod TokenWords
+pub mod Gated
+pub mod Placed

@@ -1,0 +1,20 @@
+-- `reading::header::state_good` meets its contract: each way through it is a law of `HeaderTests`.
+-- Assumes nothing.
+use Rattle.reading.proofs.HeaderTests.{state-above, state-other, state-rest, state-growing}
+use Rattle.reading.proofs.header.state_good.Statement.{statement}
+use Rattle.reading.proofs.header.state_good.Tie as tie
+
+returns : tie.Need-returns
+returns c = state-above _ _ (c .if1 .taken)
+
+returns-2 : tie.Need-returns-2
+returns-2 c = let d = c .before .before .before in state-rest _ _ (d .if1 .left) (c .before .if2 .taken)
+
+returns-3 : tie.Need-returns-3
+returns-3 c = let d = c .before .before .before .before .before in state-growing _ _ (d .if1 .left) (c .before .if3 .taken)
+
+returns-4 : tie.Need-returns-4
+returns-4 c = state-other _ _ (c .before .before .if2 .left) (c .if3 .left)
+
+pub state-good-spec : {M : Type 1} → statement M
+state-good-spec = tie.close (tie.spec returns returns-2 returns-3 returns-4)

@@ -1,0 +1,6 @@
+// Reading a table in lent words: the tests that come first, the words of a bucket, and the places of a key.
+pub mod gate;
+pub mod header;
+pub mod places;
+pub mod slots;
+pub mod tokens;

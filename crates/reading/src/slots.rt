@@ -1,0 +1,48 @@
+// Where the words of buckets and slots lie, and what stands there.
+use rules::Record;
+use rules::Slot;
+ghost use mathlib.Core.Path.{_≡_};
+ghost use Prim.Native.Nat.{_^_, _<_};
+ghost use Rattle.rules.specs.Words.{tokenWord, keyWord, tokenOf, keyIn, recordIn};
+ghost use Rattle.reading.specs.Within.{BucketWithin, SlotWithin};
+
+// "Bucket j starts at word 9 + 13j"
+pub fn token_word(j: usize) -> usize
+    requires { ⌜ j < 2 ^ 32 ⌝ }
+    ensures { λ r. ⌜ r ≡ tokenWord j ⌝ }
+{
+    9 + 13 * j
+}
+
+// "Slot s starts at offset 1 + 3s."
+pub fn key_word(x: Slot) -> usize
+    requires { ⌜ (x .bucket < 2 ^ 32) × (x .slot < 4) ⌝ }
+    ensures { λ r. ⌜ r ≡ keyWord x ⌝ }
+{
+    token_word(x.bucket) + (1 + 3 * x.slot)
+}
+
+pub fn token(t: &[u64], j: usize) -> u64
+    requires { ⌜ BucketWithin (now t) j ⌝ }
+    ensures { λ r. ⌜ r ≡ tokenOf (now (t .entry)) j ⌝ }
+{
+    t[9 + 13 * j]
+}
+
+pub fn key_at(t: &[u64], x: Slot) -> u64
+    requires { ⌜ SlotWithin (now t) x ⌝ }
+    ensures { λ r. ⌜ r ≡ keyIn (now (t .entry)) x ⌝ }
+{
+    t[9 + 13 * x.bucket + (1 + 3 * x.slot)]
+}
+
+pub fn record_at(t: &[u64], x: Slot) -> Record
+    requires { ⌜ SlotWithin (now t) x ⌝ }
+    ensures { λ r. ⌜ r ≡ recordIn (now (t .entry)) x ⌝ }
+{
+    let at = 9 + 13 * x.bucket + (1 + 3 * x.slot);
+    Record {
+        function: t[at + 1],
+        place: t[at + 2],
+    }
+}
