@@ -1,0 +1,3 @@
+mod Creation
+mod Making
+pub mod Only

@@ -1,0 +1,22 @@
+-- No second answer, no second table and no second list satisfies what create and make promise.
+-- Assumes nothing.
+use Prim.Native.Nat.{ℕ}
+use mathlib.Core.Path.{_≡_, sym, _∙_}
+use mathlib.Core.List.{List}
+use Rattle.rules.specs.Words.{Table}
+use Rattle.rules.specs.Results.{createResult, makeResult}
+use Rattle.rules.specs.declared.Verdict.{Verdict}
+use Rattle.rules.proofs.Meanings.{verdict-one}
+use Rattle.making.specs.Promises.{Gives, Created, Made}
+
+module _ {r s : Verdict} {u v : Table} where
+  gives-one : (result : Verdict × Table) → Gives result r u → Gives result s v → (r ≡ s) × (u ≡ v)
+  gives-one result p q = (verdict-one r s (p .answer ∙ sym (q .answer)), p .table ∙ sym (q .table))
+
+  pub created-one : (t : Table) (c k mul1 mul2 : ℕ) → Created t c k mul1 mul2 r u → Created t c k mul1 mul2 s v → (r ≡ s) × (u ≡ v)
+  unfolding Created
+  created-one t c k mul1 mul2 p q = gives-one (createResult t c k mul1 mul2) p q
+
+  pub made-one : (t : Table) (l : List ℕ) (n : ℕ) (m o : List ℕ) → Made t l n r u m → Made t l n s v o → (r ≡ s) × (u ≡ v) × (m ≡ o)
+  unfolding Made
+  made-one t l n m o p q = let g = gives-one (makeResult t l n) (p .0) (q .0) in (g .0, g .1, p .1 ∙ sym (q .1))

@@ -1,0 +1,24 @@
+-- What the two calls that write the table promise on every input: their answer, told by document 01's number, and the table
+-- at exit. "Creation is also the only call that writes the table besides the making of stores."
+-- Here t is the table at entry and u the table at exit; r is the answer.
+-- Assumes nothing.
+use Prim.Native.Nat.{ℕ}
+use mathlib.Core.Path.{_≡_}
+use mathlib.Core.List.{List}
+use Rattle.rules.specs.Words.{Table}
+use Rattle.rules.specs.Answers.{verdictMeans}
+use Rattle.rules.specs.Results.{createResult, makeResult}
+use Rattle.rules.specs.declared.Verdict.{Verdict}
+
+-- the answer means what the rules' answer means, and the table is the rules' table
+pub record Gives (result : Verdict × Table) (r : Verdict) (u : Table) : Type 0 where
+  pub answer : verdictMeans r ≡ verdictMeans (result .0)
+  pub table : u ≡ result .1
+
+-- create
+unfoldable pub Created : Table → ℕ → ℕ → ℕ → ℕ → Verdict → Table → Type 0
+Created t c k mul1 mul2 r u = Gives (createResult t c k mul1 mul2) r u
+
+-- make, of the first n pairs of the list l, which is only read, and stays: m is the list at exit
+unfoldable pub Made : Table → List ℕ → ℕ → Verdict → Table → List ℕ → Type 0
+Made t l n r u m = Gives (makeResult t l n) r u × (m ≡ l)
