@@ -1,0 +1,4 @@
+pub mod Seeking
+pub mod Standings
+pub mod Answered
+mod Turning

@@ -1,0 +1,25 @@
+-- `querying::lookup::lookup_by` meets its contract.
+-- Assumes nothing.
+use mathlib.Core.Path.{ap, _∙_}
+use denote.Ref.{now}
+use Rattle.rules.specs.Places.{hitIn, seek, probes, placesOf, lookup}
+use Rattle.rules.specs.declared.Hashes.{Hashes}
+use Rattle.rules.proofs.PlacesWithin.{places-within}
+use Rattle.querying.proofs.Standings.{seek-within}
+use Rattle.querying.proofs.lookup.lookup_by.Statement.{statement}
+use Rattle.querying.proofs.lookup.lookup_by.Tie as tie
+
+find-requires : tie.Need-find-requires
+find-requires c κs = c .before .pre .0
+
+returns : tie.Need-returns
+unfolding lookup placesOf
+returns c =
+    let s = c .before .before in
+    let a = s .args in (
+      c .find .ensures ∙ ap (λ (x : Hashes). seek (hitIn (now (a .t)) (a .h) (a .key)) 0 (probes (a .h .state) x)) (s .pre .1),
+      rw (c .find .ensures) (seek-within (now (a .t)) (a .h) (a .key) (probes (a .h .state) (a .x)) 0 (λ p i. places-within _ _ (s .pre .0) _ p i)),
+    )
+
+pub lookup-by-spec : {M : Type 1} → statement M
+lookup-by-spec = tie.close (tie.spec find-requires returns)

@@ -1,0 +1,68 @@
+// The lookup of a key: the one search that query, insert, update and delete rest on.
+use super::probing::is_fresh;
+use super::probing::nth_place;
+use super::probing::place_count;
+use reading::places::hashes;
+use reading::slots::key_at;
+use reading::slots::token;
+use reading::tokens::is_taken;
+use rules::Hashes;
+use rules::Header;
+use rules::Lookup;
+use rules::Slot;
+ghost use mathlib.Core.Path.{_≡_};
+ghost use lib.ListN.{length};
+ghost use Rattle.rules.specs.Words.{GoodHeader};
+ghost use Rattle.rules.specs.Places.{hashesOf, probes, hitIn, seek, lookup as lookupOf};
+ghost use Rattle.reading.specs.Within.{Standing};
+
+// "A query stops at the first taken slot with the key. Its probe count is the number of buckets looked at up to and
+// including that one, or all of them when the key is absent." A key is compared where it lies.
+fn find(t: &[u64], h: Header, key: u64, x: Hashes) -> Lookup
+    requires { ⌜ GoodHeader (length (now t)) h ⌝ }
+    ensures { λ r. ⌜ r ≡ seek (hitIn (now (t .entry)) h key) 0 (probes (h .state) x) ⌝ }
+{
+    let state = h.state;
+    let n = place_count(state);
+    let mut answer = Lookup::Absent(0);
+    let mut looked = 0;
+    let mut last = 0;
+    'search: for i in 0..n {
+        let p = nth_place(state, x, i);
+        if is_fresh(i, p.bucket, last) {
+            looked += 1;
+            answer = Lookup::Absent(looked);
+            let word = token(t, p.bucket);
+            for s in 0..4 {
+                if is_taken(h, word, s) {
+                    let at = Slot {
+                        level: p.level,
+                        bucket: p.bucket,
+                        slot: s,
+                    };
+                    if key_at(t, at) == key {
+                        answer = Lookup::Stands(at, looked);
+                        break 'search;
+                    }
+                }
+            }
+        }
+        last = p.bucket;
+    }
+    answer
+}
+
+// The lookup of a key whose hashes are known.
+pub fn lookup_by(t: &[u64], h: Header, key: u64, x: Hashes) -> Lookup
+    requires { ⌜ GoodHeader (length (now t)) h × (x ≡ hashesOf h key) ⌝ }
+    ensures { λ r. ⌜ (r ≡ lookupOf (now (t .entry)) h key) × Standing (now (t .entry)) r ⌝ }
+{
+    find(t, h, key, x)
+}
+
+pub fn lookup(t: &[u64], h: Header, key: u64) -> Lookup
+    requires { ⌜ GoodHeader (length (now t)) h ⌝ }
+    ensures { λ r. ⌜ (r ≡ lookupOf (now (t .entry)) h key) × Standing (now (t .entry)) r ⌝ }
+{
+    lookup_by(t, h, key, hashes(h, key))
+}
