@@ -1,0 +1,116 @@
+-- A bucket's records, and what its token word says of its slots.
+-- Assumes nothing.
+use Prim.Native.Nat.{ℕ, zero, suc, _+_, _≤_, _<_}
+use mathlib.Core.Path.{_≡_, refl, sym, _∙_}
+use mathlib.Core.Bool.{true, false, not}
+use mathlib.Core.List.{List, [], _∷_}
+use mathlib.Core.Option.{none, some, Option·map}
+use native.Mathlib.Nat.{zero-add, add-zero}
+use native.Mathlib.Omega.{arith}
+use borrow.Author.Tests.{lt-ltb, le-ltb}
+use lib.ListN.{length, getD, drop}
+use Rattle.rules.specs.Choice.{given, select}
+use Rattle.rules.specs.Words.{Table, slotAt, slotsIn, keyIn, tokenOf, isTaken, taken}
+use Rattle.rules.specs.Places.{firstPlace, secondPlace}
+use Rattle.rules.specs.Placing.{takenIn, freeSlot, fewer, emptier, roomIn}
+use Rattle.rules.specs.declared.Header.{Header}
+use Rattle.rules.specs.declared.Level.{Level}
+use Rattle.rules.specs.declared.Hashes.{Hashes}
+use Rattle.rules.specs.declared.Place.{Place}
+use Rattle.rules.specs.declared.Slot.{Slot}
+use Rattle.rules.specs.declared.Placing.the-variants.{Free}
+use Rattle.rules.proofs.Lists.{select-length, firstOf-map, firstOf-given}
+use Rattle.rules.proofs.Walks.{from-end}
+use Rattle.rules.proofs.FreeSlots.{taken-count}
+use Rattle.reading.specs.Levels.{placeIn}
+use Rattle.rules.proofs.Lowest.{slot-next, lowest-some, lowest-none}
+use Rattle.placing.specs.Buckets.{itemIn, itemsIn, slots, freeIn, takenOf, lowestFree}
+
+-- ---- the four records
+
+module _ (t : Table) (p : Place) where
+  pub records : {x₀ x₁ x₂ x₃ : Slot} {a b c d : List ℕ} → x₀ ≡ slotAt p 0 → x₁ ≡ slotAt p 1 → x₂ ≡ slotAt p 2 → x₃ ≡ slotAt p 3
+      → a ≡ itemIn t x₀ → b ≡ itemIn t x₁ → c ≡ itemIn t x₂ → d ≡ itemIn t x₃ → a ∷ b ∷ c ∷ d ∷ [] ≡ itemsIn t p
+  unfolding itemsIn slotsIn
+  records e₀ e₁ e₂ e₃ f₀ f₁ f₂ f₃ = rw (f₀, f₁, f₂, f₃, e₀, e₁, e₂, e₃)
+
+  key-of : (s : ℕ) → s < 4 → getD (getD (itemsIn t p) s []) 0 0 ≡ keyIn t (slotAt p s)
+  unfolding itemsIn itemIn slotsIn
+  key-of zero l = refl
+  key-of (suc zero) l = refl
+  key-of (suc (suc zero)) l = refl
+  key-of (suc (suc (suc zero))) l = refl
+  key-of (suc (suc (suc (suc s)))) l = absurd (omega arith)
+
+  pub record-key : {items : List (List ℕ)} → items ≡ itemsIn t p → (s : ℕ) → s < 4 → getD (getD items s []) 0 0 ≡ keyIn t (slotAt p s)
+  record-key e s l = rw e (key-of s l)
+
+-- ---- the slots of a token word
+
+module _ (h : Header) (word : ℕ) where
+  -- the number of taken slots from s on
+  pub takenFrom : ℕ → ℕ
+  takenFrom s = length (select (isTaken h word) (drop s slots))
+
+  pub taken-all : takenOf h word ≡ 0 + takenFrom 0
+  unfolding takenOf takenFrom
+  taken-all = rw zero-add
+
+  module _ (s : ℕ) (l : s < 4) where
+    pub taken-more : (n : ℕ) → isTaken h word s ≡ true → n + takenFrom s ≡ n + 1 + takenFrom (s + 1)
+    unfolding takenFrom
+    taken-more n e = rw (slot-next s l, e) (omega arith)
+
+    pub taken-same : (n : ℕ) → isTaken h word s ≡ false → n + takenFrom s ≡ n + takenFrom (s + 1)
+    unfolding takenFrom
+    taken-same n e = rw (slot-next s l, e)
+
+  module _ (s : ℕ) (l : 4 ≤ s) where
+    pub taken-over : (n : ℕ) → n + takenFrom s ≡ n
+    unfolding takenFrom
+    taken-over n = rw (from-end 0 4 s l, add-zero)
+
+  -- the number tells whether there is a free slot
+  module _ {s : ℕ} (e : s ≡ lowestFree h word) where
+    pub no-free : s ≡ 4 → freeIn h word ≡ none
+    unfolding freeIn lowestFree
+    no-free q = lowest-none (λ (z : ℕ). not (isTaken h word z)) s e (omega arith)
+
+    pub one-free : s < 4 → freeIn h word ≡ some s
+    unfolding freeIn lowestFree
+    one-free l = lowest-some (λ (z : ℕ). not (isTaken h word z)) s e l
+
+-- ---- the slots of a place
+
+module _ (t : Table) (h : Header) (p : Place) where
+  pub free-in : freeSlot t h p ≡ Option·map (slotAt p) (freeIn h (tokenOf t (p .bucket)))
+  unfolding freeSlot freeIn slotsIn taken slotAt
+  free-in =
+      firstOf-map (λ (x : Slot). given (not (taken t h x)) x) (slotAt p) slots
+      ∙ firstOf-given (λ (s : ℕ). not (isTaken h (tokenOf t (p .bucket)) s)) (slotAt p) slots
+
+  pub taken-in : takenIn t h p ≡ takenOf h (tokenOf t (p .bucket))
+  unfolding takenOf taken slotAt
+  taken-in = taken-count t h p ∙ sym (rw (select-length, select-length, select-length, select-length))
+
+-- ---- the free slot of a place, and of a level
+
+module _ (t : Table) (h : Header) (p : Place) {word s : ℕ} (w : word ≡ tokenOf t (p .bucket)) (e : s ≡ lowestFree h word) where
+  pub place-full : s ≡ 4 → none ≡ Option·map Free (freeSlot t h p)
+  place-full q = rw (free-in t h p, ← w, no-free h word e q)
+
+  pub place-free : {x : Slot} → s ≤ 4 → (s ≡ 4 → ⊥) → x ≡ slotAt p s → some (Free x) ≡ Option·map Free (freeSlot t h p)
+  place-free l n g = rw (free-in t h p, ← w, one-free h word e (omega arith), g)
+
+module _ (t : Table) (h : Header) (x : Hashes) (l : Level) {f s : Place} (p : f ≡ placeIn l (x .first)) (q : s ≡ placeIn l (x .second))
+    {v w m n : ℕ} (a : v ≡ tokenOf t (f .bucket)) (b : m ≡ takenOf h v) (c : w ≡ tokenOf t (s .bucket)) (d : n ≡ takenOf h w) where
+  counted : (r : Place) {z k : ℕ} → z ≡ tokenOf t (r .bucket) → k ≡ takenOf h z → takenIn t h r ≡ k
+  counted r e g = taken-in t h r ∙ rw (← e, ← g)
+
+  pub second-emptier : n < m → freeSlot t h s ≡ roomIn t h x l
+  unfolding roomIn emptier fewer firstPlace secondPlace
+  second-emptier g = rw (← p, ← q, counted s c d, counted f a b, lt-ltb _ _ g)
+
+  pub first-emptier : m ≤ n → freeSlot t h f ≡ roomIn t h x l
+  unfolding roomIn emptier fewer firstPlace secondPlace
+  first-emptier g = rw (← p, ← q, counted s c d, counted f a b, le-ltb _ _ g)

@@ -1,0 +1,4 @@
+mod Choosing
+mod Placings
+mod Goals
+mod Moving

@@ -1,0 +1,37 @@
+-- The search for a place as the code goes through it: item by item, bucket by bucket, part by part.
+-- Assumes nothing.
+use mathlib.Core.Bool.{cond}
+use mathlib.Core.List.{List}
+use mathlib.Core.Option.{Option, none, some}
+use Rattle.rules.specs.Choice.{firstOf}
+use Rattle.rules.specs.Words.{Table, slotsIn, keyIn}
+use Rattle.rules.specs.Places.{hashesOf, placesIn}
+use Rattle.rules.specs.Placing.{otherPlace, moveOf}
+use Rattle.rules.specs.declared.Header.{Header}
+use Rattle.rules.specs.declared.Hashes.{Hashes}
+use Rattle.rules.specs.declared.Place.{Place}
+use Rattle.rules.specs.declared.Slot.{Slot}
+use Rattle.rules.specs.declared.Placing.{Placing}
+use Rattle.rules.specs.declared.Placing.the-variants.{Free, Move, Nowhere}
+use Rattle.reading.specs.Levels.{levelOf}
+use Rattle.placing.specs.declared.moves.Way.{Way}
+
+-- what a placing is in the rules' searches, which give nothing where there is no place
+abbrev pub optional : Placing → Option Placing
+optional (Free x) = some (Free x)
+optional (Move from to) = some (Move from to)
+optional Nowhere = none
+
+-- the places tried for an item with hashes y that stands at `from`
+unfoldable pub goalsOf : Way → Hashes → Slot → List Place
+goalsOf w y from = cond (w .up) (placesIn y (levelOf (w .name) (w .e))) (otherPlace y (levelOf (w .name) (w .e)) from)
+
+-- the move of one item, the first of a bucket's items, and the first of some buckets'
+unfoldable pub itemMove : Table → Header → Way → Slot → Option Placing
+itemMove t h w x = moveOf t h (record { item = x; goals = goalsOf w (hashesOf h (keyIn t x)) x })
+
+unfoldable pub bucketMove : Table → Header → Way → Place → Option Placing
+bucketMove t h w p = firstOf (itemMove t h w) (slotsIn p)
+
+unfoldable pub placesMove : Table → Header → Way → List Place → Option Placing
+placesMove t h w ps = firstOf (bucketMove t h w) ps

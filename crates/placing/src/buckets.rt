@@ -1,0 +1,72 @@
+// "A slot is handled as one record of three words, a bucket as four such records." Buckets by value, and what slot choice
+// asks of them.
+use reading::slots::key_at;
+use reading::slots::record_at;
+use reading::tokens::is_taken;
+use rules::Header;
+use rules::Place;
+use rules::Slot;
+ghost use mathlib.Core.Path.{_≡_};
+ghost use Prim.Native.Nat.{_≤_};
+ghost use Rattle.rules.specs.Words.{slotAt};
+ghost use Rattle.reading.specs.Within.{BucketWithin, SlotWithin};
+ghost use Rattle.placing.specs.Buckets.{itemIn, itemsIn, lowestFree, takenOf};
+
+// The record of a slot: key, function, place.
+fn item(t: &[u64], x: Slot) -> [u64; 3]
+    requires { ⌜ SlotWithin (now t) x ⌝ }
+    ensures { λ r. ⌜ r ≡ itemIn (now (t .entry)) x ⌝ }
+{
+    let key = key_at(t, x);
+    let record = record_at(t, x);
+    [key, record.function, record.place]
+}
+
+// Slot s of a place.
+pub fn slot_of(p: Place, s: usize) -> Slot
+    ensures { λ r. ⌜ (r ≡ slotAt p s) × (r .bucket ≡ p .bucket) × (r .slot ≡ s) ⌝ }
+{
+    Slot {
+        level: p.level,
+        bucket: p.bucket,
+        slot: s,
+    }
+}
+
+// The four records of a place.
+pub fn bucket(t: &[u64], p: Place) -> [[u64; 3]; 4]
+    requires { ⌜ BucketWithin (now t) (p .bucket) ⌝ }
+    ensures { λ r. ⌜ r ≡ itemsIn (now (t .entry)) p ⌝ }
+{
+    [
+        item(t, slot_of(p, 0)),
+        item(t, slot_of(p, 1)),
+        item(t, slot_of(p, 2)),
+        item(t, slot_of(p, 3)),
+    ]
+}
+
+// The "lowest free slot" of a bucket with that token word: its number, or 4, one past the last record, where there is none.
+pub fn lowest_free(h: Header, word: u64, items: [[u64; 3]; 4]) -> usize
+    ensures { λ r. ⌜ (r ≡ lowestFree h word) × (r ≤ 4) ⌝ }
+{
+    for s in 0..items.len() {
+        if !is_taken(h, word, s) {
+            return s;
+        }
+    }
+    items.len()
+}
+
+// How many slots a token word says are taken.
+pub fn taken_count(h: Header, word: u64) -> u64
+    ensures { λ r. ⌜ r ≡ takenOf h word ⌝ }
+{
+    let mut count = 0;
+    for s in 0..4 {
+        if is_taken(h, word, s) {
+            count += 1;
+        }
+    }
+    count
+}

@@ -1,0 +1,48 @@
+// A free slot in a level: "the place with fewer taken slots (tie: first place), lowest free slot".
+use super::buckets::bucket;
+use super::buckets::lowest_free;
+use super::buckets::slot_of;
+use super::buckets::taken_count;
+use reading::places::place;
+use reading::slots::token;
+use rules::Hashes;
+use rules::Header;
+use rules::Place;
+use rules::Placing;
+ghost use mathlib.Core.Path.{_≡_};
+ghost use mathlib.Core.Option.{Option·map};
+ghost use Rattle.rules.specs.Placing.{freeSlot, roomIn};
+ghost use Rattle.rules.specs.declared.Placing.the-variants.{Free as free};
+ghost use Rattle.reading.specs.Levels.{levelOf};
+ghost use Rattle.reading.specs.Within.{BucketWithin, PlacingWithin};
+ghost use Rattle.placing.specs.Within.{LevelWithin};
+ghost use Rattle.placing.specs.Search.{optional};
+
+// The "lowest free slot" of a place.
+pub fn free_slot(t: &[u64], h: Header, p: Place) -> Placing
+    requires { ⌜ BucketWithin (now t) (p .bucket) ⌝ }
+    ensures { λ r. ⌜ (optional r ≡ Option·map free (freeSlot (now (t .entry)) h p)) × PlacingWithin (now (t .entry)) r ⌝ }
+{
+    let word = token(t, p.bucket);
+    let items = bucket(t, p);
+    let s = lowest_free(h, word, items);
+    if s == items.len() {
+        return Placing::Nowhere;
+    }
+    Placing::Free(slot_of(p, s))
+}
+
+// The same of the emptier of a key's two places in the level of that name with 2^e buckets. Where they coincide they tie.
+pub fn room(t: &[u64], h: Header, x: Hashes, name: u64, e: u64) -> Placing
+    requires { ⌜ LevelWithin (now t) e ⌝ }
+    ensures { λ r. ⌜ (optional r ≡ Option·map free (roomIn (now (t .entry)) h x (levelOf name e))) × PlacingWithin (now (t .entry)) r ⌝ }
+{
+    let first = place(x.first, name, e);
+    let second = place(x.second, name, e);
+    let in_first = taken_count(h, token(t, first.bucket));
+    let in_second = taken_count(h, token(t, second.bucket));
+    if in_second < in_first {
+        return free_slot(t, h, second);
+    }
+    free_slot(t, h, first)
+}
