@@ -1,0 +1,3 @@
+pub mod Runs
+pub mod Placings
+pub mod Outcomes

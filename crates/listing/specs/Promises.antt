@@ -1,0 +1,29 @@
+-- What a changing call or recovery promises: the number and stores that document 01 fixes, and what the list holds at exit, on
+-- every table, list and key. The table is only read, and stays: u is the table at exit.
+-- Assumes nothing.
+use Prim.Native.Nat.{ℕ}
+use mathlib.Core.Path.{_≡_}
+use mathlib.Core.List.{List}
+use Rattle.rules.specs.Words.{Table}
+use Rattle.rules.specs.Answers.{changeMeans, steppedMeans}
+use Rattle.rules.specs.Calls.{Outcome, Call}
+use Rattle.rules.specs.Results.{changeOf, listAfter, changeResult, stepResult}
+use Rattle.rules.specs.declared.Change.{Change}
+use Rattle.rules.specs.declared.Stepped.{Stepped}
+
+-- insert, update, delete, begin, end, recover: call q on table t with list l answers r and leaves table u and list m
+pub record Changed (q : Call) (t : Table) (l : List ℕ) (r : Change) (u : Table) (m : List ℕ) : Type 0 where
+  pub answer : changeMeans r ≡ changeMeans (changeResult t l q .0)
+  pub table : u ≡ t
+  pub list : m ≡ changeResult t l q .1
+
+-- step: the same, with the placing in its answer
+pub record StepTaken (t : Table) (l : List ℕ) (r : Stepped) (u : Table) (m : List ℕ) : Type 0 where
+  pub answer : steppedMeans r ≡ steppedMeans (stepResult t l .0)
+  pub table : u ≡ t
+  pub list : m ≡ stepResult t l .1
+
+-- what the calls' own inner functions promise, behind the first tests: the answer and list of an outcome
+pub record Did (o : Outcome) (l : List ℕ) (r : Change) (m : List ℕ) : Type 0 where
+  pub answer : r ≡ changeOf o
+  pub list : m ≡ listAfter o l

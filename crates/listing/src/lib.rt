@@ -1,0 +1,110 @@
+// Writing stores to a lent list, in order, as pairs: word index, new word. Each function writes from pair `at` on and
+// answers the next free pair.
+use reading::slots::key_at;
+use reading::slots::key_word;
+use reading::slots::record_at;
+use reading::slots::token;
+use reading::slots::token_word;
+use reading::tokens::hide;
+use reading::tokens::show;
+use rules::Header;
+use rules::Placing;
+use rules::Record;
+use rules::Slot;
+ghost use mathlib.Core.Path.{_≡_};
+ghost use mathlib.Core.List.{[], _∷_};
+ghost use Prim.Native.Nat.{_+_, _^_, _≤_, _<_};
+ghost use lib.ListN.{length};
+ghost use Rattle.rules.specs.Words.{keyWord};
+ghost use Rattle.rules.specs.Stores.{putStores, clearStores, moveStores, placingStores, redoStores};
+ghost use Rattle.reading.specs.Within.{SlotWithin};
+ghost use Rattle.listing.specs.Listing.{listedAt, Run, Addressed, Takes};
+
+// "pairs: word index, new word"
+pub fn store(list: &mut [u64], at: usize, index: usize, word: u64) -> usize
+    requires { ⌜ (20 ≤ length (now list)) × (at + 1 ≤ 10) ⌝ }
+    ensures { λ n. ⌜ (n ≡ at + 1) × (now (list .exit) ≡ listedAt (now (list .entry)) at ((index, word) ∷ [])) ⌝ }
+{
+    list[2 * at] = index as u64;
+    list[2 * at + 1] = word;
+    at + 1
+}
+
+// "key, function, place, token", where the bucket's token word is `word`
+pub fn put(list: &mut [u64], at: usize, h: Header, word: u64, x: Slot, key: u64, r: Record) -> usize
+    requires { ⌜ (20 ≤ length (now list)) × (at + 4 ≤ 10) × Addressed x ⌝ }
+    ensures { λ n. ⌜ (n ≡ at + 4) × (now (list .exit) ≡ listedAt (now (list .entry)) at (putStores h word x key r)) ⌝ }
+{
+    let first = key_word(x);
+    let last = token_word(x.bucket);
+    let shown = show(h, word, x.slot, key);
+    let second = store(list, at, first, key);
+    let third = store(list, second, first + 1, r.function);
+    let fourth = store(list, third, first + 2, r.place);
+    store(list, fourth, last, shown)
+}
+
+// "token cleared", where the bucket's token word is `word`
+pub fn clear(list: &mut [u64], at: usize, h: Header, word: u64, x: Slot) -> usize
+    requires { ⌜ (20 ≤ length (now list)) × (at + 1 ≤ 10) × Addressed x ⌝ }
+    ensures { λ n. ⌜ (n ≡ at + 1) × (now (list .exit) ≡ listedAt (now (list .entry)) at (clearStores h word x)) ⌝ }
+{
+    store(list, at, token_word(x.bucket), hide(h, word, x.slot))
+}
+
+// "function, place in the slot; flag 0"
+pub fn redo(list: &mut [u64], at: usize, x: Slot, r: Record) -> usize
+    requires { ⌜ (20 ≤ length (now list)) × (at + 3 ≤ 10) × Addressed x ⌝ }
+    ensures { λ n. ⌜ (n ≡ at + 3) × (now (list .exit) ≡ listedAt (now (list .entry)) at (redoStores x r)) ⌝ }
+{
+    let key = key_word(x);
+    let second = store(list, at, key + 1, r.function);
+    let third = store(list, second, key + 2, r.place);
+    store(list, third, 5, 0)
+}
+
+// "words 6, 7, 8; flag 1", where "Word 6 holds the index of the slot's key word."
+pub fn log(list: &mut [u64], at: usize, x: Slot, r: Record) -> usize
+    requires { ⌜ (20 ≤ length (now list)) × (at + 4 ≤ 10) × Addressed x ⌝ }
+    ensures { λ n. ⌜ (n ≡ at + 4) × (now (list .exit) ≡ listedAt (now (list .entry)) at ((6, keyWord x) ∷ (7, r .function) ∷ (8, r .place) ∷ (5, 1) ∷ [])) ⌝ }
+{
+    let second = store(list, at, 6, key_word(x) as u64);
+    let third = store(list, second, 7, r.function);
+    let fourth = store(list, third, 8, r.place);
+    store(list, fourth, 5, 1)
+}
+
+// A move: "the item's three words and token at its new slot; old token cleared"
+fn moved(t: &[u64], list: &mut [u64], h: Header, from: Slot, to: Slot) -> usize
+    requires { ⌜ (20 ≤ length (now list)) × (length (now t) < 2 ^ 32) × SlotWithin (now t) from × SlotWithin (now t) to ⌝ }
+    ensures { λ n. ⌜ (n ≡ 5) × (now (list .exit) ≡ listedAt (now (list .entry)) 0 (moveStores (now (t .entry)) h from to)) ⌝ }
+{
+    let key = key_at(t, from);
+    let record = record_at(t, from);
+    let word = token(t, to.bucket);
+    let copied = put(list, 0, h, word, to, key, record);
+    let cleared = clear(list, copied, h, token(t, from.bucket), from);
+    cleared
+}
+
+// The stores of a placing by which a key and its record take slot x: a put, or "a move of one slot to another" and a put in
+// the slot that it freed.
+pub fn placed(
+    t: &[u64],
+    list: &mut [u64],
+    h: Header,
+    p: Placing,
+    x: Slot,
+    key: u64,
+    r: Record,
+) -> usize
+    requires { ⌜ (20 ≤ length (now list)) × (length (now t) < 2 ^ 32) × Takes (now t) p x ⌝ }
+    ensures { λ n. ⌜ Run n (now (list .entry)) (now (list .exit)) (placingStores (now (t .entry)) h p key r) × (n ≤ 9) ⌝ }
+{
+    let word = token(t, x.bucket);
+    if let Placing::Move(from, to) = p {
+        let at = moved(t, list, h, from, to);
+        return put(list, at, h, hide(h, word, x.slot), x, key, r);
+    }
+    put(list, 0, h, word, x, key, r)
+}
