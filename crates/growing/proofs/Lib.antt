@@ -1,0 +1,3 @@
+pub mod FirstItem
+pub mod Growth
+pub mod Stepping

@@ -1,0 +1,67 @@
+-- `growing::step_at` meets its contract.
+-- Assumes nothing.
+use mathlib.Core.Path.{sym, _∙_}
+use borrow.Author.Tests.{ne-eqb}
+use Rattle.rules.specs.Words.{atRest}
+use Rattle.growing.proofs.Growth.{is-empty}
+use Rattle.growing.proofs.Stepping.{item-none, item-some, step-resting, step-empty, step-on, did-step-refuse}
+use borrow.Author.Needs.{needs}
+use Rattle.growing.proofs.step_at.Statement.{statement}
+use Rattle.growing.proofs.step_at.Tie as tie
+
+unplaced-requires : tie.Need-unplaced-requires
+unplaced-requires c κs = search needs
+
+returns : tie.Need-returns
+returns c = did-step-refuse _ _ _ (step-resting _ _ (c .before .if1 .taken)) (c .unplaced .ensures)
+
+first-item-requires : tie.Need-first-item-requires
+unfolding atRest
+first-item-requires c κs = (c .before .before .before .before .before .pre .1, ne-eqb _ _ (c .if1 .left))
+
+enum-known-item : tie.Need-enum-known-item
+enum-known-item c = search needs
+
+enum-told : tie.Need-enum-told
+enum-told c = search needs
+
+unplaced-requires-2 : tie.Need-unplaced-requires-2
+unplaced-requires-2 c κs = search needs
+
+returns-2 : tie.Need-returns-2
+returns-2 c =
+    let m = c .before .before in
+    let f = m .before in
+    did-step-refuse _ _ _ (step-empty _ _ (f .before .if1 .left) (item-none _ (sym (f .first-item .ensures .0) ∙ is-empty _ (m .match .keys2)))) (c .unplaced2 .ensures)
+
+step-item-requires : tie.Need-step-item-requires
+step-item-requires c κs =
+    let i = c .before .before in
+    let f = i .before .before in
+    let s = f .before .before .before .before .before .before in
+    (s .pre .0, s .pre .1, rw (i .item .given .1) at (f .first-item .ensures .1), item-some _ (sym (f .first-item .ensures .0) ∙ i .item .given .1))
+
+same-length : tie.Need-same-length
+same-length c = search needs
+
+returns-3 : tie.Need-returns-3
+returns-3 c =
+    let d = c .before .before in
+    let i = d .before .before .before in
+    let f = i .before .before in
+    rw (← (step-on _ _ (f .before .if1 .left) (item-some _ (sym (f .first-item .ensures .0) ∙ i .item .given .1)))) (d .step-item .ensures)
+
+pub step-at-spec : {M : Type 1} → statement M
+step-at-spec =
+    tie.close
+    (tie.spec
+    unplaced-requires
+    returns
+    first-item-requires
+    enum-known-item
+    enum-told
+    unplaced-requires-2
+    returns-2
+    step-item-requires
+    same-length
+    returns-3)

@@ -1,0 +1,2 @@
+pub mod Interim
+pub mod Steps

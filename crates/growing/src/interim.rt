@@ -1,0 +1,47 @@
+// The item that a growth step takes: "the first taken interim slot (bucket, then slot ascending)".
+use reading::slots::token;
+use reading::tokens::is_taken;
+use rules::Header;
+use rules::Slot;
+use words::power;
+ghost use mathlib.Core.Path.{_≡_};
+ghost use mathlib.Core.Bool.{false};
+ghost use lib.ListN.{length};
+ghost use Rattle.rules.specs.Words.{GoodHeader, atRest};
+ghost use Rattle.rules.specs.Calls.{stepItem};
+ghost use Rattle.growing.specs.Interim.{lowestTaken, itemOf, ItemWithin};
+
+pub enum Item {
+    At(Slot),
+    Empty,
+}
+
+fn lowest_taken(h: Header, word: u64) -> usize
+    ensures { λ r. ⌜ r ≡ lowestTaken h word ⌝ }
+{
+    for s in 0..4 {
+        if is_taken(h, word, s) {
+            return s;
+        }
+    }
+    4
+}
+
+pub fn first_item(t: &[u64], h: Header) -> Item
+    requires { ⌜ GoodHeader (length (now t)) h × (atRest (h .state) ≡ false) ⌝ }
+    ensures { λ r. ⌜ (r ≡ itemOf (stepItem (now (t .entry)) h)) × ItemWithin (now (t .entry)) r ⌝ }
+{
+    let m = power(h.state.k - 2);
+    for i in 0..m {
+        let j = m - 1 + i;
+        let s = lowest_taken(h, token(t, j));
+        if s < 4 {
+            return Item::At(Slot {
+                level: 2,
+                bucket: j,
+                slot: s,
+            });
+        }
+    }
+    Item::Empty
+}
