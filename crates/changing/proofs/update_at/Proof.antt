@@ -1,0 +1,49 @@
+-- `changing::update_at` meets its contract.
+-- Assumes nothing.
+use native.Mathlib.Omega.{arith}
+use Rattle.rules.proofs.Headers.{table-small}
+use Rattle.listing.proofs.Outcomes.{did-list, did-refuse, did-as}
+use Rattle.changing.proofs.Changes.{is-absent, update-absent, update-listed}
+use borrow.Author.Needs.{needs}
+use Rattle.changing.proofs.update_at.Statement.{statement}
+use Rattle.changing.proofs.update_at.Tie as tie
+
+lookup-requires : tie.Need-lookup-requires
+lookup-requires c κs = search needs
+
+enum-told : tie.Need-enum-told
+enum-told c = search needs
+
+enum-known-found : tie.Need-enum-known-found
+enum-known-found c = search needs
+
+renewed-requires : tie.Need-renewed-requires
+renewed-requires c κs =
+    let f = c .before .before in
+    let s = f .before .before .before .before .before in
+    (s .pre .0, table-small _ _ (s .pre .1), rw (f .found .given .1) at (f .before .before .lookup .ensures .1))
+
+returns : tie.Need-returns
+returns c = let d = c .before .before in did-as (update-absent _ _ _ (d .lookup .ensures .0) _ (is-absent _ (c .before .match .keys1) .1)) (did-refuse _ _)
+
+same-length : tie.Need-same-length
+same-length c = search needs
+
+returns-2 : tie.Need-returns-2
+returns-2 c =
+    let d = c .before .before in
+    let f = d .before .before .before in
+    did-as (update-listed _ _ _ (f .before .before .lookup .ensures .0) _ (f .found .given .1))
+    (did-list (d .renewed .ensures .0) (f .before .before .before .before .before .pre .0) (omega (arith, d .renewed .ensures .0 .0, d .renewed .ensures .1)))
+
+pub update-at-spec : {M : Type 1} → statement M
+update-at-spec =
+    tie.close
+    (tie.spec
+    lookup-requires
+    enum-told
+    enum-known-found
+    renewed-requires
+    returns
+    same-length
+    returns-2)
