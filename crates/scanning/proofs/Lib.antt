@@ -1,0 +1,2 @@
+mod Meeting
+pub mod Told

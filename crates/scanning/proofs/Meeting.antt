@@ -1,0 +1,139 @@
+-- The tests of the scan, as the code makes them one after the other.
+-- Assumes nothing.
+use Prim.Native.Nat.{ℕ, _+_, _-_, _^_, _≤_, _<_}
+use mathlib.Core.Path.{_≡_, _∙_}
+use mathlib.Core.Bool.{true, false, or-false}
+use mathlib.Core.List.{List, [], _∷_, map, flatMap, foldl, foldl-map, List·Memᴰ as In}
+use lib.ListN.{length, getD, take, drop}
+use lib.Dec.{ltb}
+use borrow.Author.Tests.{le-ltb, eq-eqb, ne-eqb}
+use native.Mathlib.Omega.{arith}
+use Rattle.rules.specs.Choice.{any, from}
+use Rattle.rules.specs.Words.{Table, atRest, topOf, bottomOf, interimOf, levelsInUse, bucketsOf, slotAt, slotsIn, placeOf, placeAt, slotsOf, slotsInUse, isTaken, tokenOf, taken, keyIn}
+use Rattle.rules.specs.Places.{hashesOf, samePlace, probes, placesOf, holds}
+use Rattle.rules.specs.declared.Header.{Header}
+use Rattle.rules.specs.declared.Hashes.{Hashes}
+use Rattle.rules.specs.declared.Place.{Place}
+use Rattle.rules.specs.declared.Slot.{Slot}
+use Rattle.reading.specs.Levels.{levelOf}
+use Rattle.rules.proofs.Loops.{foldFrom, fold-whole, within, fold-within}
+use Rattle.rules.proofs.Walks.{first-next, first-end, among-first}
+use Rattle.rules.specs.Copies.{isBefore, isCopy, slotsFor}
+use Rattle.scanning.specs.declared.copies.Scan.{Scan}
+use Rattle.scanning.specs.declared.copies.Scan.the-variants.{Clear, Spoilt}
+use Rattle.scanning.specs.Scans.{metOf, copyMet, itemMet, slotMet, scanOf}
+
+-- ---- "by top, bottom, interim, then bucket and slot ascending"
+
+module _ (x y : Slot) where
+  pub by-level : (x .level ≡ y .level → ⊥) → ltb (x .level) (y .level) ≡ isBefore x y
+  unfolding isBefore
+  by-level n = rw (ne-eqb _ _ n, or-false)
+
+  pub by-bucket : x .level ≡ y .level → (x .bucket ≡ y .bucket → ⊥) → ltb (x .bucket) (y .bucket) ≡ isBefore x y
+  unfolding isBefore
+  by-bucket e n = rw (le-ltb (x .level) (y .level) (omega arith), eq-eqb _ _ e, ne-eqb _ _ n, or-false)
+
+  pub by-slot : x .level ≡ y .level → x .bucket ≡ y .bucket → ltb (x .slot) (y .slot) ≡ isBefore x y
+  unfolding isBefore
+  by-slot e f = rw (le-ltb (x .level) (y .level) (omega arith), eq-eqb _ _ e, le-ltb (x .bucket) (y .bucket) (omega arith), eq-eqb _ _ f)
+
+-- ---- a later copy
+
+module _ (t : Table) (h : Header) (key : ℕ) (x y : Slot) {word : ℕ} (w : word ≡ tokenOf t (y .bucket)) where
+  pub copy-free : isTaken h word (y .slot) ≡ false → false ≡ isCopy t h key x y
+  unfolding isCopy holds taken
+  copy-free e = rw (← w, e)
+
+  pub copy-other : isTaken h word (y .slot) ≡ true → (keyIn t y ≡ key → ⊥) → false ≡ isCopy t h key x y
+  unfolding isCopy holds taken
+  copy-other e n = rw (← w, e, ne-eqb _ _ n)
+
+  pub copy-ordered : isTaken h word (y .slot) ≡ true → keyIn t y ≡ key → isBefore x y ≡ isCopy t h key x y
+  unfolding isCopy holds taken
+  copy-ordered e q = rw (← w, e, eq-eqb _ _ q)
+
+-- slot y of a bucket, where it is a later copy and where it is not
+module _ (t : Table) (h : Header) (key : ℕ) (x y : Slot) (found : Scan) where
+  pub copy-yes : isCopy t h key x y ≡ true → copyMet t h key x found y ≡ metOf found x y
+  unfolding copyMet
+  copy-yes e = rw e
+
+  pub copy-no : isCopy t h key x y ≡ false → copyMet t h key x found y ≡ found
+  unfolding copyMet
+  copy-no e = rw e
+
+-- ---- the places of a key, an array of six of which the first n count
+
+abbrev pub nowhere : Place
+nowhere = record { level = 0; bucket = 0 }
+
+module _ (n : ℕ) (ps : List Place) (most : n ≤ 6) (six : length ps ≡ 6) (i : ℕ) where
+  pub place-next : i < n → drop i (take n ps) ≡ getD ps i nowhere ∷ drop (i + 1) (take n ps)
+  place-next l = first-next nowhere n ps (omega arith) i l
+
+  pub place-end : n ≤ i → drop i (take n ps) ≡ []
+  place-end l = first-end nowhere n ps (omega arith) i l
+
+  pub place-among : i < n → In (getD ps i nowhere) (take n ps)
+  place-among l = among-first nowhere n ps (omega arith) i l
+
+-- ---- a taken slot
+
+module _ (t : Table) (h : Header) (x : Slot) (found : Scan) {key : ℕ} (k : key ≡ keyIn t x) {y : Hashes} (e : y ≡ hashesOf h key) {ps : List Place} (q : ps ≡ probes (h .state) y) where
+  places : ps ≡ placesOf h (keyIn t x)
+  unfolding placesOf
+  places = rw (q, e, k)
+
+  -- "each taken slot in a place of its key"
+  pub item-misplaced : any (map (samePlace (placeOf x)) ps) ≡ false → Spoilt ≡ itemMet t h found x
+  unfolding itemMet
+  item-misplaced f = rw (← places, f)
+
+  pub item-placed : any (map (samePlace (placeOf x)) ps) ≡ true → foldl (copyMet t h key x) found (flatMap slotsIn ps) ≡ itemMet t h found x
+  unfolding itemMet slotsFor
+  item-placed f = rw (← places, f, ← k)
+
+-- slot s of a bucket with this token word
+module _ (t : Table) (h : Header) (p : Place) (s : ℕ) (found : Scan) {word : ℕ} (w : word ≡ tokenOf t (p .bucket)) where
+  pub slot-taken : isTaken h word s ≡ true → slotMet t h found (slotAt p s) ≡ itemMet t h found (slotAt p s)
+  unfolding slotMet slotAt taken
+  slot-taken e = rw (← w, e)
+
+  pub slot-free : isTaken h word s ≡ false → slotMet t h found (slotAt p s) ≡ found
+  unfolding slotMet slotAt taken
+  slot-free e = rw (← w, e)
+
+-- ---- the buckets of a level
+
+-- slot by slot, bucket by bucket
+pub levelMet : Table → Header → ℕ → ℕ → Scan → ℕ → Scan
+levelMet t h name e found j = foldl (slotMet t h) found (slotsIn (placeAt (levelOf name e) j))
+
+module _ (t : Table) (h : Header) (name e : ℕ) (found : Scan) {size : ℕ} (power : size ≡ 2 ^ e) where
+  pub level-whole : foldl (slotMet t h) found (slotsOf (levelOf name e)) ≡ foldFrom (levelMet t h name e) found (from (size - 1) size) 0
+  unfolding levelMet slotsOf bucketsOf
+  level-whole =
+      rw power
+      (fold-within (slotMet t h) slotsIn found (map (placeAt (levelOf name e)) (from (2 ^ e - 1) (2 ^ e)))
+      ∙ foldl-map (placeAt (levelOf name e)) (within (slotMet t h) slotsIn) (from (2 ^ e - 1) (2 ^ e)) found
+      ∙ fold-whole (levelMet t h name e) found (from (2 ^ e - 1) (2 ^ e)))
+
+pub bucket-met : (t : Table) (h : Header) (name e : ℕ) (found : Scan) (p : Place) → p .level ≡ name → foldl (slotMet t h) found (slotsIn p) ≡ levelMet t h name e found (p .bucket)
+unfolding levelMet placeAt
+bucket-met t h name e found p q = rw (← q)
+
+-- ---- the levels in use
+
+module _ (t : Table) (h : Header) {a b : Scan} (e : a ≡ foldl (slotMet t h) Clear (slotsOf (levelOf 0 (h .state .k)))) (f : b ≡ foldl (slotMet t h) a (slotsOf (levelOf 1 (h .state .k - 1)))) where
+  levels : scanOf t h ≡ foldl (within (slotMet t h) slotsOf) Clear (levelsInUse (h .state))
+  unfolding scanOf slotsInUse
+  levels = fold-within (slotMet t h) slotsOf Clear (levelsInUse (h .state))
+
+  pub scan-resting : h .state .phase ≡ 0 → b ≡ scanOf t h
+  unfolding levelsInUse topOf bottomOf atRest
+  scan-resting q = rw (levels, eq-eqb _ _ q, ← e, ← f)
+
+  pub scan-growing : {d : Scan} → (h .state .phase ≡ 0 → ⊥) → d ≡ foldl (slotMet t h) b (slotsOf (levelOf 2 (h .state .k - 2))) → d ≡ scanOf t h
+  unfolding levelsInUse topOf bottomOf interimOf atRest
+  scan-growing n g = rw (levels, ne-eqb _ _ n, ← e, ← f, ← g)
