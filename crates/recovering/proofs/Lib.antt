@@ -1,0 +1,4 @@
+mod Unused
+mod Word6
+mod Deciding
+mod Recovery
