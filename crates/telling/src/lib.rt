@@ -1,0 +1,132 @@
+// Answers as text on standard output, in document 01's numbers and values: "a definition tells you this paper's number and
+// values for each of its cases". Each answer begins with a colon.
+use rules::Change;
+use rules::Placing;
+use rules::Query;
+use rules::Refusal;
+use rules::Slot;
+use rules::Verdict;
+ghost use mathlib.Core.Path.{_≡_};
+ghost use Rattle.rules.specs.Answers.{numberOf};
+
+// What a list is filled with before a call, so that a word which the call has written is seen.
+pub const UNWRITTEN: u64 = 77;
+
+pub fn say(text: &[u8]) {
+    io::write_all(1, text);
+}
+
+pub fn tell(n: u64) {
+    say(b" ");
+    io::print_decimal(1, n);
+}
+
+// The numbers of document 01's table.
+pub fn number(refusal: Refusal) -> u64
+    ensures { λ r. ⌜ r ≡ numberOf refusal ⌝ }
+{
+    match refusal {
+        Refusal::BadHeader => 1,
+        Refusal::ShortList => 2,
+        Refusal::FlagSet => 3,
+        Refusal::KeyPresent => 4,
+        Refusal::KeyAbsent => 5,
+        Refusal::NoPlace => 6,
+        Refusal::AlreadyGrowing => 7,
+        Refusal::NotGrowing => 8,
+        Refusal::AtCapacity => 9,
+        Refusal::InterimTaken => 10,
+        Refusal::InterimEmpty => 11,
+        Refusal::NoKind => 12,
+        Refusal::BadCreation => 13,
+        Refusal::BadMaking => 14,
+    }
+}
+
+// An answer's number, "0 is success", which its values follow.
+fn outcome(number: u64) {
+    say(b":");
+    tell(number);
+}
+
+// Words `from` to `to` − 1, as far as they are there.
+pub fn words(w: &[u64], from: usize, to: usize) {
+    say(b":");
+    let mut i = from;
+    while i < to {
+        if w.len() <= i {
+            return;
+        }
+        tell(w[i]);
+        i += 1;
+    }
+}
+
+// "A changing call or recovery that succeeds writes only the list's first 2·stores words", and a refusal none: a word that
+// was written beyond them is told too.
+fn stores(list: &[u64], count: u64) {
+    tell(count);
+    for i in 0..list.len() {
+        if i as u64 / 2 < count || list[i] != UNWRITTEN {
+            tell(list[i]);
+        }
+    }
+}
+
+pub fn change(list: &[u64], answer: Change) {
+    match answer {
+        Change::Listed(count) => {
+            outcome(0);
+            stores(list, count);
+        }
+        Change::Refused(refusal) => {
+            outcome(number(refusal));
+            stores(list, 0);
+        }
+    }
+}
+
+pub fn query(answer: Query) {
+    match answer {
+        Query::Known(r, probes) => {
+            outcome(0);
+            tell(r.function);
+            tell(r.place);
+            tell(probes);
+        }
+        Query::Unknown(refusal, probes) => {
+            outcome(number(refusal));
+            say(b" 0 0");
+            tell(probes);
+        }
+    }
+}
+
+pub fn verdict(answer: Verdict) {
+    match answer {
+        Verdict::Done => outcome(0),
+        Verdict::Denied(refusal) => outcome(number(refusal)),
+    }
+}
+
+fn slot(x: Slot) {
+    tell(x.level);
+    tell(x.bucket as u64);
+    tell(x.slot as u64);
+}
+
+// The slot that the item takes; with a move, the slot that the moved item goes to besides.
+pub fn placing(p: Placing) {
+    match p {
+        Placing::Free(x) => {
+            say(b" free");
+            slot(x);
+        }
+        Placing::Move(x, y) => {
+            say(b" move");
+            slot(x);
+            slot(y);
+        }
+        Placing::Nowhere => say(b" nowhere"),
+    }
+}
