@@ -4,16 +4,16 @@
 -- Assumes nothing.
 use Prim.Native.Nat.{ℕ, _<_}
 use mathlib.Core.Path.{_≡_, refl, sym, ap, _∙_}
-use mathlib.Core.Bool.{Bool, true, _&&_, _||_}
+use mathlib.Core.Bool.{true}
 use mathlib.Core.List.{List, [], _∷_, map, flatMap, List·Memᴰ as In, Memᴰ·cast}
 use mathlib.Core.Logic.{Iff·rfl, inl, inr}
 use mathlib.Core.Option.{Option, none, some}
 use native.Mathlib.Omega.{arith}
 use lib.ListN.{length}
-use lib.Dec.{ltb, eqb}
+use lib.Dec.{eqb}
 use borrow.Author.Tests.{eqb-true, eqb-false}
 use Rattle.rules.specs.Choice.{all, given, select}
-use Rattle.rules.specs.Words.{Table, GoodHeader, GoodState, headerOf, targetOf, slotsIn, placeOf, tokenWord, keyWord, keyIn, taken}
+use Rattle.rules.specs.Words.{Table, GoodHeader, GoodState, headerOf, targetOf, slotsIn, placeOf, keyWord, keyIn, taken}
 use Rattle.rules.specs.Places.{placesOf, holds}
 use Rattle.rules.specs.Soundness.{takenSlots, inPlace, Before, twins, whenStill, target, whenFlagged}
 use Rattle.rules.specs.Copies.{isBefore, slotsFor, isCopy}
@@ -23,6 +23,7 @@ use Rattle.rules.specs.declared.Slot.{Slot}
 use Rattle.rules.specs.declared.Finding.the-variants.{Neither}
 use Rattle.rules.proofs.Lists.{firstOf-some, firstOf-none, given-some, given-none, select-in, in-select, flatMap-in, in-flatMap, ascending-flatMap, ascending-select, NoRepeat}
 use Rattle.rules.proofs.Tests.{Tells, tells-lt, tells-eq, tells-and, tells-or, tells-all}
+use Rattle.rules.proofs.Addresses.{key-word-one}
 use Rattle.rules.proofs.Alike.{Alike, alike-members}
 use Rattle.rules.proofs.FreeSlots.{slot-place}
 use Rattle.rules.proofs.SlotsInUse.{place-ascends, slots-of-place}
@@ -31,7 +32,7 @@ use Rattle.rules.proofs.Twins.{slots-apart, taken-in, in-taken, taken-a
 
 -- ---- the order of slots as a test
 
-pub before-tells : (x y : Slot) → Tells (isBefore x y) (Before x y)
+before-tells : (x y : Slot) → Tells (isBefore x y) (Before x y)
 unfolding isBefore
 before-tells x y = tells-or _ _ (tells-lt _ _) (tells-and _ _ (tells-eq _ _) (tells-or _ _ (tells-lt _ _) (tells-and _ _ (tells-eq _ _) (tells-lt _ _))))
 
@@ -128,11 +129,6 @@ flagged-alike o xs ys (inr m) = several o xs (m .0) ∙ sym (several o ys (m .1)
     several (some x) (p ∷ l) m = refl
 
 -- ---- word 6 tells its slot
-
--- "Bucket j starts at word 9 + 13j"; "Slot s starts at offset 1 + 3s."
-pub key-word-one : (x y : Slot) → x .slot < 4 → y .slot < 4 → keyWord x ≡ keyWord y → (x .bucket ≡ y .bucket) × (x .slot ≡ y .slot)
-unfolding keyWord tokenWord
-key-word-one x y a b e = let bucket : x .bucket ≡ y .bucket = omega arith in (bucket, omega arith)
 
 module _ (t : Table) where
   named : Slot → Option Slot

@@ -3,13 +3,13 @@
 -- Assumes nothing.
 use Prim.Native.Nat.{_+_, _<_}
 use mathlib.Core.Path.{_≡_, ap, _∙_}
-use mathlib.Core.Bool.{true, false, not}
+use mathlib.Core.Bool.{Bool, true, false, not}
 use mathlib.Core.List.{[], _∷_, _++_, List·Memᴰ as In, List·Memᴰ·cases-cons, List·Memᴰ·append-cases}
 use mathlib.Core.Logic.{_⊎_, inl, inr}
 use mathlib.Core.Option.{none, some}
 use native.Mathlib.Omega.{arith}
 use borrow.Author.Tests.{not-true, not-false}
-use Rattle.rules.specs.Choice.{given}
+use Rattle.rules.specs.Choice.{given, firstOf}
 use Rattle.rules.specs.Words.{Table, slotAt, slotsIn, placeOf, taken}
 use Rattle.rules.specs.Placing.{takenIn, freeSlot}
 use Rattle.rules.specs.declared.Header.{Header}
@@ -22,12 +22,44 @@ unfolding slotsIn slotAt placeOf
 slot-place p s i = let r = map-in (slotAt p) (0 ∷ 1 ∷ 2 ∷ 3 ∷ []) s i in rw (r .2)
 
 -- the slots of a bucket ascend
-abbrev pub Below : Slot → Slot → Type 0
+abbrev Below : Slot → Slot → Type 0
 Below x y = x .slot < y .slot
 
-pub slots-below : (p : Place) → Ascending Below (slotsIn p)
+slots-below : (p : Place) → Ascending Below (slotsIn p)
 unfolding slotsIn slotAt
 slots-below p = ascending-map _<_ Below (slotAt p) (0 ∷ 1 ∷ 2 ∷ 3 ∷ []) (ascending-from 0 4) (λ x y e. e)
+
+-- the first slot of a bucket that passes a test is its lowest that does
+module _ (q : Slot → Bool) (p : Place) where
+  pub record LowestPassing (s : Slot) : Type 0 where
+    pub inside : In s (slotsIn p)
+    pub passes : q s ≡ true
+    pub lower : (y : Slot) → In y (slotsIn p) → y .slot < s .slot → q y ≡ false
+
+  passing-of : (s : Slot) → First (λ (x : Slot). given (q x) x) (slotsIn p) s → LowestPassing s
+  passing-of s f =
+      record {
+        inside = rw (← (gives .1)) (f .inside);
+        passes = rw (← (gives .1)) (gives .0);
+        lower = λ y i l. below y l (List·Memᴰ·append-cases (f .earlier) (rw (f .split) at i));
+      }
+    where
+      gives : (q (f .found) ≡ true) × (f .found ≡ s)
+      gives = given-some (q (f .found)) (f .found) s (f .gives)
+
+      order : Ascending Below (f .earlier ++ (f .found ∷ f .later))
+      order = rw (f .split) at (slots-below p)
+
+      after : (y : Slot) → y .slot < s .slot → (y ≡ f .found) ⊎ In y (f .later) → ⊥
+      after y l (inl e) = let k : y ≡ s = e ∙ gives .1 in omega (arith, ap (λ (z : Slot). z .slot) k)
+      after y l (inr i) = omega (arith, ascending-after Below (f .earlier) (f .found) (f .later) order y i, ap (λ (z : Slot). z .slot) (gives .1))
+
+      below : (y : Slot) → y .slot < s .slot → In y (f .earlier) ⊎ In y (f .found ∷ f .later) → q y ≡ false
+      below y l (inl i) = given-none (q y) y (f .before y i)
+      below y l (inr i) = absurd (after y l (List·Memᴰ·cases-cons i))
+
+  pub lowest-passing : (s : Slot) → firstOf (λ (x : Slot). given (q x) x) (slotsIn p) ≡ some s → LowestPassing s
+  lowest-passing s e = passing-of s (firstOf-some (λ (x : Slot). given (q x) x) (slotsIn p) s e)
 
 -- slot s of place p is its lowest free one
 pub record Lowest (t : Table) (h : Header) (p : Place) (s : Slot) : Type 0 where
@@ -37,34 +69,16 @@ pub record Lowest (t : Table) (h : Header) (p : Place) (s : Slot) : Type 0 where
   pub lower : (y : Slot) → In y (slotsIn p) → y .slot < s .slot → taken t h y ≡ true
 
 module _ (t : Table) (h : Header) (p : Place) where
-  -- as the first in a list of the bucket's slots
-  lowest-of : (s : Slot) → First (λ (x : Slot). given (not (taken t h x)) x) (slotsIn p) s → Lowest t h p s
-  lowest-of s f =
-      let g = given-some (not (taken t h (f .found))) (f .found) s (f .gives) in
-      record {
-        place = rw (← (g .1)) (slot-place p (f .found) (f .inside));
-        inside = rw (← (g .1)) (f .inside);
-        free = rw (← (g .1)) (not-true (taken t h (f .found)) (g .0));
-        lower = λ y i l. below y l (List·Memᴰ·append-cases (f .earlier) (rw (f .split) at i));
-      }
-    where
-      order : Ascending Below (f .earlier ++ (f .found ∷ f .later))
-      order = rw (f .split) at (slots-below p)
-
-      same : f .found ≡ s
-      same = given-some (not (taken t h (f .found))) (f .found) s (f .gives) .1
-
-      after : (y : Slot) → y .slot < s .slot → (y ≡ f .found) ⊎ In y (f .later) → ⊥
-      after y l (inl e) = let k : y ≡ s = e ∙ same in omega (arith, ap (λ (z : Slot). z .slot) k)
-      after y l (inr i) = omega (arith, ascending-after Below (f .earlier) (f .found) (f .later) order y i, ap (λ (z : Slot). z .slot) same)
-
-      below : (y : Slot) → y .slot < s .slot → In y (f .earlier) ⊎ In y (f .found ∷ f .later) → taken t h y ≡ true
-      below y l (inl i) = not-false (taken t h y) (given-none (not (taken t h y)) y (f .before y i))
-      below y l (inr i) = absurd (after y l (List·Memᴰ·cases-cons i))
-
   pub free-slot : (s : Slot) → freeSlot t h p ≡ some s → Lowest t h p s
   unfolding freeSlot
-  free-slot s e = lowest-of s (firstOf-some (λ (x : Slot). given (not (taken t h x)) x) (slotsIn p) s e)
+  free-slot s e =
+      let f = lowest-passing (λ (x : Slot). not (taken t h x)) p s e in
+      record {
+        place = slot-place p s (f .inside);
+        inside = f .inside;
+        free = not-true (taken t h s) (f .passes);
+        lower = λ y i l. not-false (taken t h y) (f .lower y i l);
+      }
 
   -- how many slots are taken
   pub taken-count : takenIn t h p ≡ one (taken t h (slotAt p 0)) + (one (taken t h (slotAt p 1)) + (one (taken t h (slotAt p 2)) + (one (taken t h (slotAt p 3)) + 0)))

@@ -21,7 +21,7 @@ either true b e = inl refl
 either false true e = inr refl
 either false false e = never e refl
 
-pub good-state : (c : ℕ) (s : State) → stateGood c s ≡ true → GoodState c s
+good-state : (c : ℕ) (s : State) → stateGood c s ≡ true → GoodState c s
 unfolding stateGood
 good-state c s e = ⊎-elim (λ p. inl (rest p)) (λ p. inr (growing p)) (either (all resting) (all grows) e)
   where
@@ -96,7 +96,7 @@ header-fits size h g = omega (arith, g .long)
 
 -- ---- and a good header passes its tests
 
-pub state-passes : (c : ℕ) (s : State) → GoodState c s → stateGood c s ≡ true
+state-passes : (c : ℕ) (s : State) → GoodState c s → stateGood c s ≡ true
 unfolding stateGood
 state-passes c s (inl (p, l, m)) = rw (eq-eqb _ _ p, le-leb 1 (s .k) l, le-leb _ _ m)
 state-passes c s (inr (p, l, m)) = rw (ne-eqb (s .phase) 0 (λ q. omega arith), eq-eqb _ _ p, le-leb 2 (s .k) l, le-leb _ _ m)

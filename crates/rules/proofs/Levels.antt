@@ -28,7 +28,7 @@ half i j h = omega (arith, pow-pos j, pow-mono {i = suc j} {j = i} h)
 
 module _ (c : ℕ) (s : State) (good : GoodState c s) where
   -- "At rest 1 ≤ k ≤ c, while growing 2 ≤ k ≤ c."
-  pub state-least : (1 ≤ s .k) × (atRest s ≡ false → 2 ≤ s .k)
+  state-least : (1 ≤ s .k) × (atRest s ≡ false → 2 ≤ s .k)
   unfolding atRest
   state-least =
       ⊎-elim (λ (rest : (s .phase ≡ 0) × (1 ≤ s .k) × (s .k ≤ c)). (rest .1, λ q. absurd (eqb-false _ _ q (rest .0))))

@@ -8,6 +8,8 @@ pub mod Lowest
 pub mod Checked
 pub mod Headers
 pub mod Tokens
+pub mod Addresses
+pub mod Made
 pub mod FreeSlots
 pub mod Probing
 pub mod PlacesWithin
@@ -15,13 +17,11 @@ pub mod Few
 pub mod Chosen
 pub mod MoveOrder
 pub mod Moves
-pub mod Ending
 pub mod Levels
 pub mod SlotsInUse
 pub mod PlacesInUse
 pub mod Twins
 pub mod Copies
-pub mod Later
 pub mod StoreLists
 pub mod Meanings
 pub mod Figures

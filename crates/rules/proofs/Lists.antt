@@ -3,7 +3,7 @@
 use Prim.Native.Nat.{ℕ, zero, suc, _+_, _≤_, _<_}
 use mathlib.Core.Path.{_≡_, refl, sym, ap, _∙_}
 use mathlib.Core.Bool.{Bool, true, false, cond}
-use mathlib.Core.List.{List, [], _∷_, _++_, map, flatMap, List·Memᴰ as In, List·Memᴰ·head as here, List·Memᴰ·tail as there, List·Memᴰ·not-nil, List·Memᴰ·cases-cons, List·Memᴰ·append-cases, Memᴰ·append-left, Memᴰ·append-right}
+use mathlib.Core.List.{List, [], _∷_, _++_, map, flatMap, head?, List·Memᴰ as In, List·Memᴰ·head as here, List·Memᴰ·tail as there, List·Memᴰ·not-nil, List·Memᴰ·cases-cons, List·Memᴰ·append-cases, Memᴰ·append-left, Memᴰ·append-right}
 use mathlib.Core.Logic.{_⊎_, inl, inr, ⊎-elim}
 use mathlib.Core.Option.{Option, none, some, Option·map}
 use native.Mathlib.Nat.{zero-add}
@@ -86,20 +86,56 @@ module _ {A : Type 0} (p : A → Bool) where
       go true q i k = ⊎-elim (λ (h : x ≡ y). (here h, rw h q)) (λ (h : In x (select p ys)). (there (k h .0), k h .1)) (List·Memᴰ·cases-cons i)
       go false q i k = (there (k i .0), k i .1)
 
-  pub select-none : (l : List A) → empty (select p l) ≡ true → (x : A) → In x l → p x ≡ false
-  select-none [] e x i = absurd (List·Memᴰ·not-nil i)
-  select-none (y ∷ ys) e x i = go (p y) refl e (λ g j. select-none ys g x j)
-    where
-      go : (b : Bool) → p y ≡ b → empty (cond b (y ∷ select p ys) (select p ys)) ≡ true → (empty (select p ys) ≡ true → In x ys → p x ≡ false) → p x ≡ false
-      go true q e k = never e refl
-      go false q e k = ⊎-elim (λ (h : x ≡ y). rw h q) (λ (h : In x ys). k e h) (List·Memᴰ·cases-cons i)
-
   pub select-length : (x : A) (l : List A) → length (select p (x ∷ l)) ≡ one (p x) + length (select p l)
   select-length x l = go (p x)
     where
       go : (b : Bool) → length (cond b (x ∷ select p l) (select p l)) ≡ one b + length (select p l)
       go true = sym (one-add _)
       go false = sym (zero-add _)
+
+  -- as many as there are: all of them
+  pub select-most : (l : List A) → length (select p l) ≤ length l
+  select-most [] = omega arith
+  select-most (x ∷ xs) = go (p x) (select-most xs)
+    where
+      go : (b : Bool) → length (select p xs) ≤ length xs → length (cond b (x ∷ select p xs) (select p xs)) ≤ length (x ∷ xs)
+      go true k = omega arith
+      go false k = omega arith
+
+  pub select-whole : (l : List A) → length (select p l) ≡ length l → (x : A) → In x l → p x ≡ true
+  select-whole [] e x i = absurd (List·Memᴰ·not-nil i)
+  select-whole (y ∷ ys) e x i = go (p y) refl e (λ g j. select-whole ys g x j)
+    where
+      go : (b : Bool) → p y ≡ b → length (cond b (y ∷ select p ys) (select p ys)) ≡ length (y ∷ ys) → (length (select p ys) ≡ length ys → In x ys → p x ≡ true) → p x ≡ true
+      go true q e k = ⊎-elim (λ (h : x ≡ y). rw h q) (λ (h : In x ys). k (omega arith) h) (List·Memᴰ·cases-cons i)
+      go false q e k = absurd (omega (arith, select-most ys))
+
+  pub select-all : (l : List A) → ((x : A) → In x l → p x ≡ true) → length (select p l) ≡ length l
+  select-all [] f = refl
+  select-all (y ∷ ys) f = go (p y) (f y (here refl)) (select-all ys (λ x i. f x (there i)))
+    where
+      go : (b : Bool) → b ≡ true → length (select p ys) ≡ length ys → length (cond b (y ∷ select p ys) (select p ys)) ≡ length (y ∷ ys)
+      go true q k = omega arith
+      go false q k = never q refl
+
+-- ---- whether there are any
+
+module _ {A : Type 0} where
+  pub empty-none : (l : List A) → empty l ≡ true → (x : A) → In x l → ⊥
+  empty-none [] e x i = List·Memᴰ·not-nil i
+  empty-none (y ∷ ys) e x i = never e refl
+
+  pub none-empty : (l : List A) → ((x : A) → In x l → ⊥) → empty l ≡ true
+  none-empty [] f = refl
+  none-empty (y ∷ ys) f = absurd (f y (here refl))
+
+  pub empty-some : (l : List A) → empty l ≡ false → (x : A) × In x l
+  empty-some [] e = never refl e
+  empty-some (y ∷ ys) e = (y, here refl)
+
+  pub head-none : (l : List A) → head? l ≡ none → empty l ≡ true
+  head-none [] e = refl
+  head-none (y ∷ ys) e = not-some (sym e)
 
 -- ---- what each element gives
 
@@ -171,6 +207,13 @@ ascending-of-map S f (x ∷ xs) a = (λ y i. a .0 (f y) (in-map f i), ascending-
 pub ascending-from : (a n : ℕ) → Ascending _<_ (from a n)
 ascending-from a zero = tt
 ascending-from a (suc n) = (λ y i. omega (arith, from-in (suc a) n y i), ascending-from (suc a) n)
+
+-- the head of an ascending list comes before all others
+pub ascending-head : {A : Type 0} (R : A → A → Type 0) (l : List A) → Ascending R l → (x : A) → head? l ≡ some x → In x l × ((y : A) → In y l → (y ≡ x) ⊎ R x y)
+ascending-head R [] a x e = not-some e
+ascending-head R (z ∷ zs) a x e =
+    let f : z ≡ x = some-one e in
+    (here (sym f), λ y i. ⊎-elim (λ (h : y ≡ z). inl (h ∙ f)) (λ (h : In y zs). inr (rw (← f) (a .0 y h))) (List·Memᴰ·cases-cons i))
 
 -- ---- the first answer along joined lists
 

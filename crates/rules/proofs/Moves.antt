@@ -38,7 +38,7 @@ pub record Moved (t : Table) (h : Header) (key : ℕ) (from to : Slot) : Type 0 
 
 module _ (t : Table) (h : Header) where
   -- a candidate that cannot move has no goal with a free slot
-  stuck : (c : Candidate) → moveOf t h c ≡ none → (p : Place) → In p (c .goals) → Full t h p
+  pub stuck : (c : Candidate) → moveOf t h c ≡ none → (p : Place) → In p (c .goals) → Full t h p
   unfolding moveOf
   stuck c e p i = go (firstOf (freeSlot t h) (c .goals)) refl e
     where

@@ -22,7 +22,7 @@ use Rattle.rules.proofs.Headers.{sizes, bucket-fits}
 use Rattle.rules.proofs.Tests.{Tells, tells-eq, tells-any}
 use Rattle.rules.proofs.FreeSlots.{slot-place}
 use Rattle.rules.proofs.PlacesWithin.{level-power, place-in-level}
-use Rattle.rules.proofs.SlotsInUse.{slot-number}
+use Rattle.rules.proofs.SlotsInUse.{slot-number, slots-of-place}
 use Rattle.rules.proofs.Levels.{level-filled, Halved, levels-halve, level-of-bucket}
 
 -- a bucket of a level in use
@@ -93,6 +93,10 @@ module _ (s : State) where
         let e = place-by-bucket (placeOf x) (placeOf y) (place-of-slot x u) (place-of-slot y v) b in
         λ i. record { level = e i .level; bucket = e i .bucket; slot = n i }
 
+-- a slot of a place of a key is in use
+pub among-used : (h : Header) (key : ℕ) (x : Slot) → x .slot < 4 → In (placeOf x) (placesOf h key) → InUse (h .state) x
+among-used h key x low among = slot-of-place (h .state) (placeOf x) x (places-in-use h key (placeOf x) among) (slots-of-place x low)
+
 -- a slot in use lies in the table
 pub slot-within : (size : ℕ) (h : Header) → GoodHeader size h → (x : Slot) → InUse (h .state) x → (9 + 13 * x .bucket + 13 ≤ size) × (x .slot < 4)
 slot-within size h g x u =
@@ -100,10 +104,15 @@ slot-within size h g x u =
     let range = rw (r .1) at (u .bucket) in
     (bucket-fits size h g (r .0) (x .bucket) (omega (arith, r .2, sizes size h g .most)) (omega (arith, range, pow-pos (r .0))), u .slot)
 
--- "each taken slot in a place of its key" is tested by the bucket alone; it stands in that place
+-- a slot in a bucket of a key's place stands in that place, level and all
+pub own-place : (c : ℕ) (h : Header) → GoodState c (h .state) → (key : ℕ) (x : Slot) → InUse (h .state) x → (p : Place) → In p (placesOf h key) → x .bucket ≡ p .bucket → In (placeOf x) (placesOf h key)
+unfolding placeOf
+own-place c h good key x u p i e = Memᴰ·cast (place-by-bucket (h .state) c good (placeOf x) p (place-of-slot (h .state) x u) (places-in-use h key p i) e) i
+
+-- "each taken slot in a place of its key" is tested by the bucket alone
 pub in-place : (c : ℕ) (t : Table) → GoodState c (headerOf t .state) → (x : Slot) → InUse (headerOf t .state) x → inPlace t x ≡ true → In (placeOf x) (placesOf (headerOf t) (keyIn t x))
-unfolding inPlace samePlace
+unfolding inPlace samePlace placeOf
 in-place c t good x u e =
     let h = headerOf t in
     let r = tells-any (samePlace (placeOf x)) _ (same-place-tells (placeOf x)) (placesOf h (keyIn t x)) .0 e in
-    Memᴰ·cast (place-by-bucket (h .state) c good (placeOf x) (r .0) (place-of-slot (h .state) x u) (places-in-use h (keyIn t x) (r .0) (r .1)) (r .2)) (r .1)
+    own-place c h good (keyIn t x) x u (r .0) (r .1) (r .2)

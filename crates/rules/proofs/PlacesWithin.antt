@@ -1,9 +1,9 @@
 -- The places of a key are buckets of its levels in use, and all of those lie in the table.
 -- Assumes nothing.
 use Prim.Native.Nat.{ℕ, _+_, _-_, _*_, _%_, _^_, _≤_, _<_}
-use mathlib.Core.Path.{_≡_, refl, sym, ap, _∙_}
+use mathlib.Core.Path.{_≡_, refl, ap}
 use mathlib.Core.Bool.{Bool, true, false, cond}
-use mathlib.Core.List.{List, [], _∷_, List·Memᴰ as In, List·Memᴰ·not-nil, List·Memᴰ·cases-cons}
+use mathlib.Core.List.{[], _∷_, List·Memᴰ as In, List·Memᴰ·not-nil, List·Memᴰ·cases-cons}
 use mathlib.Core.Logic.{⊎-elim}
 use native.Mathlib.Nat.{mod-lt}
 use native.Mathlib.Omega.{arith}
@@ -16,7 +16,7 @@ use Rattle.rules.specs.declared.Level.{Level}
 use Rattle.rules.specs.declared.Hashes.{Hashes}
 use Rattle.rules.specs.declared.Place.{Place}
 use Rattle.rules.proofs.Lists.{flatMap-in}
-use Rattle.rules.proofs.Headers.{Sizes, sizes, bucket-fits}
+use Rattle.rules.proofs.Headers.{sizes, bucket-fits}
 
 -- a level in use has a power of two of buckets, at most 2^k
 pub level-power : (s : State) (l : Level) → In l (levelsInUse s) → (e : ℕ) × (l .size ≡ 2 ^ e) × (e ≤ s .k)

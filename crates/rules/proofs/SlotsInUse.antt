@@ -4,7 +4,7 @@
 use Prim.Native.Nat.{_-_, _<_}
 use mathlib.Core.Path.{_≡_, refl, sym, ap, _∙_}
 use mathlib.Core.Bool.{Bool, true, false, cond}
-use mathlib.Core.List.{[], _∷_, map, List·Memᴰ as In}
+use mathlib.Core.List.{List, [], _∷_, map, flatMap, List·Memᴰ as In}
 use mathlib.Core.Logic.{inl, inr}
 use native.Mathlib.Omega.{arith}
 use Rattle.rules.specs.Words.{atRest, topOf, bottomOf, interimOf, levelsInUse, bucketsOf, slotAt, slotsIn, placeOf, placeAt, slotsOf, slotsInUse, InLevel, InUse}
@@ -17,7 +17,8 @@ use Rattle.rules.proofs.Lists.{map-in, in-map, flatMap-in, in-flatMap, 
 use Rattle.rules.proofs.FreeSlots.{slot-place}
 use Rattle.rules.proofs.Levels.{level-filled}
 
-Lower : Level → Level → Type 0
+-- an earlier level
+abbrev pub Lower : Level → Level → Type 0
 Lower l m = l .name < m .name
 
 Under : Place → Place → Type 0
@@ -44,7 +45,7 @@ slot-number p x i =
     rw (ap (λ (z : Slot). z .slot) (r .2)) (omega (arith, from-in 0 4 (r .0) (r .1)))
 
 -- a slot of a level, by its name and range
-slot-of-level : (l : Level) (x : Slot) → In x (slotsOf l) → (x .level ≡ l .name) × InLevel l (x .bucket) × (x .slot < 4)
+pub slot-of-level : (l : Level) (x : Slot) → In x (slotsOf l) → (x .level ≡ l .name) × InLevel l (x .bucket) × (x .slot < 4)
 unfolding slotsOf bucketsOf placeAt placeOf
 slot-of-level l x i =
     let r = flatMap-in slotsIn (map (placeAt l) (bucketsOf (l .size))) x i in
@@ -71,7 +72,7 @@ place-of-level : (l : Level) (x : Slot) → x .level ≡ l .name → placeOf x �
 unfolding placeAt placeOf
 place-of-level l x e = λ i. record { level = e i; bucket = x .bucket }
 
-slots-of-level : (l : Level) (x : Slot) → 0 < l .size → x .level ≡ l .name → InLevel l (x .bucket) → x .slot < 4 → In x (slotsOf l)
+pub slots-of-level : (l : Level) (x : Slot) → 0 < l .size → x .level ≡ l .name → InLevel l (x .bucket) → x .slot < 4 → In x (slotsOf l)
 unfolding slotsOf bucketsOf
 slots-of-level l x filled name range less =
     in-flatMap slotsIn (in-map (placeAt l) (in-from (l .size - 1) (l .size) (x .bucket) (range .0) (omega arith)))
@@ -81,16 +82,18 @@ pub slots-in-use : (s : State) (x : Slot) → InUse s x → In x (slotsInUse s)
 unfolding slotsInUse
 slots-in-use s x u = in-flatMap slotsOf (u .used) (slots-of-level (u .level) x (level-filled s (u .level) (u .used)) (u .name) (u .bucket) (u .slot))
 
-levels-ascend : (s : State) → Ascending Lower (levelsInUse s)
-unfolding levelsInUse topOf bottomOf interimOf Lower
+pub levels-ascend : (s : State) → Ascending Lower (levelsInUse s)
+unfolding levelsInUse topOf bottomOf interimOf
 levels-ascend s = go (atRest s)
   where
     go : (b : Bool) → Ascending Lower (topOf s ∷ bottomOf s ∷ cond b [] (interimOf s ∷ []))
     go true = ascending-of-map _<_ (λ (l : Level). l .name) (topOf s ∷ bottomOf s ∷ []) (ascending-from 0 2)
     go false = ascending-of-map _<_ (λ (l : Level). l .name) (topOf s ∷ bottomOf s ∷ interimOf s ∷ []) (ascending-from 0 3)
 
+-- the slots of ascending levels ascend
+pub slots-of-levels-ascend : (ls : List Level) → Ascending Lower ls → Ascending Before (flatMap slotsOf ls)
+slots-of-levels-ascend ls a = ascending-flatMap Lower Before slotsOf ls a level-ascends (λ l m u x y i j. inl (rw (slot-of-level l x i .0, slot-of-level m y j .0) u))
+
 pub slots-ascend : (s : State) → Ascending Before (slotsInUse s)
-unfolding slotsInUse Lower
-slots-ascend s =
-    ascending-flatMap Lower Before slotsOf (levelsInUse s) (levels-ascend s) level-ascends
-    (λ l m u x y i j. inl (rw (slot-of-level l x i .0, slot-of-level m y j .0) u))
+unfolding slotsInUse
+slots-ascend s = slots-of-levels-ascend (levelsInUse s) (levels-ascend s)

@@ -10,7 +10,7 @@ use Rattle.rules.specs.Choice.{select}
 use Rattle.rules.specs.Words.{Table, headerOf, slotsInUse, keyIn, taken}
 use Rattle.rules.specs.Soundness.{takenSlots, TakenSlot, Before, sameKey, twinsOf, twins}
 use Rattle.rules.specs.declared.Slot.{Slot}
-use Rattle.rules.proofs.Lists.{select-in, in-select, map-in, in-map, Ascending, ascending-append, ascending-select, ascending-map, ascending-weaken, NoRepeat}
+use Rattle.rules.proofs.Lists.{select-in, in-select, map-in, in-map, Ascending, ascending-append, ascending-compare, ascending-select, ascending-map, ascending-weaken, NoRepeat}
 use Rattle.rules.proofs.SlotsInUse.{slot-in-use, slots-in-use, slots-ascend}
 
 -- ---- the order of slots
@@ -46,7 +46,7 @@ module _ (t : Table) where
   unfolding takenSlots
   in-taken x u = in-select (taken t (headerOf t)) (slots-in-use (headerOf t .state) x (u .used)) (u .shown)
 
-  pub taken-ascend : Ascending Before (takenSlots t)
+  taken-ascend : Ascending Before (takenSlots t)
   unfolding takenSlots
   taken-ascend = ascending-select Before (taken t (headerOf t)) (slotsInUse (headerOf t .state)) (slots-ascend (headerOf t .state))
 
@@ -128,3 +128,12 @@ module _ (t : Table) where
   pub twins-apart : NoRepeat (twins t)
   unfolding twins
   twins-apart = pairs-apart (takenSlots t) (taken-ascend t)
+
+  -- two taken slots with one key are one slot or a pair, in one order or the other
+  pub same-or-twins : (a b : Slot) → TakenSlot t a → TakenSlot t b → keyIn t a ≡ keyIn t b → (a ≡ b) ⊎ (In {A = Slot × Slot} (a, b) (twins t) ⊎ In {A = Slot × Slot} (b, a) (twins t))
+  same-or-twins a b u v k = go (ascending-compare Before (takenSlots t) (taken-ascend t) a b (in-taken t a u) (in-taken t b v))
+    where
+      go : (a ≡ b) ⊎ (Before a b ⊎ Before b a) → (a ≡ b) ⊎ (In {A = Slot × Slot} (a, b) (twins t) ⊎ In {A = Slot × Slot} (b, a) (twins t))
+      go (inl e) = inl e
+      go (inr (inl o)) = inr (inl (twins-all a b (record { first = u; later = v; key = k; order = o })))
+      go (inr (inr o)) = inr (inr (twins-all b a (record { first = v; later = u; key = sym k; order = o })))

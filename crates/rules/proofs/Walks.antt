@@ -1,7 +1,7 @@
 -- What is left of a list, one element on: for loops that go along it by an index.
 -- Assumes nothing.
 use Prim.Native.Nat.{ℕ, zero, suc, _+_, _≤_, _<_}
-use mathlib.Core.Path.{_≡_, refl, sym, ap, _∙_}
+use mathlib.Core.Path.{_≡_, refl}
 use mathlib.Core.List.{List, [], _∷_, List·Memᴰ as In, List·Memᴰ·head as here, List·Memᴰ·tail as there}
 use native.Mathlib.Numerals.{add-one}
 use native.Mathlib.Nat.{add-zero, not-suc-le-zero, le-of-suc-le-suc}
@@ -11,7 +11,6 @@ use lib.Seq.{drop-cons, getD-take, length-take-le}
 use Rattle.rules.specs.Choice.{from}
 use Rattle.rules.specs.Words.{slotAt, slotsIn}
 use Rattle.rules.specs.declared.Place.{Place}
-use Rattle.rules.specs.declared.Slot.{Slot}
 
 -- ---- the slots of a bucket, from slot s on
 
@@ -39,7 +38,7 @@ module _ {A : Type 0} (d : A) (n : ℕ) (xs : List A) (l : n ≤ length xs) (i :
   pub first-end : n ≤ i → drop i (take n xs) ≡ []
   first-end h = let k : length (take n xs) ≤ i = rw length-take-le h in drop-of-length-le (take n xs) k
 
-pub getD-in : {A : Type 0} (d : A) (xs : List A) (i : ℕ) → i < length xs → In (getD xs i d) xs
+getD-in : {A : Type 0} (d : A) (xs : List A) (i : ℕ) → i < length xs → In (getD xs i d) xs
 getD-in d [] i h = absurd (not-suc-le-zero h)
 getD-in d (x ∷ xs) zero h = here refl
 getD-in d (x ∷ xs) (suc i) h = there (getD-in d xs i (le-of-suc-le-suc h))
