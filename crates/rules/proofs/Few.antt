@@ -5,11 +5,9 @@ use mathlib.Core.Path.{_≡_, refl}
 use mathlib.Core.Bool.{Bool, true, false, cond}
 use mathlib.Core.List.{[], _∷_}
 use native.Mathlib.Omega.{arith}
-use borrow.Author.Tests.{eq-eqb}
 use lib.ListN.{length, length-append}
-use Rattle.rules.specs.Words.{headerOf, atRest, topOf, bottomOf, interimOf}
-use Rattle.rules.specs.Places.{hashesOf, placesOf, firstPlace, secondPlace, samePlace, placesIn, probes}
-use Rattle.rules.specs.Demands.{ProbesAreFew}
+use Rattle.rules.specs.Words.{atRest, topOf, bottomOf, interimOf}
+use Rattle.rules.specs.Places.{firstPlace, secondPlace, samePlace, placesIn, probes}
 use Rattle.rules.specs.declared.State.{State}
 use Rattle.rules.specs.declared.Level.{Level}
 use Rattle.rules.specs.declared.Hashes.{Hashes}
@@ -35,9 +33,3 @@ module _ (x : Hashes) where
       go false e =
           rw (probes-growing x s e, length-append, length-append)
           (omega (arith, two-in-level (topOf s), two-in-level (bottomOf s), two-in-level (interimOf s)))
-
-pub probesAreFew : ProbesAreFew
-unfolding placesOf atRest
-probesAreFew t key =
-    let x = hashesOf (headerOf t) key in
-    (λ e. four-at-rest x (headerOf t .state) (eq-eqb (headerOf t .state .phase) 0 e), six-at-most x (headerOf t .state))

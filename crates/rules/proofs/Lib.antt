@@ -21,7 +21,10 @@ pub mod Levels
 pub mod SlotsInUse
 pub mod PlacesInUse
 pub mod Twins
+pub mod Interims
 pub mod Copies
+pub mod Lookups
+pub mod Queries
 pub mod StoreLists
 pub mod Meanings
 pub mod Figures

@@ -1,13 +1,18 @@
 -- No two answers mean the same: document 01's number and values tell which answer was given. Each answer is read back from
--- them, and what can be read back is one.
+-- them, and what can be read back is one. And what a call's own search answers means what the call then answers.
 -- Assumes nothing.
 use Prim.Native.Nat.{ℕ, _-_}
 use mathlib.Core.Path.{_≡_, refl, sym, ap, _∙_}
 use mathlib.Core.Bool.{false, cond}
 use mathlib.Core.List.{List, [], _∷_, map}
-use lib.ListN.{length, getD, drop}
+use lib.ListN.{length, getD, take, drop}
 use lib.Dec.{eqb}
+use Rattle.rules.specs.Words.{Table}
+use Rattle.rules.specs.Stores.{Store, clearStores, redoStores}
+use Rattle.rules.specs.Calls.{placedBy, recoverOf}
+use Rattle.rules.specs.Results.{changeOf, queryAt}
 use Rattle.rules.specs.Answers.{numberOf, Meaning, changeMeans, queryMeans, verdictMeans, lookupMeans, placingMeans, findingMeans, steppedMeans}
+use Rattle.rules.specs.declared.Header.{Header}
 use Rattle.rules.specs.declared.Slot.{Slot}
 use Rattle.rules.specs.declared.Lookup.{Lookup}
 use Rattle.rules.specs.declared.Lookup.the-variants.{Stands, Absent}
@@ -81,7 +86,7 @@ refusal-number BadMaking = refl
 
 -- ---- answers
 
-value : Meaning → ℕ → ℕ
+pub value : Meaning → ℕ → ℕ
 value m i = getD (m .values) i 0
 
 readSlot : List ℕ → Slot
@@ -176,3 +181,23 @@ stepped-back a = stepped-of (a .change) (a .placing)
 
 pub stepped-one : (a b : Stepped) → steppedMeans a ≡ steppedMeans b → a ≡ b
 stepped-one a b e = told steppedMeans readStepped stepped-back a b e
+
+-- ---- what a call's own search answers means what the call answers by it
+
+pub lookup-told : (t : Table) (o : Lookup) → (queryMeans (queryAt t o) .number ≡ lookupMeans o .number) × (value (queryMeans (queryAt t o)) 2 ≡ value (lookupMeans o) 0)
+unfolding value
+lookup-told t (Stands x n) = (refl, refl)
+lookup-told t (Absent n) = (refl, refl)
+
+pub placing-told : (p : Placing) (xs : List Store) → changeMeans (changeOf (placedBy p xs)) .number ≡ placingMeans p .number
+placing-told (Free x) xs = refl
+placing-told (Move from to) xs = refl
+placing-told Nowhere xs = refl
+
+-- recovery's number of stores
+pub finding-told : (t : Table) (h : Header) (f : Finding) → changeMeans (changeOf (recoverOf t h f)) ≡ record { number = findingMeans f .number; values = take 1 (findingMeans f .values) }
+unfolding clearStores redoStores
+finding-told t h Sound = refl
+finding-told t h (Doubled kept later) = refl
+finding-told t h (Flagged x) = refl
+finding-told t h Neither = refl

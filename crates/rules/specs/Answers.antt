@@ -63,20 +63,20 @@ slotMeans x = x .level ∷ x .bucket ∷ x .slot ∷ []
 -- "5 | key absent", with the probe count
 abbrev pub lookupMeans : Lookup → Meaning
 lookupMeans (Stands x count) = record { number = 0; values = count ∷ slotMeans x }
-lookupMeans (Absent count) = record { number = 5; values = count ∷ [] }
+lookupMeans (Absent count) = record { number = numberOf KeyAbsent; values = count ∷ [] }
 
 -- "6 | no place"
 abbrev pub placingMeans : Placing → Meaning
 placingMeans (Free x) = record { number = 0; values = slotMeans x }
 placingMeans (Move from to) = record { number = 0; values = slotMeans from ++ slotMeans to }
-placingMeans Nowhere = record { number = 6; values = [] }
+placingMeans Nowhere = record { number = numberOf NoPlace; values = [] }
 
 -- "12 | none of the three kinds above"; of the three kinds, the number of stores and the slots they are about
 abbrev pub findingMeans : Finding → Meaning
 findingMeans Sound = record { number = 0; values = 0 ∷ [] }
 findingMeans (Doubled kept later) = record { number = 0; values = 1 ∷ slotMeans kept ++ slotMeans later }
 findingMeans (Flagged x) = record { number = 0; values = 3 ∷ slotMeans x }
-findingMeans Neither = record { number = 12; values = 0 ∷ [] }
+findingMeans Neither = record { number = numberOf NoKind; values = 0 ∷ [] }
 
 -- a step's answer: its number and stores, then its placing
 unfoldable pub steppedMeans : Stepped → Meaning

@@ -12,13 +12,13 @@ use mathlib.Core.Option.{Option, none, some}
 use lib.ListN.{length, take, drop}
 use lib.Dec.{eqb}
 use Rattle.rules.specs.Choice.{all}
-use Rattle.rules.specs.Words.{Table, word, headerOf, GoodHeader, flagOf, loggedOf, top, bottom, interim, slotsIn, placeOf, keyWord, keyIn, recordIn, tokenWord, tokenOf, show, hide}
-use Rattle.rules.specs.Places.{holds, placesOf, lookup}
+use Rattle.rules.specs.Words.{Table, word, headerOf, GoodHeader, flagOf, loggedOf, top, bottom, interim, slotsIn, placeOf, keyIn, recordIn, tokenOf, show, hide}
+use Rattle.rules.specs.Places.{holds, placesOf}
 use Rattle.rules.specs.Placing.{freeSlot, placing}
-use Rattle.rules.specs.Stores.{Store, clearStores, redoStores, pairs, made}
+use Rattle.rules.specs.Stores.{Store, clearStores, redoStores, made}
 use Rattle.rules.specs.Soundness.{finding, soundTests, TakenSlot, SoundTable, PlainMap, HasMap, Before, DoubledTable, FlaggedTable}
 use Rattle.rules.specs.Answers.{numberOf, Meaning, changeMeans, queryMeans, steppedMeans, verdictMeans}
-use Rattle.rules.specs.Calls.{Outcome, refused, listed, Call, query, insert, update, delete, begin, step, end, recover, stepItem, outcome}
+use Rattle.rules.specs.Calls.{Outcome, refused, listed, Call, query, insert, update, delete, begin, step, end, recover, outcome}
 use Rattle.rules.specs.Results.{changeResult, stepResult, queryResult, createResult, makeResult}
 use Rattle.rules.specs.NoPlace.{NoPlaceFor}
 use Rattle.rules.specs.Histories.{Event, whole, after, History, Whole, Recovery, spent, Accepted, OneGrowth}
@@ -27,7 +27,6 @@ use Rattle.rules.specs.declared.Header.{Header}
 use Rattle.rules.specs.declared.Place.{Place}
 use Rattle.rules.specs.declared.Slot.{Slot}
 use Rattle.rules.specs.declared.Record.{Record}
-use Rattle.rules.specs.declared.Lookup.the-variants.{Stands}
 use Rattle.rules.specs.declared.Placing.{Placing}
 use Rattle.rules.specs.declared.Placing.the-variants.{Free, Move, Nowhere}
 use Rattle.rules.specs.declared.Finding.{Finding}
@@ -42,13 +41,20 @@ use Rattle.rules.specs.declared.Verdict.the-variants.{Done}
 
 -- ==== Demand 1. "Any words, keys and lengths may be handed in."
 
--- "A refusal carries its number, reports zero stores and changes neither table nor list." "A changing call or recovery that
--- succeeds writes only the list's first 2·stores words": with the stores that it reports. l is the list at entry, m at exit
+-- "It writes its stores, in order, to a lent list as pairs: word index, new word": in the list m the i-th store, from 0, stands in
+-- words 2i and 2i + 1
+abbrev pub StandsIn : List Store → List ℕ → Type 0
+StandsIn xs m =
+    (before behind : List Store) (x : Store) → xs ≡ before ++ (x ∷ behind)
+    → (word m (2 * length before) ≡ x .0) × (word m (2 * length before + 1) ≡ x .1)
+
+-- "A refusal changes no buffer and reports 0 stores. A changing call or recovery that succeeds writes only the list's first
+-- 2·stores words": with the stores that it reports. l is the list at entry, m at exit; the table is only read
 abbrev pub AnswersBy : Outcome → Change → List ℕ → List ℕ → Type 0
 AnswersBy (refused r) a l m = (changeMeans a ≡ record { number = numberOf r; values = 0 ∷ [] }) × (m ≡ l)
 AnswersBy (listed xs) a l m =
     (changeMeans a ≡ record { number = 0; values = length xs ∷ [] }) × (2 * length xs ≤ length l) × (length m ≡ length l)
-    × (pairs (length xs) m ≡ xs) × (drop (2 * length xs) m ≡ drop (2 * length xs) l)
+    × StandsIn xs m × (drop (2 * length xs) m ≡ drop (2 * length xs) l)
 
 abbrev pub ChangeAnswers : Type 0
 ChangeAnswers = (t : Table) (l : List ℕ) (q : Call) → AnswersBy (outcome t (length l) q) (changeResult t l q .0) l (changeResult t l q .1)
@@ -74,19 +80,27 @@ pub record Created (size c k mul1 mul2 : ℕ) (u : Table) : Type 0 where
 abbrev pub CreateAnswers : Type 0
 CreateAnswers =
     (t : Table) (c k mul1 mul2 : ℕ)
-    → (GoodCreation (length t) c k mul1 mul2 × (verdictMeans (createResult t c k mul1 mul2 .0) .number ≡ 0)
+    → (GoodCreation (length t) c k mul1 mul2 × (verdictMeans (createResult t c k mul1 mul2 .0) ≡ record { number = 0; values = [] })
     × Created (length t) c k mul1 mul2 (createResult t c k mul1 mul2 .1))
-    ⊎ ((GoodCreation (length t) c k mul1 mul2 → ⊥) × (verdictMeans (createResult t c k mul1 mul2 .0) .number ≡ 13)
+    ⊎ ((GoodCreation (length t) c k mul1 mul2 → ⊥) × (verdictMeans (createResult t c k mul1 mul2 .0) ≡ record { number = 13; values = [] })
     × (createResult t c k mul1 mul2 .1 ≡ t))
 
 -- "n pairs are not in the list, or an index among them is outside the table", and exactly then
 abbrev pub Outside : Table → List ℕ → ℕ → Type 0
-Outside t l n = (length l < 2 * n) ⊎ ((x : Store) × In x (pairs n l) × (length t ≤ x .0))
+Outside t l n = (length l < 2 * n) ⊎ ((i : ℕ) × (i < n) × (length t ≤ word l (2 * i)))
+
+-- "A separate call makes the first n stores of a list."
+pub record MakesFirst (t : Table) (l : List ℕ) (n : ℕ) (u : Table) : Type 0 where
+  pub stores : List Store
+  pub number : length stores ≡ n
+  pub list : StandsIn stores l
+  pub result : u ≡ made t stores
 
 abbrev pub MakeAnswers : Type 0
 MakeAnswers =
-    (t : Table) (l : List ℕ) (n : ℕ) → (Outside t l n × (verdictMeans (makeResult t l n .0) .number ≡ 14) × (makeResult t l n .1 ≡ t))
-    ⊎ ((Outside t l n → ⊥) × (makeResult t l n ≡ (Done, made t (pairs n l))))
+    (t : Table) (l : List ℕ) (n : ℕ)
+    → (Outside t l n × (verdictMeans (makeResult t l n .0) ≡ record { number = 14; values = [] }) × (makeResult t l n .1 ≡ t))
+    ⊎ ((Outside t l n → ⊥) × (verdictMeans (makeResult t l n .0) ≡ record { number = 0; values = [] }) × MakesFirst t l n (makeResult t l n .1))
 
 -- "phase 0 at rest, 1 growing"; "Other states are bad."
 abbrev pub AtRest : Table → Type 0
@@ -98,6 +112,20 @@ Growing t = AtRest t → ⊥
 -- "checks its own input": when each refusal is given, in facts. The key stands in a probed bucket
 abbrev pub Held : Table → ℕ → Type 0
 Held t key = (p : Place) × (x : Slot) × In p (placesOf (headerOf t) key) × In x (slotsIn p) × (holds t (headerOf t) key x ≡ true)
+
+-- the first slot that holds it: "Probe order: top, bottom, interim; in each, first place, then second if different; slots 0 to 3."
+abbrev pub NoneHolds : Table → ℕ → List Place → Type 0
+NoneHolds t key ps = (p : Place) → In p ps → (x : Slot) → In x (slotsIn p) → holds t (headerOf t) key x ≡ false
+
+pub record FirstHolder (t : Table) (key : ℕ) (slot : Slot) : Type 0 where
+  pub before : List Place
+  pub place : Place
+  pub behind : List Place
+  pub order : placesOf (headerOf t) key ≡ before ++ (place ∷ behind)
+  pub none-before : NoneHolds t key before
+  pub here : In slot (slotsIn place)
+  pub holding : holds t (headerOf t) key slot ≡ true
+  pub first : (y : Slot) → In y (slotsIn place) → y .slot < slot .slot → holds t (headerOf t) key y ≡ false
 
 -- an item of the interim level; the first of them, "bucket, then slot ascending"; and none
 pub record InterimItem (t : Table) (x : Slot) : Type 0 where
@@ -116,12 +144,27 @@ pub record OfNoKind (t : Table) : Type 0 where
   pub undoubled : (x y : Slot) → DoubledTable t x y → ⊥
   pub unflagged : (x : Slot) → FlaggedTable t x → ⊥
 
+-- "length, form, c, multipliers or state", by the words themselves: "At rest 1 ≤ k ≤ c, while growing 2 ≤ k ≤ c. Other states are
+-- bad.", with k + 256·phase in word 4
+pub record HeaderWords (t : Table) : Type 0 where
+  pub capacity : (1 ≤ word t 1) × (word t 1 ≤ 20)
+  pub long : length t ≡ 9 + 13 * (2 ^ (word t 1 + 1) - 1)
+  pub form : word t 0 ≡ 1
+  pub odd1 : word t 2 % 2 ≡ 1
+  pub odd2 : word t 3 % 2 ≡ 1
+  pub state : ((1 ≤ word t 4) × (word t 4 ≤ word t 1)) ⊎ ((258 ≤ word t 4) × (word t 4 ≤ 256 + word t 1))
+
+abbrev pub badHeader : Table → Type 0 × Refusal
+badHeader t = ((HeaderWords t → ⊥), BadHeader)
+
+abbrev pub flagNotZero : Table → Type 0 × Refusal
+flagNotZero t = ((word t 5 ≡ 0 → ⊥), FlagSet)
+
 abbrev pub changingRefusals : Table → ℕ → List (Type 0 × Refusal)
-changingRefusals t n =
-    ((GoodHeader (length t) (headerOf t) → ⊥), BadHeader) ∷ (n < 20, ShortList) ∷ ((flagOf t ≡ 0 → ⊥), FlagSet) ∷ []
+changingRefusals t n = badHeader t ∷ (n < 20, ShortList) ∷ flagNotZero t ∷ []
 
 abbrev pub refusals : Table → ℕ → Call → List (Type 0 × Refusal)
-refusals t n (query key) = ((GoodHeader (length t) (headerOf t) → ⊥), BadHeader) ∷ ((flagOf t ≡ 0 → ⊥), FlagSet) ∷ ((Held t key → ⊥), KeyAbsent) ∷ []
+refusals t n (query key) = badHeader t ∷ flagNotZero t ∷ ((Held t key → ⊥), KeyAbsent) ∷ []
 refusals t n (insert key r) = changingRefusals t n ++ ((Held t key, KeyPresent) ∷ (NoPlaceFor t (headerOf t) key, NoPlace) ∷ [])
 refusals t n (update key r) = changingRefusals t n ++ (((Held t key → ⊥), KeyAbsent) ∷ [])
 refusals t n (delete key) = changingRefusals t n ++ (((Held t key → ⊥), KeyAbsent) ∷ [])
@@ -130,11 +173,11 @@ refusals t n step =
     changingRefusals t n ++ ((AtRest t, NotGrowing) ∷ (NoInterim t, InterimEmpty)
     ∷ (((x : Slot) × FirstInterim t x × NoPlaceFor t (headerOf t) (keyIn t x)), NoPlace) ∷ [])
 refusals t n end = changingRefusals t n ++ ((AtRest t, NotGrowing) ∷ (((x : Slot) × InterimItem t x), InterimTaken) ∷ [])
-refusals t n recover = ((GoodHeader (length t) (headerOf t) → ⊥), BadHeader) ∷ (n < 20, ShortList) ∷ (OfNoKind t, NoKind) ∷ []
+refusals t n recover = badHeader t ∷ (n < 20, ShortList) ∷ (OfNoKind t, NoKind) ∷ []
 
 -- the first that holds refuses; where none does, the call is accepted
 abbrev pub FirstRefuses : List (Type 0 × Refusal) → Outcome → Type 0
-FirstRefuses [] o = Accepted o
+FirstRefuses [] o = (stores : List Store) × (o ≡ listed stores)
 FirstRefuses (x ∷ xs) o = (x .0 × (o ≡ refused (x .1))) ⊎ ((x .0 → ⊥) × FirstRefuses xs o)
 
 -- "Order: 1, 2, 3, then the rest; for insert 4 before 6; for begin 7 before 9; for step and end 8 first."
@@ -165,7 +208,7 @@ StoresInside = (t : Table) (n : ℕ) (q : Call) (xs : List Store) → outcome t 
 abbrev pub TokenStoresLow : Type 0
 TokenStoresLow =
     (t : Table) (n : ℕ) (q : Call) (xs : List Store) → outcome t n q ≡ listed xs
-    → (x : Store) → In x xs → (j : ℕ) → x .0 ≡ tokenWord j → x .1 < 16
+    → (x : Store) → In x xs → (j : ℕ) → x .0 ≡ 9 + 13 * j → x .1 < 16
 
 -- ==== Demand 2. "On a sound table, with a list of 20 words or more, query, insert, update and delete answer as a plain map
 -- does, and growing keeps the map."
@@ -178,11 +221,12 @@ SoundnessIsTested = (t : Table) → (all (soundTests t) ≡ true) ↔ SoundTable
 abbrev pub MapExists : Type 0
 MapExists = (t : Table) → SoundTable t → (m : PlainMap) × HasMap t m × ((n : PlainMap) → HasMap t n → (key : ℕ) → n key ≡ m key)
 
--- a created table is sound, at rest with the k asked for, and empty
+-- a created table is sound, at rest with the c, k and multipliers asked for, and empty
 abbrev pub CreatedIsEmpty : Type 0
 CreatedIsEmpty =
     (t u : Table) (c k mul1 mul2 : ℕ) → createResult t c k mul1 mul2 ≡ (Done, u)
-    → SoundTable u × (headerOf u .state ≡ record { k = k; phase = 0 }) × HasMap u (λ (key : ℕ). none)
+    → SoundTable u × (headerOf u ≡ record { form = 1; c = c; mul1 = mul1; mul2 = mul2; state = record { k = k; phase = 0 } })
+    × HasMap u (λ (key : ℕ). none)
 
 -- what a call makes of a plain map: plus the key, changed at the key, minus the key, or the same
 abbrev pub changed : PlainMap → ℕ → Option Record → PlainMap
@@ -252,7 +296,7 @@ BeginAnswers =
     → (Growing t → outcome t n begin ≡ refused AlreadyGrowing)
     × (AtRest t → headerOf t .state .k ≡ headerOf t .c → outcome t n begin ≡ refused AtCapacity)
     × (AtRest t → (headerOf t .state .k ≡ headerOf t .c → ⊥)
-    → Gives t (outcome t n begin) m (record { k = headerOf t .state .k + 1; phase = 1 }))
+    → Gives t (outcome t n begin) (mapAfter begin m) (record { k = headerOf t .state .k + 1; phase = 1 }))
 
 -- after a step: the interim items are those before without the first; its key and record stand in top or bottom
 pub record StepMoves (t u : Table) (x : Slot) : Type 0 where
@@ -266,7 +310,7 @@ pub record StepMoves (t u : Table) (x : Slot) : Type 0 where
 abbrev pub StepBy : Table → PlainMap → Slot → Outcome → Type 0
 StepBy t m x o =
     (NoPlaceFor t (headerOf t) (keyIn t x) × (o ≡ refused NoPlace))
-    ⊎ ((NoPlaceFor t (headerOf t) (keyIn t x) → ⊥) × ((g : Gives t o m (headerOf t .state)) × StepMoves t (made t (g .stores)) x))
+    ⊎ ((NoPlaceFor t (headerOf t) (keyIn t x) → ⊥) × ((g : Gives t o (mapAfter step m) (headerOf t .state)) × StepMoves t (made t (g .stores)) x))
 
 abbrev pub StepAnswers : Type 0
 StepAnswers =
@@ -280,7 +324,7 @@ EndAnswers =
     (t : Table) (m : PlainMap) (n : ℕ) → Given t m n
     → (AtRest t → outcome t n end ≡ refused NotGrowing)
     × (Growing t → ((x : Slot) × InterimItem t x × (outcome t n end ≡ refused InterimTaken))
-    ⊎ (NoInterim t × Gives t (outcome t n end) m (record { k = headerOf t .state .k; phase = 0 })))
+    ⊎ (NoInterim t × Gives t (outcome t n end) (mapAfter end m) (record { k = headerOf t .state .k; phase = 0 })))
 
 -- recovery: "sound: no stores"
 abbrev pub RecoverAnswers : Type 0
@@ -289,11 +333,19 @@ RecoverAnswers = (t : Table) (m : PlainMap) (n : ℕ) → Given t m n → outcom
 -- ==== Demand 3, "made in order .."
 
 -- "the sound table that document 01 fixes": the stores are those of its table, word by word and in its order, on every table.
--- A record put to a slot whose bucket has the token word w
+-- "Bucket j starts at word 9 + 13j: one token word, then four slots of three words: key, function, place. Slot s starts at offset
+-- 1 + 3s."
+abbrev pub bucketStart : ℕ → ℕ
+bucketStart j = 9 + 13 * j
+
+abbrev pub slotStart : Slot → ℕ
+slotStart x = 9 + 13 * x .bucket + (1 + 3 * x .slot)
+
+-- a record put to a slot whose bucket has the token word w
 abbrev pub recordStores : Header → ℕ → Slot → ℕ → Record → List Store
 recordStores h w x key r =
-    (keyWord x, key) ∷ (keyWord x + 1, r .function) ∷ (keyWord x + 2, r .place)
-    ∷ (tokenWord (x .bucket), show h w (x .slot) key) ∷ []
+    (slotStart x, key) ∷ (slotStart x + 1, r .function) ∷ (slotStart x + 2, r .place)
+    ∷ (bucketStart (x .bucket), show h w (x .slot) key) ∷ []
 
 -- "insert, free slot", or "insert with move": its first five stores, with the token word that the fifth leaves, then the rest
 abbrev pub PlacingWritten : Table → Header → ℕ → Record → Placing → List Store → Type 0
@@ -301,31 +353,30 @@ PlacingWritten t h key r (Free x) xs = xs ≡ recordStores h (tokenOf t (x .buck
 PlacingWritten t h key r (Move from to) xs =
     let w = hide h (tokenOf t (from .bucket)) (from .slot) in
     xs ≡ recordStores h (tokenOf t (to .bucket)) to (keyIn t from) (recordIn t from)
-    ++ ((tokenWord (from .bucket), w) ∷ recordStores h w from key r)
+    ++ ((bucketStart (from .bucket), w) ∷ recordStores h w from key r)
 PlacingWritten t h key r Nowhere xs = ⊥
 
 -- "update, bucket has a free slot", or "update, bucket full"
 abbrev pub UpdateWritten : Table → Header → Slot → ℕ → Record → Option Slot → List Store → Type 0
 UpdateWritten t h x key r (some y) xs = xs ≡ recordStores h (hide h (tokenOf t (x .bucket)) (x .slot)) y key r
 UpdateWritten t h x key r none xs =
-    xs ≡ (6, keyWord x) ∷ (7, r .function) ∷ (8, r .place) ∷ (5, 1) ∷ (keyWord x + 1, r .function) ∷ (keyWord x + 2, r .place) ∷ (5, 0) ∷ []
+    xs ≡ (6, slotStart x) ∷ (7, r .function) ∷ (8, r .place) ∷ (5, 1) ∷ (slotStart x + 1, r .function) ∷ (slotStart x + 2, r .place) ∷ (5, 0) ∷ []
 
 abbrev pub RecoveryWritten : Table → Header → Finding → List Store → Type 0
 RecoveryWritten t h Sound xs = xs ≡ []
-RecoveryWritten t h (Doubled kept later) xs = xs ≡ (tokenWord (later .bucket), hide h (tokenOf t (later .bucket)) (later .slot)) ∷ []
-RecoveryWritten t h (Flagged x) xs = xs ≡ (keyWord x + 1, word t 7) ∷ (keyWord x + 2, word t 8) ∷ (5, 0) ∷ []
+RecoveryWritten t h (Doubled kept later) xs = xs ≡ (bucketStart (later .bucket), hide h (tokenOf t (later .bucket)) (later .slot)) ∷ []
+RecoveryWritten t h (Flagged x) xs = xs ≡ (slotStart x + 1, word t 7) ∷ (slotStart x + 2, word t 8) ∷ (5, 0) ∷ []
 RecoveryWritten t h Neither xs = ⊥
 
 abbrev pub Written : Table → Header → Call → List Store → Type 0
 Written t h (query key) xs = xs ≡ []
 Written t h (insert key r) xs = PlacingWritten t h key r (placing t h key) xs
-Written t h (update key r) xs = (x : Slot) × (n : ℕ) × (lookup t h key ≡ Stands x n) × UpdateWritten t h x key r (freeSlot t h (placeOf x)) xs
-Written t h (delete key) xs =
-    (x : Slot) × (n : ℕ) × (lookup t h key ≡ Stands x n) × (xs ≡ (tokenWord (x .bucket), hide h (tokenOf t (x .bucket)) (x .slot)) ∷ [])
+Written t h (update key r) xs = (x : Slot) × FirstHolder t key x × UpdateWritten t h x key r (freeSlot t h (placeOf x)) xs
+Written t h (delete key) xs = (x : Slot) × FirstHolder t key x × (xs ≡ (bucketStart (x .bucket), hide h (tokenOf t (x .bucket)) (x .slot)) ∷ [])
 Written t h begin xs = xs ≡ (4, h .state .k + 1 + 256 * 1) ∷ []
 Written t h step xs =
-    (x : Slot) × (ys : List Store) × (stepItem t h ≡ some x) × PlacingWritten t h (keyIn t x) (recordIn t x) (placing t h (keyIn t x)) ys
-    × (xs ≡ ys ++ ((tokenWord (x .bucket), hide h (tokenOf t (x .bucket)) (x .slot)) ∷ []))
+    (x : Slot) × (ys : List Store) × FirstInterim t x × PlacingWritten t h (keyIn t x) (recordIn t x) (placing t h (keyIn t x)) ys
+    × (xs ≡ ys ++ ((bucketStart (x .bucket), hide h (tokenOf t (x .bucket)) (x .slot)) ∷ []))
 Written t h end xs = xs ≡ (4, h .state .k + 256 * 0) ∷ []
 Written t h recover xs = RecoveryWritten t h (finding t) xs
 
@@ -395,20 +446,10 @@ GrowthBound =
 
 -- "A query looks at no more than four buckets, six while growing, and reports the number truly looked at": the position, in
 -- the list of distinct probed buckets, of the bucket where it stopped, or that list's length
-abbrev pub NoneHolds : Table → ℕ → List Place → Type 0
-NoneHolds t key ps = (p : Place) → In p ps → (x : Slot) → In x (slotsIn p) → holds t (headerOf t) key x ≡ false
-
 pub record StoppedAt (t : Table) (key : ℕ) (r : Record) (n : ℕ) : Type 0 where
-  pub before : List Place
-  pub place : Place
-  pub behind : List Place
-  pub order : placesOf (headerOf t) key ≡ before ++ (place ∷ behind)
-  pub position : n ≡ length before + 1
-  pub none-before : NoneHolds t key before
   pub slot : Slot
-  pub here : In slot (slotsIn place)
-  pub holding : holds t (headerOf t) key slot ≡ true
-  pub first : (y : Slot) → In y (slotsIn place) → y .slot < slot .slot → holds t (headerOf t) key y ≡ false
+  pub stop : FirstHolder t key slot
+  pub position : n ≡ length (stop .before) + 1
   pub value : recordIn t slot ≡ r
 
 abbrev pub CountBy : Table → ℕ → Query → Type 0
@@ -418,10 +459,14 @@ CountBy t key (Unknown e n) = (e ≡ KeyAbsent) × (n ≡ length (placesOf (head
 abbrev pub QueryCounts : Type 0
 QueryCounts = (t : Table) (key : ℕ) → GoodHeader (length t) (headerOf t) → flagOf t ≡ 0 → CountBy t key (queryResult t key)
 
+abbrev pub countOf : Query → ℕ
+countOf (Known r n) = n
+countOf (Unknown e n) = n
+
 abbrev pub ProbesAreFew : Type 0
 ProbesAreFew =
-    (t : Table) (key : ℕ) → (AtRest t → length (placesOf (headerOf t) key) ≤ 4)
-    × (length (placesOf (headerOf t) key) ≤ 6)
+    (t : Table) (key : ℕ) → (countOf (queryResult t key) ≤ length (placesOf (headerOf t) key))
+    × (AtRest t → length (placesOf (headerOf t) key) ≤ 4) × (length (placesOf (headerOf t) key) ≤ 6)
 
 abbrev pub ProbesAreDistinct : Type 0
 ProbesAreDistinct =

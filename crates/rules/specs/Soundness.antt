@@ -1,7 +1,7 @@
 -- Document 01, "Sound tables and recovery": which tables are sound, as a test that computes and as facts; the map of a
 -- table; and what recovery finds, apart from the stores that it lists.
 -- Assumes nothing.
-use Prim.Native.Nat.{ℕ, _+_, _-_, _^_, _<_}
+use Prim.Native.Nat.{ℕ, _+_, _-_, _*_, _^_, _<_}
 use mathlib.Core.Path.{_≡_}
 use mathlib.Core.Bool.{Bool, true, cond}
 use mathlib.Core.List.{List, [], _∷_, _++_, map, List·Memᴰ as In}
@@ -10,7 +10,7 @@ use mathlib.Core.Option.{Option, none, some}
 use lib.ListN.{length}
 use lib.Dec.{eqb}
 use Rattle.rules.specs.Choice.{all, any, given, select, empty, firstOf}
-use Rattle.rules.specs.Words.{Table, headerOf, headerTests, GoodHeader, flagOf, targetOf, levelsInUse, InLevel, allBuckets, unusedBuckets, slotsInUse, InUse, placeOf, keyWord, keyIn, recordIn, tokenOf, tidyOf, taken}
+use Rattle.rules.specs.Words.{Table, word, headerOf, headerTests, GoodHeader, flagOf, targetOf, levelsInUse, InLevel, allBuckets, unusedBuckets, slotsInUse, InUse, placeOf, keyWord, keyIn, recordIn, tokenOf, tidyOf, taken}
 use Rattle.rules.specs.Places.{samePlace, placesOf}
 use Rattle.rules.specs.declared.Level.{Level}
 use Rattle.rules.specs.declared.Place.{Place}
@@ -108,12 +108,13 @@ pub record DoubledTable (t : Table) (x y : Slot) : Type 0 where
   pub equal : recordIn t x ≡ recordIn t y
   pub only : (a b : Slot) → TakenSlot t a → TakenSlot t b → keyIn t a ≡ keyIn t b → (a ≡ b) ⊎ (((a ≡ x) × (b ≡ y)) ⊎ ((a ≡ y) × (b ≡ x)))
 
--- "sound but for flag 1, with word 6 the key word of a taken slot in a level in use"
+-- "sound but for flag 1, with word 6 the key word of a taken slot in a level in use": "Bucket j starts at word 9 + 13j", "Slot s
+-- starts at offset 1 + 3s."
 pub record FlaggedTable (t : Table) (x : Slot) : Type 0 where
   pub orderly : OrderlyTable 1 t
   pub alone : (a b : Slot) → TakenSlot t a → TakenSlot t b → keyIn t a ≡ keyIn t b → a ≡ b
   pub named : TakenSlot t x
-  pub target : targetOf t ≡ keyWord x
+  pub target : word t 6 ≡ 9 + 13 * x .bucket + (1 + 3 * x .slot)
 
 -- what recovery finds. With flag 0: no two slots with the same key, or one such pair, and its records are equal
 unfoldable pub sameRecord : Record → Record → Bool
