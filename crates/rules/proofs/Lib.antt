@@ -7,6 +7,7 @@ pub mod Along
 pub mod Lowest
 pub mod Checked
 pub mod Headers
+pub mod HeaderWords
 pub mod Tokens
 pub mod Addresses
 pub mod Made
@@ -20,11 +21,18 @@ pub mod Moves
 pub mod Levels
 pub mod SlotsInUse
 pub mod PlacesInUse
+pub mod Candidates
+pub mod Placings
 pub mod Twins
 pub mod Interims
+pub mod Unused
+pub mod Sound
+pub mod Maps
 pub mod Copies
+pub mod Findings
 pub mod Lookups
 pub mod Queries
+pub mod Refusals
 pub mod StoreLists
 pub mod Meanings
 pub mod Figures

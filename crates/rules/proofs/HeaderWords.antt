@@ -1,0 +1,41 @@
+-- A good header, by the words themselves: words 0 to 4 and the table's length say what the decoded header says.
+-- Assumes nothing.
+use Prim.Native.Nat.{ℕ, _+_, _≤_}
+use mathlib.Core.Logic.{_⊎_, inl, inr, _↔_}
+use native.Mathlib.Omega.{arith}
+use lib.ListN.{length}
+use Rattle.rules.specs.Words.{Table, word, wordsFor, stateOf, GoodState, headerOf, GoodHeader}
+use Rattle.rules.specs.Demands.{HeaderWords}
+
+-- "state: k + 256·phase"
+module _ (c w : ℕ) (small : c ≤ 20) where
+  state-words : GoodState c (stateOf w) → ((1 ≤ w) × (w ≤ c)) ⊎ ((258 ≤ w) × (w ≤ 256 + c))
+  unfolding stateOf
+  state-words (inl (p, l, m)) = inl (omega arith)
+  state-words (inr (p, l, m)) = inr (omega arith)
+
+  words-state : ((1 ≤ w) × (w ≤ c)) ⊎ ((258 ≤ w) × (w ≤ 256 + c)) → GoodState c (stateOf w)
+  unfolding stateOf
+  words-state (inl r) = inl (omega arith, omega arith, omega arith)
+  words-state (inr r) = inr (omega arith, omega arith, omega arith)
+
+pub header-words : (t : Table) → GoodHeader (length t) (headerOf t) ↔ HeaderWords t
+unfolding headerOf wordsFor
+header-words t = (
+  λ g. record {
+    capacity = g .capacity;
+    long = g .long;
+    form = g .form;
+    odd1 = g .odd1;
+    odd2 = g .odd2;
+    state = state-words (word t 1) (word t 4) (g .capacity .1) (g .state);
+  },
+  λ h. record {
+    capacity = h .capacity;
+    long = h .long;
+    form = h .form;
+    odd1 = h .odd1;
+    odd2 = h .odd2;
+    state = words-state (word t 1) (word t 4) (h .capacity .1) (h .state);
+  },
+)
