@@ -34,5 +34,12 @@ pub mod Lookups
 pub mod Queries
 pub mod Refusals
 pub mod StoreLists
+pub mod StoreNumbers
+pub mod Pairs
+pub mod LentLists
+pub mod Making
+pub mod Creating
 pub mod Meanings
+pub mod StepPlacing
+pub mod Inside
 pub mod Figures
