@@ -42,4 +42,11 @@ pub mod Creating
 pub mod Meanings
 pub mod StepPlacing
 pub mod Inside
+pub mod Carried
+pub mod Moving
+pub mod Touched
+pub mod StoreKinds
+pub mod SlotChanged
+pub mod Putting
+pub mod ItemMoved
 pub mod Figures
