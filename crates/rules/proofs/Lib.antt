@@ -49,4 +49,10 @@ pub mod StoreKinds
 pub mod SlotChanged
 pub mod Putting
 pub mod ItemMoved
+pub mod Passing
+pub mod Inserting
+pub mod Updating
+pub mod GrowthSteps
+pub mod Restated
+pub mod BeginEnd
 pub mod Figures
