@@ -55,4 +55,11 @@ pub mod Updating
 pub mod GrowthSteps
 pub mod Restated
 pub mod BeginEnd
+pub mod Cuts
+pub mod Blank
+pub mod Mending
+pub mod Recurring
+pub mod KindCuts
+pub mod SafeCuts
+pub mod MadeCuts
 pub mod Figures

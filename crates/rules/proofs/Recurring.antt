@@ -1,0 +1,103 @@
+-- "also when recovery is cut, however often": after any recoveries, each cut anywhere, one that is whole brings the same map.
+-- Assumes nothing.
+use Prim.Native.Nat.{ℕ}
+use mathlib.Core.Path.{_≡_, refl, sym, ap, _∙_}
+use mathlib.Core.List.{List, [], _∷_, List·Memᴰ·head as here, List·Memᴰ·tail as there}
+use mathlib.Core.Option.{some}
+use mathlib.Core.Logic.{_⊎_, inl, inr}
+use native.Mathlib.Omega.{arith}
+use lib.ListN.{length, take}
+use lib.Seq.{take-nil}
+use borrow.Author.Tests.{leb-true}
+use Rattle.rules.specs.Words.{Table, GoodHeader, headerOf, keyIn, recordIn, tokenOf}
+use Rattle.rules.specs.Stores.{clearStores, made}
+use Rattle.rules.specs.Soundness.{PlainMap, HasMap, DoubledTable, finding}
+use Rattle.rules.specs.Calls.{listLong, recoverTests, Outcome, refused, listed, recover, recoverOf, outcome}
+use Rattle.rules.specs.Histories.{Event, whole, cut, storesOf, after, afterAll, Every, Recovery}
+use Rattle.rules.specs.Demands.{Recovered, RecoveryMayBeCut}
+use Rattle.rules.specs.declared.Slot.{Slot}
+use Rattle.rules.specs.declared.Finding.{Finding}
+use Rattle.rules.specs.declared.Finding.the-variants.{Sound, Doubled, Flagged, Neither}
+use Rattle.rules.specs.declared.Refusal.the-variants.{ShortList}
+use Rattle.rules.proofs.Checked.{checked-passed}
+use Rattle.rules.proofs.StoreLists.{listed-one, never-listed}
+use Rattle.rules.proofs.Inside.{accepted-header}
+use Rattle.rules.proofs.Twins.{before-apart}
+use Rattle.rules.proofs.Findings.{KindOf, finding-means, recover-passes}
+use Rattle.rules.proofs.Carried.{carried-stays, carried-back}
+use Rattle.rules.proofs.Moving.{Nothing, Only, copied-map}
+use Rattle.rules.proofs.Cuts.{cut-after}
+use Rattle.rules.proofs.Putting.{SoundMap, clear-writes, clear-carries, good-cleared}
+use Rattle.rules.proofs.Mending.{Mends, asSound, asTwin, asRedo, mends, recovered}
+
+-- ---- what recovery brings a map back from is one of the three kinds, with that map
+
+module _ (t : Table) (m : PlainMap) where
+  -- the two copies have one record, so the map with one of them cleared is the map with both
+  doubled-mends : (x y : Slot) → DoubledTable t x y → HasMap (made t (clearStores (headerOf t) (tokenOf t (y .bucket)) y)) m → Mends t m
+  doubled-mends x y d has =
+      let o = d .orderly in
+      let u = made t (clearStores (headerOf t) (tokenOf t (y .bucket)) y) in
+      let carried = clear-carries t o y (d .later) in
+      let still = carried-stays t u (Only y) Nothing carried (headerOf t .c) (good-cleared t o y (d .later)) (clear-writes t o y (d .later) .near .header) x (d .first) (before-apart x y (d .order)) in
+      let stands : m (keyIn t y) ≡ some (recordIn t y) = ap m (sym (still .1 ∙ d .key)) ∙ has .stands x (still .0) ∙ ap some (still .2 ∙ d .equal) in
+      asTwin x y (record {
+        orderly = o;
+        map = copied-map u t (headerOf t .c) (o .header .state) m has y (carried-back t u (Only y) carried) stands;
+        first = d .first;
+        second = d .later;
+        apart = λ e. before-apart x y (d .order) (sym e);
+        same = sym (d .key);
+        only = d .only;
+      })
+
+  recovered-mends : Recovered t m → Mends t m
+  recovered-mends r = go (finding t) (finding-means t) (sym (recover-passes t 20 header (omega arith)) ∙ r .answer 20 (omega arith))
+    where
+      header : GoodHeader (length t) (headerOf t)
+      header = accepted-header t 20 recover (r .stores) (r .answer 20 (omega arith))
+
+      sound : SoundMap (made t (r .stores)) m
+      sound = record { sound = r .sound; map = r .map }
+
+      go : (f : Finding) → KindOf t f → recoverOf t (headerOf t) f ≡ listed (r .stores) → Mends t m
+      go Sound k e = asSound (rw (listed-one e) at sound)
+      go (Doubled x y) k e = doubled-mends x y k (rw (listed-one e) at (r .map))
+      go (Flagged x) k e = asRedo x (record { flagged = k; brings = rw (listed-one e) at sound })
+      go Neither k e = never-listed e
+
+-- ---- a recovery, whole or cut
+
+module _ (t : Table) (m : PlainMap) (k : Mends t m) (room : ℕ) where
+  -- it lists what mends, or with a short list nothing
+  recovery-lists : (o : Outcome) → outcome t room recover ≡ o → (storesOf o ≡ mends t m k .stores) ⊎ (storesOf o ≡ [])
+  unfolding outcome recoverTests listLong
+  recovery-lists (refused r) e = inr refl
+  recovery-lists (listed xs) e =
+      let long = leb-true 20 room (checked-passed _ xs (recoverTests t room) e (listLong room, ShortList) (there (here refl))) in
+      inl (listed-one (sym (mends t m k .answer room long) ∙ e))
+
+  recovery-whole : Mends (made t (storesOf (outcome t room recover))) m
+  recovery-whole = go (recovery-lists (outcome t room recover) refl)
+    where
+      go : (storesOf (outcome t room recover) ≡ mends t m k .stores) ⊎ (storesOf (outcome t room recover) ≡ []) → Mends (made t (storesOf (outcome t room recover))) m
+      go (inl e) = rw e (asSound (mends t m k .sound))
+      go (inr e) = rw e k
+
+  recovery-cut : (n : ℕ) → Mends (made t (take n (storesOf (outcome t room recover)))) m
+  recovery-cut n = go (recovery-lists (outcome t room recover) refl)
+    where
+      go : (storesOf (outcome t room recover) ≡ mends t m k .stores) ⊎ (storesOf (outcome t room recover) ≡ []) → Mends (made t (take n (storesOf (outcome t room recover)))) m
+      go (inl e) = rw e (cut-after (λ (u : Table). Mends u m) t (mends t m k .stores) (mends t m k .cuts) n)
+      go (inr e) = rw (e, take-nil n) k
+
+event-mends : (t : Table) (m : PlainMap) (e : Event) → Recovery e → Mends t m → Mends (after t e) m
+event-mends t m (whole q room) r k = rw r (recovery-whole t m k room)
+event-mends t m (cut q room n) r k = rw r (recovery-cut t m k room n)
+
+events-mend : (t : Table) (m : PlainMap) (es : List Event) → Every Recovery es → Mends t m → Mends (afterAll t es) m
+events-mend t m [] p k = k
+events-mend t m (e ∷ es) p k = events-mend (after t e) m es (p .1) (event-mends t m e (p .0) k)
+
+pub recoveryMayBeCut : RecoveryMayBeCut
+recoveryMayBeCut t u m es r history = recovered u m (rw (history .leads) at (events-mend t m es (history .permitted) (recovered-mends t m r)))
