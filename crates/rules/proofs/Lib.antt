@@ -62,4 +62,7 @@ pub mod Recurring
 pub mod KindCuts
 pub mod SafeCuts
 pub mod MadeCuts
+pub mod InterimBits
+pub mod InterimKept
+pub mod GrowthCost
 pub mod Figures
