@@ -147,9 +147,9 @@ pub record OfNoKind (t : Table) : Type 0 where
 -- "length, form, c, multipliers or state", by the words themselves: "At rest 1 ≤ k ≤ c, while growing 2 ≤ k ≤ c. Other states are
 -- bad.", with k + 256·phase in word 4
 pub record HeaderWords (t : Table) : Type 0 where
-  pub capacity : (1 ≤ word t 1) × (word t 1 ≤ 20)
   pub long : length t ≡ 9 + 13 * (2 ^ (word t 1 + 1) - 1)
   pub form : word t 0 ≡ 1
+  pub capacity : (1 ≤ word t 1) × (word t 1 ≤ 20)
   pub odd1 : word t 2 % 2 ≡ 1
   pub odd2 : word t 3 % 2 ≡ 1
   pub state : ((1 ≤ word t 4) × (word t 4 ≤ word t 1)) ⊎ ((258 ≤ word t 4) × (word t 4 ≤ 256 + word t 1))
@@ -459,6 +459,7 @@ CountBy t key (Unknown e n) = (e ≡ KeyAbsent) × (n ≡ length (placesOf (head
 abbrev pub QueryCounts : Type 0
 QueryCounts = (t : Table) (key : ℕ) → GoodHeader (length t) (headerOf t) → flagOf t ≡ 0 → CountBy t key (queryResult t key)
 
+-- the count that a query reports, whatever it answers
 abbrev pub countOf : Query → ℕ
 countOf (Known r n) = n
 countOf (Unknown e n) = n
