@@ -3,9 +3,9 @@
 -- soundness is asked.
 -- Assumes nothing.
 use Prim.Native.Nat.{ℕ, _+_, _-_, _*_, _^_, _≤_}
-use mathlib.Core.Path.{_≡_, refl, ap}
+use mathlib.Core.Path.{_≡_, refl, sym, ap, _∙_}
 use mathlib.Core.List.{List, [], _∷_, List·Memᴰ as In, List·Memᴰ·head as here, List·Memᴰ·tail as there}
-use mathlib.Core.Logic.{_⊎_, inl, inr}
+use mathlib.Core.Logic.{inl, inr}
 use mathlib.Core.Option.{Option, none, some}
 use native.Mathlib.Omega.{arith}
 use lib.ListN.{length}
@@ -18,7 +18,7 @@ use Rattle.rules.specs.Placing.{freeSlot, placing}
 use Rattle.rules.specs.Stores.{Store, placingStores, updateStores, stepStores, made}
 use Rattle.rules.specs.Soundness.{finding}
 use Rattle.rules.specs.Calls.{flagClear, changingTests, Outcome, refused, listed, placedBy, insertIn, updateIn, deleteIn, beginTests, beginOf, stepItem, stepIn, stepTests, stepOf, recoverOf, Call, query, insert, update, delete, begin, step, end, recover, testsOf, outcome}
-use Rattle.rules.specs.Histories.{Event, whole, cut, storesOf, Every, Whole, ownStores, spent, Accepted, OneGrowth}
+use Rattle.rules.specs.Histories.{Event, whole, cut, kept, after, Every, Whole, ownStores, spent, OneGrowth}
 use Rattle.rules.specs.Demands.{Growing, InterimItem, withState, GrowthBound}
 use Rattle.rules.specs.declared.State.{State}
 use Rattle.rules.specs.declared.Header.{Header}
@@ -41,6 +41,7 @@ use Rattle.rules.proofs.Findings.{KindOf, finding-means}
 use Rattle.rules.proofs.StoreLists.{listed-one, never-listed, storesAsWritten}
 use Rattle.rules.proofs.StoreNumbers.{storeNumbers}
 use Rattle.rules.proofs.Inside.{accepted-header}
+use Rattle.rules.proofs.MadeLists.{storesOf, reported-stores, after-whole, accepted-lists, lists-accepted}
 use Rattle.rules.proofs.InterimBits.{total, total-least, total-less, total-most, bitsOf, bits-most}
 use Rattle.rules.proofs.InterimKept.{Shrinks, Steps, keeps-shrinks, placing-keeps, clear-shrinks, update-shrinks, redo-shrinks, step-less}
 
@@ -200,23 +201,34 @@ accepted-paid t n growing step other xs e =
 accepted-paid t n growing end other xs e = absurd (other tt)
 accepted-paid t n growing recover other xs e = shrinks-paid t (made t xs) growing (recover-shrinks t n growing xs e)
 
+-- a call with its list made, by its outcome
+module _ (t : Table) (l : List ℕ) (q : Call) (xs : List Store) (e : outcome t (length l) q ≡ listed xs) where
+  stores-made : after t (whole q l) ≡ made t xs
+  stores-made = after-whole t l q ∙ ap (λ o. made t (storesOf o)) e
+
+  stores-kept : kept t (whole q l) ≡ length xs
+  stores-kept = reported-stores t l q ∙ ap (λ o. length (storesOf o)) e
+
 -- from a growing table to the end of its growth
 spent-most : (es : List Event) (t : Table) → Growing t → Every Whole es → OneGrowth t es → spent t es ≤ 10 * count t + 1
 spent-most [] t growing p o = omega arith
-spent-most (cut q n k ∷ es) t growing p o = absurd (p .0)
-spent-most (whole q n ∷ es) t growing p o = go (outcome t n q) refl o (λ u g k. spent-most es u g (p .1) k)
+spent-most (cut q l n ∷ es) t growing p o = absurd (p .0)
+spent-most (whole q l ∷ es) t growing p o = go (outcome t (length l) q) refl o (λ u g k. spent-most es u g (p .1) k)
   where
-    go : (r : Outcome) → outcome t n q ≡ r → (((q ≡ end) × Accepted r) × (es ≡ [])) ⊎ (((q ≡ end) × Accepted r → ⊥) × OneGrowth (made t (storesOf r)) es)
+    go : (r : Outcome) → outcome t (length l) q ≡ r → OneGrowth t (whole q l ∷ es)
         → ((u : Table) → Growing u → OneGrowth u es → spent u es ≤ 10 * count u + 1)
-        → ownStores q (length (storesOf r)) + spent (made t (storesOf r)) es ≤ 10 * count t + 1
-    go (refused r) e (inl k) rest = absurd (k .0 .1)
-    go (refused r) e (inr k) rest = omega (arith, own-none q, rest t growing (k .1))
+        → spent t (whole q l ∷ es) ≤ 10 * count t + 1
+    go (refused r) e (inl k) rest = never-listed (sym e ∙ accepted-lists t l q (k .0 .1) .1)
+    go (refused r) e (inr k) rest =
+        let same : after t (whole q l) ≡ t = after-whole t l q ∙ ap (λ o. made t (storesOf o)) e in
+        let none : kept t (whole q l) ≡ 0 = reported-stores t l q ∙ ap (λ o. length (storesOf o)) e in
+        rw (none, same, own-none q) (omega (arith, rest t growing (rw same at (k .1))))
     go (listed xs) e (inl k) rest =
-        let ends : outcome t n end ≡ listed xs = rw (k .0 .0) at e in
-        rw (k .0 .0, k .1, storesAsWritten t n end xs ends) (omega arith)
+        let ends : outcome t (length l) end ≡ listed xs = rw (k .0 .0) at e in
+        rw (k .1, stores-kept t l q xs e, k .0 .0, storesAsWritten t (length l) end xs ends) (omega arith)
     go (listed xs) e (inr k) rest =
-        let paid = accepted-paid t n growing q (λ i. k .0 (is-end q i, tt)) xs e in
-        omega (arith, paid .0, rest (made t xs) (paid .1) (k .1))
+        let paid = accepted-paid t (length l) growing q (λ i. k .0 (is-end q i, lists-accepted t l q xs e)) xs e in
+        rw (stores-kept t l q xs e, stores-made t l q xs e) (omega (arith, paid .0, rest (made t xs) (paid .1) (rw (stores-made t l q xs e) at (k .1))))
 
 -- ---- from its begin
 
@@ -245,13 +257,13 @@ half-buckets k l =
     omega arith
 
 pub growthBound : GrowthBound
-growthBound t u room es accepted growth history = go (outcome t room begin) refl accepted growth
-  where
-    go : (r : Outcome) → outcome t room begin ≡ r → Accepted r → OneGrowth (made t (storesOf r)) es → length (storesOf r) + spent (made t (storesOf r)) es ≤ 20 * 2 ^ headerOf t .state .k + 2
-    go (refused r) e a o = absurd a
-    go (listed xs) e a o =
-        let b = begun t room xs e in
-        let growing : Growing (made t xs) = λ q. let k : _≡_ {A = ℕ} 1 0 = rw (b .1) at q in omega arith in
-        let k = sizes (length t) (headerOf t) (accepted-header t room begin xs e) .least in
-        let items : count (made t xs) ≤ 4 * 2 ^ (headerOf t .state .k + 1 - 2) = rw (b .1) at (count-most (made t xs)) in
-        omega (arith, b .0, spent-most es (made t xs) growing (history .permitted .1) o, items, half-buckets (headerOf t .state .k) (omega (arith, k)))
+growthBound t u l es accepted growth history =
+    let lists = accepted-lists t l begin accepted in
+    let xs = lists .0 in
+    let e = lists .1 in
+    let b = begun t (length l) xs e in
+    let growing : Growing (made t xs) = λ q. let k : _≡_ {A = ℕ} 1 0 = rw (b .1) at q in omega arith in
+    let k = sizes (length t) (headerOf t) (accepted-header t (length l) begin xs e) .least in
+    let items : count (made t xs) ≤ 4 * 2 ^ (headerOf t .state .k + 1 - 2) = rw (b .1) at (count-most (made t xs)) in
+    let rest = spent-most es (made t xs) growing (history .permitted .1) (rw (stores-made t l begin xs e) at growth) in
+    rw (stores-kept t l begin xs e, stores-made t l begin xs e) (omega (arith, b .0, rest, items, half-buckets (headerOf t .state .k) (omega (arith, k))))

@@ -55,6 +55,7 @@ pub mod Updating
 pub mod GrowthSteps
 pub mod Restated
 pub mod BeginEnd
+pub mod MadeLists
 pub mod Cuts
 pub mod Blank
 pub mod Mending

@@ -12,6 +12,8 @@ use Rattle.rules.specs.Words.{Table, word, taken, GoodHeader, headerOf, 
 use Rattle.rules.specs.Stores.{Store, clearStores, redoStores, made}
 use Rattle.rules.specs.Soundness.{PlainMap, Before, twins, DoubledTable, FlaggedTable}
 use Rattle.rules.specs.Calls.{listed, recover, recoverOf, outcome}
+use Rattle.rules.specs.Results.{changeOf, changeResult}
+use Rattle.rules.specs.Histories.{whole, after}
 use Rattle.rules.specs.Demands.{Recovered}
 use Rattle.rules.specs.declared.Slot.{Slot}
 use Rattle.rules.specs.declared.Finding.{Finding}
@@ -26,6 +28,7 @@ use Rattle.rules.proofs.SlotChanged.{shown-after, rewrite-carried, writ
 use Rattle.rules.proofs.Twins.{same-or-twins, twins-ordered}
 use Rattle.rules.proofs.Findings.{KindOf, kind-found, recover-passes}
 use Rattle.rules.proofs.Moving.{Only, map-value}
+use Rattle.rules.proofs.MadeLists.{storesOf, after-whole}
 use Rattle.rules.proofs.Cuts.{EveryCut}
 use Rattle.rules.proofs.Putting.{SoundMap, TwinMap, token-low, clear-twin, twin-turned}
 
@@ -198,5 +201,19 @@ mends t m (asSound s) = whole-mended t m s
 mends t m (asTwin x y w) = ⊎-elim (λ (b : Before x y). twin-mended t m x y w b) (λ (b : Before y x). twin-mended t m y x (twin-turned t m x y w) b) (twin-ordered t m x y w)
 mends t m (asRedo x r) = redo-mended t m x r
 
+-- with any list of 20 words or more, made from that list
 pub recovered : (t : Table) (m : PlainMap) → Mends t m → Recovered t m
-recovered t m k = let r = mends t m k in record { stores = r .stores; answer = r .answer; few = r .few; sound = r .sound .sound; map = r .sound .map }
+unfolding changeResult
+recovered t m k = record {
+  stores = length (r .stores);
+  few = r .few;
+  answer = λ l long. ap changeOf (r .answer (length l) long);
+  sound = λ l long. rw (same l long) (r .sound .sound);
+  map = λ l long. rw (same l long) (r .sound .map);
+}
+  where
+    r : Mended t m
+    r = mends t m k
+
+    same : (l : List ℕ) → 20 ≤ length l → after t (whole recover l) ≡ made t (r .stores)
+    same l long = after-whole t l recover ∙ ap (λ o. made t (storesOf o)) (r .answer (length l) long)

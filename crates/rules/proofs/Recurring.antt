@@ -6,14 +6,14 @@ use mathlib.Core.List.{List, [], _∷_, List·Memᴰ·head as here, List·Memᴰ
 use mathlib.Core.Option.{some}
 use mathlib.Core.Logic.{_⊎_, inl, inr}
 use native.Mathlib.Omega.{arith}
-use lib.ListN.{length, take}
-use lib.Seq.{take-nil}
+use lib.ListN.{length, take, replicate}
+use lib.Seq.{take-nil, take-length}
 use borrow.Author.Tests.{leb-true}
 use Rattle.rules.specs.Words.{Table, GoodHeader, headerOf, keyIn, recordIn, tokenOf}
-use Rattle.rules.specs.Stores.{clearStores, made}
+use Rattle.rules.specs.Stores.{Store, clearStores, made}
 use Rattle.rules.specs.Soundness.{PlainMap, HasMap, DoubledTable, finding}
 use Rattle.rules.specs.Calls.{listLong, recoverTests, Outcome, refused, listed, recover, recoverOf, outcome}
-use Rattle.rules.specs.Histories.{Event, whole, cut, storesOf, after, afterAll, Every, Recovery}
+use Rattle.rules.specs.Histories.{Event, whole, cut, kept, after, afterAll, Every, Recovery}
 use Rattle.rules.specs.Demands.{Recovered, RecoveryMayBeCut}
 use Rattle.rules.specs.declared.Slot.{Slot}
 use Rattle.rules.specs.declared.Finding.{Finding}
@@ -26,6 +26,7 @@ use Rattle.rules.proofs.Twins.{before-apart}
 use Rattle.rules.proofs.Findings.{KindOf, finding-means, recover-passes}
 use Rattle.rules.proofs.Carried.{carried-stays, carried-back}
 use Rattle.rules.proofs.Moving.{Nothing, Only, copied-map}
+use Rattle.rules.proofs.MadeLists.{storesOf, after-whole, after-cut, accepted-lists}
 use Rattle.rules.proofs.Cuts.{cut-after}
 use Rattle.rules.proofs.Putting.{SoundMap, clear-writes, clear-carries, good-cleared}
 use Rattle.rules.proofs.Mending.{Mends, asSound, asTwin, asRedo, mends, recovered}
@@ -52,17 +53,33 @@ module _ (t : Table) (m : PlainMap) where
       })
 
   recovered-mends : Recovered t m → Mends t m
-  recovered-mends r = go (finding t) (finding-means t) (sym (recover-passes t 20 header (omega arith)) ∙ r .answer 20 (omega arith))
+  recovered-mends r = go (finding t) (finding-means t) (sym (recover-passes t 20 header (omega arith)) ∙ answer)
     where
+      -- any list of 20 words tells
+      list : List ℕ
+      list = replicate 20 0
+
+      lists : (xs : List Store) × (outcome t 20 recover ≡ listed xs)
+      lists = accepted-lists t list recover (rw (r .answer list (omega arith)) tt)
+
+      stores : List Store
+      stores = lists .0
+
+      answer : outcome t 20 recover ≡ listed stores
+      answer = lists .1
+
       header : GoodHeader (length t) (headerOf t)
-      header = accepted-header t 20 recover (r .stores) (r .answer 20 (omega arith))
+      header = accepted-header t 20 recover stores answer
 
-      sound : SoundMap (made t (r .stores)) m
-      sound = record { sound = r .sound; map = r .map }
+      same : after t (whole recover list) ≡ made t stores
+      same = after-whole t list recover ∙ ap (λ o. made t (storesOf o)) answer
 
-      go : (f : Finding) → KindOf t f → recoverOf t (headerOf t) f ≡ listed (r .stores) → Mends t m
+      sound : SoundMap (made t stores) m
+      sound = record { sound = rw same at (r .sound list (omega arith)); map = rw same at (r .map list (omega arith)) }
+
+      go : (f : Finding) → KindOf t f → recoverOf t (headerOf t) f ≡ listed stores → Mends t m
       go Sound k e = asSound (rw (listed-one e) at sound)
-      go (Doubled x y) k e = doubled-mends x y k (rw (listed-one e) at (r .map))
+      go (Doubled x y) k e = doubled-mends x y k (rw (listed-one e) at (sound .map))
       go (Flagged x) k e = asRedo x (record { flagged = k; brings = rw (listed-one e) at sound })
       go Neither k e = never-listed e
 
@@ -77,13 +94,7 @@ module _ (t : Table) (m : PlainMap) (k : Mends t m) (room : ℕ) where
       let long = leb-true 20 room (checked-passed _ xs (recoverTests t room) e (listLong room, ShortList) (there (here refl))) in
       inl (listed-one (sym (mends t m k .answer room long) ∙ e))
 
-  recovery-whole : Mends (made t (storesOf (outcome t room recover))) m
-  recovery-whole = go (recovery-lists (outcome t room recover) refl)
-    where
-      go : (storesOf (outcome t room recover) ≡ mends t m k .stores) ⊎ (storesOf (outcome t room recover) ≡ []) → Mends (made t (storesOf (outcome t room recover))) m
-      go (inl e) = rw e (asSound (mends t m k .sound))
-      go (inr e) = rw e k
-
+  -- so many of its stores, made
   recovery-cut : (n : ℕ) → Mends (made t (take n (storesOf (outcome t room recover)))) m
   recovery-cut n = go (recovery-lists (outcome t room recover) refl)
     where
@@ -92,8 +103,8 @@ module _ (t : Table) (m : PlainMap) (k : Mends t m) (room : ℕ) where
       go (inr e) = rw (e, take-nil n) k
 
 event-mends : (t : Table) (m : PlainMap) (e : Event) → Recovery e → Mends t m → Mends (after t e) m
-event-mends t m (whole q room) r k = rw r (recovery-whole t m k room)
-event-mends t m (cut q room n) r k = rw r (recovery-cut t m k room n)
+event-mends t m (whole q l) r k = rw (r, after-whole t l recover) (rw (take-length (storesOf (outcome t (length l) recover))) at (recovery-cut t m k (length l) (length (storesOf (outcome t (length l) recover)))))
+event-mends t m (cut q l n) r k = rw (r, after-cut t l recover n) (recovery-cut t m k (length l) (kept t (cut recover l n)))
 
 events-mend : (t : Table) (m : PlainMap) (es : List Event) → Every Recovery es → Mends t m → Mends (afterAll t es) m
 events-mend t m [] p k = k

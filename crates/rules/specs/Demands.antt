@@ -21,7 +21,7 @@ use Rattle.rules.specs.Answers.{numberOf, Meaning, changeMeans, queryMea
 use Rattle.rules.specs.Calls.{Outcome, refused, listed, Call, query, insert, update, delete, begin, step, end, recover, outcome}
 use Rattle.rules.specs.Results.{changeResult, stepResult, queryResult, createResult, makeResult}
 use Rattle.rules.specs.NoPlace.{NoPlaceFor}
-use Rattle.rules.specs.Histories.{Event, whole, after, History, Whole, Recovery, spent, Accepted, OneGrowth}
+use Rattle.rules.specs.Histories.{Event, whole, cut, after, History, Whole, Recovery, spent, Accepted, OneGrowth}
 use Rattle.rules.specs.declared.State.{State}
 use Rattle.rules.specs.declared.Header.{Header}
 use Rattle.rules.specs.declared.Place.{Place}
@@ -405,23 +405,22 @@ MakeTakesTheList =
     → (xs : List Store) × (outcome t (length l) q ≡ listed xs) × (length xs ≡ s)
     × (makeResult t (changeResult t l q .1) n ≡ (Done, made t (take n xs)))
 
--- recovery of u, with any list of 20 words or more, "lists at most three stores and brings back" the map m
+-- recovery of u, with any list of 20 words or more, "lists at most three stores", and these, made, bring back the map m
 pub record Recovered (u : Table) (m : PlainMap) : Type 0 where
-  pub stores : List Store
-  pub answer : (n : ℕ) → 20 ≤ n → outcome u n recover ≡ listed stores
-  pub few : length stores ≤ 3
-  pub sound : SoundTable (made u stores)
-  pub map : HasMap (made u stores) m
+  pub stores : ℕ
+  pub few : stores ≤ 3
+  pub answer : (l : List ℕ) → 20 ≤ length l → changeResult u l recover .0 ≡ Listed stores
+  pub sound : (l : List ℕ) → 20 ≤ length l → SoundTable (after u (whole recover l))
+  pub map : (l : List ℕ) → 20 ≤ length l → HasMap (after u (whole recover l)) m
 
 -- "A cut after any number of them is accepted by recovery .., which .. brings back exactly the map before or the map after".
--- The first n stores are made by make from the list as the call left it; made whole they give the map after, so that a call
--- that lists nothing fails here
+-- The first n stores, for every n, are made by make from the list as the call left it (`after`); made whole they give the map
+-- after, so that a call that lists nothing fails here
 abbrev pub CutsAreSafe : Type 0
 CutsAreSafe =
-    (t : Table) (m : PlainMap) (l : List ℕ) → Given t m (length l) → (q : Call) (s : ℕ) → changeResult t l q .0 ≡ Listed s
-    → (SoundTable (makeResult t (changeResult t l q .1) s .1) × HasMap (makeResult t (changeResult t l q .1) s .1) (mapAfter q m))
-    × ((n : ℕ) → n ≤ s → Recovered (makeResult t (changeResult t l q .1) n .1) m
-    ⊎ Recovered (makeResult t (changeResult t l q .1) n .1) (mapAfter q m))
+    (t : Table) (m : PlainMap) (l : List ℕ) → Given t m (length l) → (q : Call) → Accepted (changeResult t l q .0)
+    → (SoundTable (after t (whole q l)) × HasMap (after t (whole q l)) (mapAfter q m))
+    × ((n : ℕ) → Recovered (after t (cut q l n)) m ⊎ Recovered (after t (cut q l n)) (mapAfter q m))
 
 -- "also when recovery is cut, however often": after any recoveries, each cut anywhere, one that is whole brings the same map
 abbrev pub RecoveryMayBeCut : Type 0
@@ -440,9 +439,9 @@ RecoveryAccepts =
 -- made, spends at most 20N + 2 stores in its own calls, whatever but creation is called between."
 abbrev pub GrowthBound : Type 0
 GrowthBound =
-    (t u : Table) (room : ℕ) (es : List Event) → Accepted (outcome t room begin) → OneGrowth (after t (whole begin room)) es
-    → History Whole t (whole begin room ∷ es) u
-    → spent t (whole begin room ∷ es) ≤ 20 * 2 ^ headerOf t .state .k + 2
+    (t u : Table) (l : List ℕ) (es : List Event) → Accepted (changeResult t l begin .0) → OneGrowth (after t (whole begin l)) es
+    → History Whole t (whole begin l ∷ es) u
+    → spent t (whole begin l ∷ es) ≤ 20 * 2 ^ headerOf t .state .k + 2
 
 -- "A query looks at no more than four buckets, six while growing, and reports the number truly looked at": the position, in
 -- the list of distinct probed buckets, of the bucket where it stopped, or that list's length

@@ -1,27 +1,36 @@
--- Several calls in a row on one table: each with its stores made whole, or cut after some of them. What is said of several
--- calls takes the permitted events as a parameter.
+-- Several calls in a row on one table, as a caller makes them: a call with a lent list, then `make` on the list as the call left it,
+-- for all the stores that it reports or, where power goes, only for the first of them. What is said of several calls takes the
+-- permitted events as a parameter.
 -- Assumes nothing.
-use Prim.Native.Nat.{ℕ, _+_, _≤_}
+use Prim.Native.Nat.{ℕ, _+_, _≤_, min}
 use mathlib.Core.Path.{_≡_}
 use mathlib.Core.List.{List, [], _∷_}
 use mathlib.Core.Logic.{_⊎_}
-use lib.ListN.{length, take}
 use Rattle.rules.specs.Words.{Table}
-use Rattle.rules.specs.Stores.{Store, made}
-use Rattle.rules.specs.Calls.{Outcome, refused, listed, Call, query, insert, update, delete, begin, step, end, recover, outcome}
+use Rattle.rules.specs.Calls.{Call, query, insert, update, delete, begin, step, end, recover}
+use Rattle.rules.specs.Results.{changeResult, makeResult}
+use Rattle.rules.specs.declared.Change.{Change}
+use Rattle.rules.specs.declared.Change.the-variants.{Listed, Refused}
 
--- a call with a list of so many words, whose stores are all made, or only the first n of them
+-- a call with a lent list, whose stores are all made, or only the first n of them, "or all if there are fewer"
 pub data Event : Type 0 where
-  whole : Call → ℕ → Event
-  cut : Call → ℕ → ℕ → Event
+  whole : Call → List ℕ → Event
+  cut : Call → List ℕ → ℕ → Event
 
-abbrev pub storesOf : Outcome → List Store
-storesOf (refused r) = []
-storesOf (listed stores) = stores
+-- the stores that a call reports: "A refusal .. reports 0 stores."
+abbrev pub reported : Change → ℕ
+reported (Listed stores) = stores
+reported (Refused r) = 0
 
+-- the stores that are made
+abbrev pub kept : Table → Event → ℕ
+kept t (whole q l) = reported (changeResult t l q .0)
+kept t (cut q l n) = min n (reported (changeResult t l q .0))
+
+-- "A separate call makes the first n stores of a list."
 abbrev pub after : Table → Event → Table
-after t (whole q room) = made t (storesOf (outcome t room q))
-after t (cut q room n) = made t (take n (storesOf (outcome t room q)))
+after t (whole q l) = makeResult t (changeResult t l q .1) (kept t (whole q l)) .1
+after t (cut q l n) = makeResult t (changeResult t l q .1) (kept t (cut q l n)) .1
 
 abbrev pub afterAll : Table → List Event → Table
 afterAll t [] = t
@@ -38,13 +47,13 @@ pub record History (Permitted : Event → Type 0) (t : Table) (es : List Event) 
 
 -- "whatever but creation is called between", "each list made once, whole"
 abbrev pub Whole : Event → Type 0
-Whole (whole q room) = Unit {0}
-Whole (cut q room n) = ⊥
+Whole (whole q l) = Unit {0}
+Whole (cut q l n) = ⊥
 
 -- "recovery is cut, however often"
 abbrev pub Recovery : Event → Type 0
-Recovery (whole q room) = q ≡ recover
-Recovery (cut q room n) = q ≡ recover
+Recovery (whole q l) = q ≡ recover
+Recovery (cut q l n) = q ≡ recover
 
 -- the stores that growth spends "in its own calls": begin, steps and end
 abbrev pub ownStores : Call → ℕ → ℕ
@@ -58,22 +67,22 @@ ownStores (delete key) n = 0
 ownStores recover n = 0
 
 abbrev pub cost : Table → Event → ℕ
-cost t (whole q room) = ownStores q (length (storesOf (outcome t room q)))
-cost t (cut q room n) = ownStores q (length (take n (storesOf (outcome t room q))))
+cost t (whole q l) = ownStores q (kept t (whole q l))
+cost t (cut q l n) = ownStores q (kept t (cut q l n))
 
 abbrev pub spent : Table → List Event → ℕ
 spent t [] = 0
 spent t (e ∷ es) = cost t e + spent (after t e) es
 
 -- an accepted call
-abbrev pub Accepted : Outcome → Type 0
-Accepted (refused r) = ⊥
-Accepted (listed stores) = Unit {0}
+abbrev pub Accepted : Change → Type 0
+Accepted (Listed stores) = Unit {0}
+Accepted (Refused r) = ⊥
 
 -- the end of a growth: an accepted end
 abbrev pub EndsGrowth : Table → Event → Type 0
-EndsGrowth t (whole q room) = (q ≡ end) × Accepted (outcome t room q)
-EndsGrowth t (cut q room n) = (q ≡ end) × Accepted (outcome t room q) × (1 ≤ n)
+EndsGrowth t (whole q l) = (q ≡ end) × Accepted (changeResult t l q .0)
+EndsGrowth t (cut q l n) = (q ≡ end) × Accepted (changeResult t l q .0) × (1 ≤ n)
 
 -- events of one growth: none comes after its end
 abbrev pub OneGrowth : Table → List Event → Type 0
