@@ -5,17 +5,21 @@ use Prim.Native.Nat.{ℕ}
 use mathlib.Core.Path.{_≡_}
 use mathlib.Core.List.{List}
 use Rattle.rules.specs.Words.{Table}
-use Rattle.rules.specs.Answers.{changeMeans, steppedMeans}
+use Rattle.rules.specs.Answers.{Meaning, changeMeans, steppedMeans}
 use Rattle.rules.specs.Calls.{Outcome, Call}
 use Rattle.rules.specs.Results.{changeOf, listAfter, changeResult, stepResult}
 use Rattle.rules.specs.declared.Change.{Change}
 use Rattle.rules.specs.declared.Stepped.{Stepped}
 
--- insert, update, delete, begin, end, recover: call q on table t with list l answers r and leaves table u and list m
-pub record Changed (q : Call) (t : Table) (l : List ℕ) (r : Change) (u : Table) (m : List ℕ) : Type 0 where
-  pub answer : changeMeans r ≡ changeMeans (changeResult t l q .0)
+-- insert, update, delete, begin, end, recover: call q on table t with list l answers a number and its values, and leaves table u and
+-- list m
+pub record ChangedBy (q : Call) (t : Table) (l : List ℕ) (told : Meaning) (u : Table) (m : List ℕ) : Type 0 where
+  pub answer : told ≡ changeMeans (changeResult t l q .0)
   pub table : u ≡ t
   pub list : m ≡ changeResult t l q .1
+
+abbrev pub Changed : Call → Table → List ℕ → Change → Table → List ℕ → Type 0
+Changed q t l r u m = ChangedBy q t l (changeMeans r) u m
 
 -- step: the same, with the placing in its answer
 pub record StepTaken (t : Table) (l : List ℕ) (r : Stepped) (u : Table) (m : List ℕ) : Type 0 where

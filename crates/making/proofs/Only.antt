@@ -4,13 +4,14 @@ use Prim.Native.Nat.{ℕ}
 use mathlib.Core.Path.{_≡_, sym, _∙_}
 use mathlib.Core.List.{List}
 use Rattle.rules.specs.Words.{Table}
+use Rattle.rules.specs.Answers.{verdictMeans}
 use Rattle.rules.specs.Results.{createResult, makeResult}
 use Rattle.rules.specs.declared.Verdict.{Verdict}
 use Rattle.rules.proofs.Meanings.{verdict-one}
 use Rattle.making.specs.Promises.{Gives, Created, Made}
 
 module _ {r s : Verdict} {u v : Table} where
-  gives-one : (result : Verdict × Table) → Gives result r u → Gives result s v → (r ≡ s) × (u ≡ v)
+  gives-one : (result : Verdict × Table) → Gives result (verdictMeans r) u → Gives result (verdictMeans s) v → (r ≡ s) × (u ≡ v)
   gives-one result p q = (verdict-one r s (p .answer ∙ sym (q .answer)), p .table ∙ sym (q .table))
 
   pub created-one : (t : Table) (c k mul1 mul2 : ℕ) → Created t c k mul1 mul2 r u → Created t c k mul1 mul2 s v → (r ≡ s) × (u ≡ v)

@@ -34,11 +34,14 @@ probeCount t key =
 abbrev pub countOf : Meaning → ℕ
 countOf m = getD (m .values) 2 0
 
--- the number and values of document 01, and of the count: that position, at most four at rest and six while growing. u is the
--- table at exit
-pub record Queried (t : Table) (key : ℕ) (r : Query) (u : Table) : Type 0 where
-  pub answer : queryMeans r ≡ queryMeans (queryResult t key)
-  pub count : countOf (queryMeans r) ≡ probeCount t key
-  pub few : countOf (queryMeans r) ≤ 6
-  pub rest : atRest (headerOf t .state) ≡ true → countOf (queryMeans r) ≤ 4
+-- query answers a number and its values: those of document 01, and of the count: that position, at most four at rest and six while
+-- growing. u is the table at exit
+pub record QueriedBy (t : Table) (key : ℕ) (told : Meaning) (u : Table) : Type 0 where
+  pub answer : told ≡ queryMeans (queryResult t key)
+  pub count : countOf told ≡ probeCount t key
+  pub few : countOf told ≤ 6
+  pub rest : atRest (headerOf t .state) ≡ true → countOf told ≤ 4
   pub table : u ≡ t
+
+abbrev pub Queried : Table → ℕ → Query → Table → Type 0
+Queried t key r u = QueriedBy t key (queryMeans r) u
