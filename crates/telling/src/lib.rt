@@ -1,13 +1,12 @@
 // Answers as text on standard output, in document 01's numbers and values: "a definition tells you this paper's number and
 // values for each of its cases". Each answer begins with a colon.
+use numbering::number;
+use numbering::verdict_number;
 use rules::Change;
 use rules::Placing;
 use rules::Query;
-use rules::Refusal;
 use rules::Slot;
 use rules::Verdict;
-ghost use mathlib.Core.Path.{_≡_};
-ghost use Rattle.rules.specs.Answers.{numberOf};
 
 // What a list is filled with before a call, so that a word which the call has written is seen.
 pub const UNWRITTEN: u64 = 77;
@@ -19,28 +18,6 @@ pub fn say(text: &[u8]) {
 pub fn tell(n: u64) {
     say(b" ");
     io::print_decimal(1, n);
-}
-
-// The numbers of document 01's table.
-pub fn number(refusal: Refusal) -> u64
-    ensures { λ r. ⌜ r ≡ numberOf refusal ⌝ }
-{
-    match refusal {
-        Refusal::BadHeader => 1,
-        Refusal::ShortList => 2,
-        Refusal::FlagSet => 3,
-        Refusal::KeyPresent => 4,
-        Refusal::KeyAbsent => 5,
-        Refusal::NoPlace => 6,
-        Refusal::AlreadyGrowing => 7,
-        Refusal::NotGrowing => 8,
-        Refusal::AtCapacity => 9,
-        Refusal::InterimTaken => 10,
-        Refusal::InterimEmpty => 11,
-        Refusal::NoKind => 12,
-        Refusal::BadCreation => 13,
-        Refusal::BadMaking => 14,
-    }
 }
 
 // An answer's number, "0 is success", which its values follow.
@@ -103,10 +80,7 @@ pub fn query(answer: Query) {
 }
 
 pub fn verdict(answer: Verdict) {
-    match answer {
-        Verdict::Done => outcome(0),
-        Verdict::Denied(refusal) => outcome(number(refusal)),
-    }
+    outcome(verdict_number(answer));
 }
 
 fn slot(x: Slot) {
