@@ -1,0 +1,33 @@
+-- No second number, no second value, no second table and no second list keeps what the ten functions promise.
+-- Assumes nothing.
+use Prim.Native.Nat.{ℕ}
+use mathlib.Core.Path.{_≡_, sym, ap, _∙_}
+use mathlib.Core.List.{List}
+use lib.ListN.{getD}
+use Rattle.rules.specs.Words.{Table}
+use Rattle.rules.specs.Answers.{Meaning}
+use Rattle.rules.specs.Calls.{Call}
+use Rattle.numbering.specs.Told.{told, toldWith}
+use Rattle.querying.specs.Promises.{QueriedBy}
+use Rattle.making.specs.Promises.{CreatedBy, MadeBy}
+use Rattle.collector.specs.Reported.{Reported}
+
+numbers-one : {a b : Meaning} → a ≡ b → a .number ≡ b .number
+numbers-one e = ap (λ (m : Meaning). m .number) e
+
+module _ (t u v : Table) (r s : ℕ) where
+  pub created-one : (c k mul1 mul2 : ℕ) → CreatedBy t c k mul1 mul2 (told r) u → CreatedBy t c k mul1 mul2 (told s) v → (r ≡ s) × (u ≡ v)
+  created-one c k mul1 mul2 a b = (numbers-one (a .answer ∙ sym (b .answer)), a .table ∙ sym (b .table))
+
+  pub queried-one : (key : ℕ) (x y : List ℕ) → QueriedBy t key (toldWith r x) u → QueriedBy t key (toldWith s y) v → (r ≡ s) × (x ≡ y) × (u ≡ v)
+  queried-one key x y a b =
+      let same = a .answer ∙ sym (b .answer) in
+      (numbers-one same, ap (λ (m : Meaning). m .values) same, a .table ∙ sym (b .table))
+
+  pub reported-one : (q : Call) (l m n : List ℕ) (i j : ℕ) → Reported q t l r i u m → Reported q t l s j v n → (r ≡ s) × (i ≡ j) × (u ≡ v) × (m ≡ n)
+  reported-one q l m n i j a b =
+      let same = a .answer ∙ sym (b .answer) in
+      (numbers-one same, ap (λ (z : Meaning). getD (z .values) 0 0) same, a .table ∙ sym (b .table), a .list ∙ sym (b .list))
+
+  pub made-one : (l m n : List ℕ) (count : ℕ) → MadeBy t l count (told r) u m → MadeBy t l count (told s) v n → (r ≡ s) × (u ≡ v) × (m ≡ n)
+  made-one l m n count a b = (numbers-one (a .0 .answer ∙ sym (b .0 .answer)), a .0 .table ∙ sym (b .0 .table), a .1 ∙ sym (b .1))

@@ -1,0 +1,144 @@
+// The ten calls for a collector written in C or Rust. Each is the call itself, with document 01's number as its result, "0 is
+// success", and the values that go with it in words that the caller lends.
+use changing::delete;
+use changing::insert;
+use changing::update;
+use growing::begin;
+use growing::end;
+use growing::step;
+use making::create;
+use making::make;
+use numbering::number;
+use numbering::verdict_number;
+use querying::query;
+use recovering::recover;
+use rules::Change;
+use rules::Query;
+use rules::Record;
+ghost use mathlib.Core.Path.{_≡_};
+ghost use mathlib.Core.List.{[], _∷_};
+ghost use Rattle.rules.specs.Answers.{changeMeans};
+ghost use Rattle.rules.specs.Calls.{insert as insertCall, update as updateCall, delete as deleteCall, begin as beginCall, step as stepCall, end as endCall, recover as recoverCall};
+ghost use Rattle.querying.specs.Promises.{QueriedBy};
+ghost use Rattle.making.specs.Promises.{CreatedBy, MadeBy};
+ghost use Rattle.numbering.specs.Told.{told, toldWith};
+ghost use Rattle.collector.specs.Reported.{Reported};
+
+#[no_mangle]
+pub extern "C" fn ragansils_create(table: &mut [u64], c: u64, k: u64, mul1: u64, mul2: u64) -> u64
+    ensures { λ r. ⌜ CreatedBy (now (table .entry)) c k mul1 mul2 (told r) (now (table .exit)) ⌝ }
+{
+    verdict_number(create(table, c, k, mul1, mul2))
+}
+
+// Function, place and the number of buckets looked at.
+#[no_mangle]
+pub extern "C" fn ragansils_query(table: &[u64], key: u64, answer: &mut [u64; 3]) -> u64
+    ensures { λ r. ⌜ QueriedBy (now (table .entry)) key (toldWith r (now (answer .exit))) (now (table .exit)) ⌝ }
+{
+    let found = query(table, key);
+    match found {
+        Query::Known(r, looked) => {
+            *answer = [r.function, r.place, looked];
+            0
+        }
+        Query::Unknown(refusal, looked) => {
+            *answer = [0, 0, looked];
+            number(refusal)
+        }
+    }
+}
+
+// A change's number, and its stores in the word lent for them: "A refusal .. reports 0 stores."
+fn report(change: Change, stores: &mut u64) -> u64
+    ensures { λ r. ⌜ toldWith r (now (stores .exit) ∷ []) ≡ changeMeans change ⌝ }
+{
+    match change {
+        Change::Listed(count) => {
+            *stores = count;
+            0
+        }
+        Change::Refused(refusal) => {
+            *stores = 0;
+            number(refusal)
+        }
+    }
+}
+
+#[no_mangle]
+pub extern "C" fn ragansils_insert(
+    table: &[u64],
+    key: u64,
+    function: u64,
+    place: u64,
+    list: &mut [u64],
+    stores: &mut u64,
+) -> u64
+    ensures { λ r. ⌜ Reported (insertCall key (record { function = function; place = place })) (now (table .entry)) (now (list .entry)) r (now (stores .exit)) (now (table .exit)) (now (list .exit)) ⌝ }
+{
+    report(insert(table, list, key, Record { function, place }), stores)
+}
+
+#[no_mangle]
+pub extern "C" fn ragansils_update(
+    table: &[u64],
+    key: u64,
+    function: u64,
+    place: u64,
+    list: &mut [u64],
+    stores: &mut u64,
+) -> u64
+    ensures { λ r. ⌜ Reported (updateCall key (record { function = function; place = place })) (now (table .entry)) (now (list .entry)) r (now (stores .exit)) (now (table .exit)) (now (list .exit)) ⌝ }
+{
+    report(update(table, list, key, Record { function, place }), stores)
+}
+
+#[no_mangle]
+pub extern "C" fn ragansils_delete(
+    table: &[u64],
+    key: u64,
+    list: &mut [u64],
+    stores: &mut u64,
+) -> u64
+    ensures { λ r. ⌜ Reported (deleteCall key) (now (table .entry)) (now (list .entry)) r (now (stores .exit)) (now (table .exit)) (now (list .exit)) ⌝ }
+{
+    report(delete(table, list, key), stores)
+}
+
+#[no_mangle]
+pub extern "C" fn ragansils_begin(table: &[u64], list: &mut [u64], stores: &mut u64) -> u64
+    ensures { λ r. ⌜ Reported beginCall (now (table .entry)) (now (list .entry)) r (now (stores .exit)) (now (table .exit)) (now (list .exit)) ⌝ }
+{
+    report(begin(table, list), stores)
+}
+
+// C is not told the placing.
+#[no_mangle]
+pub extern "C" fn ragansils_step(table: &[u64], list: &mut [u64], stores: &mut u64) -> u64
+    ensures { λ r. ⌜ Reported stepCall (now (table .entry)) (now (list .entry)) r (now (stores .exit)) (now (table .exit)) (now (list .exit)) ⌝ }
+{
+    let taken = step(table, list);
+    let change = taken.change;
+    report(change, stores)
+}
+
+#[no_mangle]
+pub extern "C" fn ragansils_end(table: &[u64], list: &mut [u64], stores: &mut u64) -> u64
+    ensures { λ r. ⌜ Reported endCall (now (table .entry)) (now (list .entry)) r (now (stores .exit)) (now (table .exit)) (now (list .exit)) ⌝ }
+{
+    report(end(table, list), stores)
+}
+
+#[no_mangle]
+pub extern "C" fn ragansils_recover(table: &[u64], list: &mut [u64], stores: &mut u64) -> u64
+    ensures { λ r. ⌜ Reported recoverCall (now (table .entry)) (now (list .entry)) r (now (stores .exit)) (now (table .exit)) (now (list .exit)) ⌝ }
+{
+    report(recover(table, list), stores)
+}
+
+#[no_mangle]
+pub extern "C" fn ragansils_make(table: &mut [u64], list: &[u64], n: u64) -> u64
+    ensures { λ r. ⌜ MadeBy (now (table .entry)) (now (list .entry)) n (told r) (now (table .exit)) (now (list .exit)) ⌝ }
+{
+    verdict_number(make(table, list, n))
+}
