@@ -1,0 +1,5 @@
+mod Beginnings
+mod Chains
+mod Digits
+mod Answered
+pub mod Only
