@@ -64,7 +64,7 @@ decimal-digits : (ds : List ℕ) → noLeadingZero ds ≡ true → decimalOf ds 
 unfolding decimalOf digitsFrom
 decimal-digits ds e = rw e
 
-not-zero-first : (d : ℕ) (ds : List ℕ) → (d ≡ 48 → ⊥) → noLeadingZero (d ∷ ds) ≡ true
+pub not-zero-first : (d : ℕ) (ds : List ℕ) → (d ≡ 48 → ⊥) → noLeadingZero (d ∷ ds) ≡ true
 not-zero-first d [] n = refl
 not-zero-first d (e ∷ ds) n = rw (ne-eqb _ _ n)
 

@@ -1,3 +1,4 @@
 pub mod Lines
 pub mod Found
 pub mod Promises
+pub mod Texts

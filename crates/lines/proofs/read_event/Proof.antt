@@ -1,13 +1,12 @@
 -- `lines::read_event` meets its contract: the events are tested in their order.
 -- Assumes nothing.
 use Prim.Native.Nat.{ℕ}
-use mathlib.Core.Path.{_≡_, sym, ap, _∙_}
+use mathlib.Core.Path.{_≡_, refl, sym, ap, _∙_}
 use mathlib.Core.List.{List, [], _∷_}
 use denote.Ref.{now}
 use Rattle.lines.specs.Lines.{opOf, evented}
 use Rattle.lines.specs.declared.Op.the-variants.{Insert, Update, Delete, Query, Begin, Step, End, Recover, Cut}
 use Rattle.lines.proofs.Chains.{opIn, op-all, op-hit, op-passed, op-none}
-use borrow.Author.Needs.{needs}
 use Rattle.lines.proofs.read_event.Statement.{statement}
 use Rattle.lines.proofs.read_event.Tie as tie
 
@@ -67,82 +66,82 @@ left9 : (c : tie.Else9) → opOf (line9 c) ≡ opIn (line9 c) []
 left9 c = left8 (c .before .before .before) ∙ op-passed _ Cut _ (sym (c .before .is9 .ensures) ∙ c .if9 .left)
 
 slice-aggregate-is : tie.Need-slice-aggregate-is
-slice-aggregate-is c = search needs
+slice-aggregate-is c = refl
 
 is-requires : tie.Need-is-requires
-is-requires c κs = search needs
+is-requires c κs = tt
 
 returns : tie.Need-returns
 returns c = sym (ap evented (op-all _ ∙ op-hit _ Insert _ (sym (c .before .is .ensures) ∙ c .if1 .taken)))
 
 slice-aggregate-is-2 : tie.Need-slice-aggregate-is-2
-slice-aggregate-is-2 c = search needs
+slice-aggregate-is-2 c = refl
 
 is-requires-2 : tie.Need-is-requires-2
-is-requires-2 c κs = search needs
+is-requires-2 c κs = tt
 
 returns-2 : tie.Need-returns-2
 returns-2 c = sym (ap evented (left1 (c .before .before .before) ∙ op-hit _ Update _ (sym (c .before .is2 .ensures) ∙ c .if2 .taken)))
 
 slice-aggregate-is-3 : tie.Need-slice-aggregate-is-3
-slice-aggregate-is-3 c = search needs
+slice-aggregate-is-3 c = refl
 
 is-requires-3 : tie.Need-is-requires-3
-is-requires-3 c κs = search needs
+is-requires-3 c κs = tt
 
 returns-3 : tie.Need-returns-3
 returns-3 c = sym (ap evented (left2 (c .before .before .before) ∙ op-hit _ Delete _ (sym (c .before .is3 .ensures) ∙ c .if3 .taken)))
 
 slice-aggregate-is-4 : tie.Need-slice-aggregate-is-4
-slice-aggregate-is-4 c = search needs
+slice-aggregate-is-4 c = refl
 
 is-requires-4 : tie.Need-is-requires-4
-is-requires-4 c κs = search needs
+is-requires-4 c κs = tt
 
 returns-4 : tie.Need-returns-4
 returns-4 c = sym (ap evented (left3 (c .before .before .before) ∙ op-hit _ Query _ (sym (c .before .is4 .ensures) ∙ c .if4 .taken)))
 
 slice-aggregate-is-5 : tie.Need-slice-aggregate-is-5
-slice-aggregate-is-5 c = search needs
+slice-aggregate-is-5 c = refl
 
 is-requires-5 : tie.Need-is-requires-5
-is-requires-5 c κs = search needs
+is-requires-5 c κs = tt
 
 returns-5 : tie.Need-returns-5
 returns-5 c = sym (ap evented (left4 (c .before .before .before) ∙ op-hit _ Begin _ (sym (c .before .is5 .ensures) ∙ c .if5 .taken)))
 
 slice-aggregate-is-6 : tie.Need-slice-aggregate-is-6
-slice-aggregate-is-6 c = search needs
+slice-aggregate-is-6 c = refl
 
 is-requires-6 : tie.Need-is-requires-6
-is-requires-6 c κs = search needs
+is-requires-6 c κs = tt
 
 returns-6 : tie.Need-returns-6
 returns-6 c = sym (ap evented (left5 (c .before .before .before) ∙ op-hit _ Step _ (sym (c .before .is6 .ensures) ∙ c .if6 .taken)))
 
 slice-aggregate-is-7 : tie.Need-slice-aggregate-is-7
-slice-aggregate-is-7 c = search needs
+slice-aggregate-is-7 c = refl
 
 is-requires-7 : tie.Need-is-requires-7
-is-requires-7 c κs = search needs
+is-requires-7 c κs = tt
 
 returns-7 : tie.Need-returns-7
 returns-7 c = sym (ap evented (left6 (c .before .before .before) ∙ op-hit _ End _ (sym (c .before .is7 .ensures) ∙ c .if7 .taken)))
 
 slice-aggregate-is-8 : tie.Need-slice-aggregate-is-8
-slice-aggregate-is-8 c = search needs
+slice-aggregate-is-8 c = refl
 
 is-requires-8 : tie.Need-is-requires-8
-is-requires-8 c κs = search needs
+is-requires-8 c κs = tt
 
 returns-8 : tie.Need-returns-8
 returns-8 c = sym (ap evented (left7 (c .before .before .before) ∙ op-hit _ Recover _ (sym (c .before .is8 .ensures) ∙ c .if8 .taken)))
 
 slice-aggregate-is-9 : tie.Need-slice-aggregate-is-9
-slice-aggregate-is-9 c = search needs
+slice-aggregate-is-9 c = refl
 
 is-requires-9 : tie.Need-is-requires-9
-is-requires-9 c κs = search needs
+is-requires-9 c κs = tt
 
 returns-9 : tie.Need-returns-9
 returns-9 c = sym (ap evented (left8 (c .before .before .before) ∙ op-hit _ Cut _ (sym (c .before .is9 .ensures) ∙ c .if9 .taken)))

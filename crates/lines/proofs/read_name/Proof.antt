@@ -1,14 +1,13 @@
 -- `lines::read_name` meets its contract: the names are tested in their order.
 -- Assumes nothing.
 use Prim.Native.Nat.{ℕ}
-use mathlib.Core.Path.{_≡_, sym, ap, _∙_}
+use mathlib.Core.Path.{_≡_, refl, sym, ap, _∙_}
 use mathlib.Core.List.{List, [], _∷_}
 use denote.Ref.{now}
 use Rattle.lines.specs.Lines.{nameOf}
 use Rattle.lines.specs.Found.{nameFound}
 use Rattle.lines.specs.declared.Name.the-variants.{Cap, Top, Mul1, Mul2, Key, Fn, At, After}
 use Rattle.lines.proofs.Chains.{nameIn, name-all, name-hit, name-passed, name-none}
-use borrow.Author.Needs.{needs}
 use Rattle.lines.proofs.read_name.Statement.{statement}
 use Rattle.lines.proofs.read_name.Tie as tie
 
@@ -62,73 +61,73 @@ left8 : (c : tie.Else8) → nameOf (line8 c) ≡ nameIn (line8 c) []
 left8 c = left7 (c .before .before .before) ∙ name-passed _ After _ (sym (c .before .starts8 .ensures) ∙ c .if8 .left)
 
 slice-aggregate-starts : tie.Need-slice-aggregate-starts
-slice-aggregate-starts c = search needs
+slice-aggregate-starts c = refl
 
 starts-requires : tie.Need-starts-requires
-starts-requires c κs = search needs
+starts-requires c κs = tt
 
 returns : tie.Need-returns
 returns c = sym (ap nameFound (name-all _ ∙ name-hit _ Cap _ (sym (c .before .starts .ensures) ∙ c .if1 .taken)))
 
 slice-aggregate-starts-2 : tie.Need-slice-aggregate-starts-2
-slice-aggregate-starts-2 c = search needs
+slice-aggregate-starts-2 c = refl
 
 starts-requires-2 : tie.Need-starts-requires-2
-starts-requires-2 c κs = search needs
+starts-requires-2 c κs = tt
 
 returns-2 : tie.Need-returns-2
 returns-2 c = sym (ap nameFound (left1 (c .before .before .before) ∙ name-hit _ Top _ (sym (c .before .starts2 .ensures) ∙ c .if2 .taken)))
 
 slice-aggregate-starts-3 : tie.Need-slice-aggregate-starts-3
-slice-aggregate-starts-3 c = search needs
+slice-aggregate-starts-3 c = refl
 
 starts-requires-3 : tie.Need-starts-requires-3
-starts-requires-3 c κs = search needs
+starts-requires-3 c κs = tt
 
 returns-3 : tie.Need-returns-3
 returns-3 c = sym (ap nameFound (left2 (c .before .before .before) ∙ name-hit _ Mul1 _ (sym (c .before .starts3 .ensures) ∙ c .if3 .taken)))
 
 slice-aggregate-starts-4 : tie.Need-slice-aggregate-starts-4
-slice-aggregate-starts-4 c = search needs
+slice-aggregate-starts-4 c = refl
 
 starts-requires-4 : tie.Need-starts-requires-4
-starts-requires-4 c κs = search needs
+starts-requires-4 c κs = tt
 
 returns-4 : tie.Need-returns-4
 returns-4 c = sym (ap nameFound (left3 (c .before .before .before) ∙ name-hit _ Mul2 _ (sym (c .before .starts4 .ensures) ∙ c .if4 .taken)))
 
 slice-aggregate-starts-5 : tie.Need-slice-aggregate-starts-5
-slice-aggregate-starts-5 c = search needs
+slice-aggregate-starts-5 c = refl
 
 starts-requires-5 : tie.Need-starts-requires-5
-starts-requires-5 c κs = search needs
+starts-requires-5 c κs = tt
 
 returns-5 : tie.Need-returns-5
 returns-5 c = sym (ap nameFound (left4 (c .before .before .before) ∙ name-hit _ Key _ (sym (c .before .starts5 .ensures) ∙ c .if5 .taken)))
 
 slice-aggregate-starts-6 : tie.Need-slice-aggregate-starts-6
-slice-aggregate-starts-6 c = search needs
+slice-aggregate-starts-6 c = refl
 
 starts-requires-6 : tie.Need-starts-requires-6
-starts-requires-6 c κs = search needs
+starts-requires-6 c κs = tt
 
 returns-6 : tie.Need-returns-6
 returns-6 c = sym (ap nameFound (left5 (c .before .before .before) ∙ name-hit _ Fn _ (sym (c .before .starts6 .ensures) ∙ c .if6 .taken)))
 
 slice-aggregate-starts-7 : tie.Need-slice-aggregate-starts-7
-slice-aggregate-starts-7 c = search needs
+slice-aggregate-starts-7 c = refl
 
 starts-requires-7 : tie.Need-starts-requires-7
-starts-requires-7 c κs = search needs
+starts-requires-7 c κs = tt
 
 returns-7 : tie.Need-returns-7
 returns-7 c = sym (ap nameFound (left6 (c .before .before .before) ∙ name-hit _ At _ (sym (c .before .starts7 .ensures) ∙ c .if7 .taken)))
 
 slice-aggregate-starts-8 : tie.Need-slice-aggregate-starts-8
-slice-aggregate-starts-8 c = search needs
+slice-aggregate-starts-8 c = refl
 
 starts-requires-8 : tie.Need-starts-requires-8
-starts-requires-8 c κs = search needs
+starts-requires-8 c κs = tt
 
 returns-8 : tie.Need-returns-8
 returns-8 c = sym (ap nameFound (left7 (c .before .before .before) ∙ name-hit _ After _ (sym (c .before .starts8 .ensures) ∙ c .if8 .taken)))

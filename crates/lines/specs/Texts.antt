@@ -1,0 +1,40 @@
+-- The texts of the lines that document 01 names, and that they are the good lines: no other bytes say anything, and each says
+-- just the line whose text it is. The proofs of the two statements are in the module of the same name.
+-- Assumes nothing.
+use Prim.Native.Nat.{ℕ, zero, suc, _+_, _/_, _%_, _^_, _<_}
+use mathlib.Core.Path.{_≡_}
+use mathlib.Core.Bool.{cond}
+use mathlib.Core.List.{List, [], _∷_, _++_}
+use lib.Dec.{ltb}
+use Rattle.lines.specs.Lines.{bytes, nameText, opText, lineOf}
+use Rattle.lines.specs.declared.Line.{Line}
+use Rattle.lines.specs.declared.Line.the-variants.{Number, Event, Bad}
+
+-- a number's digits, at most n of them: the digits of its tenth, and then its last one
+unfoldable pub digitsIn : ℕ → ℕ → List ℕ
+digitsIn zero v = []
+digitsIn (suc n) v = cond (ltb v 10) ((48 + v) ∷ []) (digitsIn n (v / 10) ++ ((48 + v % 10) ∷ []))
+
+-- a number has at most one digit more than its value: `0` for 0, and "no leading zeros"
+unfoldable pub decimalText : ℕ → List ℕ
+decimalText v = digitsIn (suc v) v
+
+-- "Lines of name=decimal, no leading zeros", and the events. A bad line has no text
+abbrev pub lineText : Line → List ℕ
+lineText (Number n v) = bytes (nameText n) ++ decimalText v
+lineText (Event o) = bytes (opText o)
+lineText Bad = []
+
+-- "A number of 2^64 or more is bad"
+abbrev pub Good : Line → Type 0
+Good (Number n v) = v < 2 ^ 64
+Good (Event o) = Unit {0}
+Good Bad = ⊥
+
+-- the text of a good line says that line
+abbrev pub TextsSay : Type 0
+TextsSay = (l : Line) → Good l → lineOf (lineText l) ≡ l
+
+-- bytes that are not bad are the text of a good line, the one that they say
+abbrev pub OnlyTextsSay : Type 0
+OnlyTextsSay = (line : List ℕ) → (lineOf line ≡ Bad → ⊥) → Good (lineOf line) × (line ≡ lineText (lineOf line))
