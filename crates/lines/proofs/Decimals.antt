@@ -2,15 +2,16 @@
 -- Assumes nothing.
 use Prim.Native.Nat.{ℕ, zero, suc, _+_, _-_, _*_, _/_, _%_, _^_, _≤_, _<_}
 use mathlib.Core.Path.{_≡_, refl, sym, ap, _∙_}
-use mathlib.Core.Bool.{Bool, true, false, not, cond, _&&_}
+use mathlib.Core.Bool.{Bool, true, false, cond, _&&_}
 use mathlib.Core.List.{List, [], _∷_, _++_, map, append-nil}
 use mathlib.Core.Option.{some}
+use mathlib.Core.Logic.{Iff·rfl}
 use native.Mathlib.Omega.{arith}
 use borrow.Author.Tests.{ltb-true, ltb-false, lt-ltb, le-ltb, leb-true, le-leb, eqb-false, not-true}
 use lib.Seq.{append-snoc}
 use lib.Dec.{ltb, leb, eqb}
 use Rattle.rules.specs.Choice.{all}
-use Rattle.rules.proofs.Tests.{all-yes}
+use Rattle.rules.proofs.Tests.{tells-and, all-yes}
 use Rattle.rules.proofs.Lists.{never, given-some}
 use Rattle.lines.specs.Lines.{isDigit, valueFrom, noLeadingZero, decimalOf}
 use Rattle.lines.specs.Texts.{digitsIn, decimalText}
@@ -98,8 +99,7 @@ decimal-read v h = let s = spells (suc v) v (omega arith) in rw (s .leading, s .
 -- ---- digits without a leading zero are the decimal of their value
 
 pub all-both : (a b : Bool) → a && b ≡ true → (a ≡ true) × (b ≡ true)
-all-both true b e = (refl, e)
-all-both false b e = never e refl
+all-both a b = tells-and a b Iff·rfl Iff·rfl .0
 
 digit-bounds : (d : ℕ) → isDigit d ≡ true → (48 ≤ d) × (d ≤ 57)
 digit-bounds d e = let t = all-both (leb 48 d) (leb d 57) e in (leb-true 48 d (t .0), leb-true d 57 (t .1))

@@ -1,7 +1,7 @@
 -- A line's digits from byte i on, read after others that gave v; and when the digits are a decimal.
 -- Assumes nothing.
 use Prim.Native.Nat.{ℕ, suc, _+_, _-_, _*_, _^_, _≤_, _<_}
-use mathlib.Core.Path.{_≡_, refl, sym, _∙_}
+use mathlib.Core.Path.{_≡_, refl}
 use mathlib.Core.Bool.{Bool, true, false, not, and-false}
 use mathlib.Core.List.{List, [], _∷_}
 use mathlib.Core.Option.{none, some}
@@ -11,7 +11,7 @@ use borrow.Author.Tests.{ltb-true, ltb-false, lt-ltb, le-ltb, le-leb, lt-leb, eq
 use lib.ListN.{length, drop, getD, drop-of-length-le}
 use lib.Seq.{drop-cons}
 use lib.Dec.{ltb}
-use Rattle.lines.specs.Lines.{isDigit, valueFrom, noLeadingZero, decimalOf}
+use Rattle.lines.specs.Lines.{valueFrom, noLeadingZero, decimalOf}
 use Rattle.lines.specs.Found.{digitsFrom}
 
 -- further digits make no number smaller

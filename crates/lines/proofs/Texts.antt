@@ -1,7 +1,7 @@
 -- The good lines are exactly the texts of lines: a text says its line, and no other bytes say one.
 -- Assumes nothing.
 use Prim.Native.Nat.{ℕ}
-use mathlib.Core.Path.{_≡_, refl, sym, ap, _∙_}
+use mathlib.Core.Path.{_≡_, refl, ap, _∙_}
 use mathlib.Core.Bool.{true}
 use mathlib.Core.List.{List, [], _∷_, _++_, append-nil}
 use mathlib.Core.Option.{Option, none, some}
@@ -10,7 +10,7 @@ use borrow.Author.Tests.{eqb-true}
 use lib.ListN.{length, drop, drop-of-length-le}
 use lib.Seq.{drop-append-seam}
 use lib.Dec.{eqb}
-use Rattle.rules.specs.Choice.{given, firstOf}
+use Rattle.rules.specs.Choice.{given}
 use Rattle.rules.proofs.Lists.{never, firstOf-some, given-some}
 use Rattle.lines.specs.Lines.{bytes, nameText, names, opText, ops, begins, same, decimalOf, nameOf, opOf, numbered, evented, lineWith, lineOf}
 use Rattle.lines.specs.Texts.{decimalText, lineText, Good, TextsSay, OnlyTextsSay}

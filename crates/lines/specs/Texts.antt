@@ -15,7 +15,7 @@ unfoldable pub digitsIn : ℕ → ℕ → List ℕ
 digitsIn zero v = []
 digitsIn (suc n) v = cond (ltb v 10) ((48 + v) ∷ []) (digitsIn n (v / 10) ++ ((48 + v % 10) ∷ []))
 
--- a number has at most one digit more than its value: `0` for 0, and "no leading zeros"
+-- all of its digits, which are at most v + 1: `0` for 0, and "no leading zeros"
 unfoldable pub decimalText : ℕ → List ℕ
 decimalText v = digitsIn (suc v) v
 
