@@ -48,14 +48,14 @@ event-said End = refl
 event-said Recover = refl
 event-said Cut = refl
 
-pub texts-say : TextsSay
+pub textsSay : TextsSay
 unfolding lineOf
-texts-say (Number n v) g =
+textsSay (Number n v) g =
     ap (lineWith (bytes (nameText n) ++ decimalText v)) (named n (decimalText v))
     ∙ ap (λ (ds : List ℕ). numbered n (decimalOf ds)) (drop-append-seam (bytes (nameText n)) (decimalText v))
     ∙ ap (numbered n) (decimal-read v g)
-texts-say (Event o) g = event-said o
-texts-say Bad g = absurd g
+textsSay (Event o) g = event-said o
+textsSay Bad g = absurd g
 
 -- ---- no other bytes say a line
 
@@ -97,6 +97,6 @@ module _ (line : List ℕ) where
       number-only n ds (begins-split (bytes (nameText n)) line (rw (g .1) at (g .0))) (decimalOf ds) refl
   either-only none q = event-only (opOf line) refl
 
-pub only-texts-say : OnlyTextsSay
+pub onlyTextsSay : OnlyTextsSay
 unfolding lineOf
-only-texts-say line = either-only line (nameOf line) refl
+onlyTextsSay line = either-only line (nameOf line) refl

@@ -1,5 +1,5 @@
 -- The texts of the lines that document 01 names, and that they are the good lines: no other bytes say anything, and each says
--- just the line whose text it is. The proofs of the two statements are in the module of the same name.
+-- just the line whose text it is. The proof of a statement bears its name, in proofs/Texts.
 -- Assumes nothing.
 use Prim.Native.Nat.{ℕ, zero, suc, _+_, _/_, _%_, _^_, _<_}
 use mathlib.Core.Path.{_≡_}
