@@ -1,3 +1,4 @@
 pub mod Runs
 pub mod Placings
 pub mod Outcomes
+pub mod Steps

@@ -14,7 +14,7 @@ ghost use Rattle.making.specs.Promises.{Created, Made};
 ghost use Rattle.making.specs.Indexes.{inside};
 
 // "The table has exactly 9 + 13·(2^(c+1) − 1) words"
-fn words_for(c: u64) -> usize
+pub fn words_for(c: u64) -> usize
     requires { ⌜ c ≤ 20 ⌝ }
     ensures { λ r. ⌜ r ≡ wordsFor c ⌝ }
 {

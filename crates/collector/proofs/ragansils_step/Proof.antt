@@ -1,7 +1,7 @@
 -- `collector::ragansils_step` meets its contract.
 -- Assumes nothing.
 use borrow.Author.Needs.{needs}
-use Rattle.collector.proofs.Tellings.{step-changes}
+use Rattle.listing.proofs.Steps.{step-changes}
 use Rattle.collector.proofs.ragansils_step.Statement.{statement}
 use Rattle.collector.proofs.ragansils_step.Tie as tie
 
