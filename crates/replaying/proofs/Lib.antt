@@ -1,0 +1,4 @@
+pub mod Made
+pub mod Rooms
+pub mod Taken
+pub mod Only

@@ -1,0 +1,171 @@
+// What a line makes of a replay.
+use crate::Answer;
+use crate::Replay;
+use crate::Turn;
+use crate::changes::change;
+use following::Act;
+use following::Asked;
+use following::Cut;
+use following::Due;
+use following::Ending;
+use following::Script;
+use following::finish as end_of;
+use following::read;
+use following::start;
+use lines::Line;
+use making::create;
+use making::words_for;
+use numbering::number;
+use querying::query;
+use rules::Query;
+use rules::Refusal;
+use rules::Verdict;
+use std::num::wrapping_add_u64;
+ghost use mathlib.Core.Path.{_≡_};
+ghost use Prim.Native.Nat.{min};
+ghost use Rattle.rules.specs.Results.{queryResult};
+ghost use Rattle.rules.specs.Answers.{numberOf};
+ghost use Rattle.following.specs.declared.Asked.the-variants.{Table as askTable, Query as askQuery, Change as askChange};
+ghost use Rattle.replaying.specs.declared.Answer.the-variants.{Unmade};
+ghost use Rattle.replaying.specs.Replays.{begun as begunOf, queryAnswer, stopped, counted, moved, askedOf, turnOf, finishOf, TurnIs};
+
+pub fn begun() -> Replay
+    ensures { λ r. ⌜ r ≡ begunOf ⌝ }
+{
+    Replay {
+        script: start(),
+        words: 0,
+        events: 0,
+    }
+}
+
+fn found(t: &[u64], key: u64) -> Answer
+    ensures { λ r. ⌜ r ≡ queryAnswer (queryResult (now (t .entry)) key) ⌝ }
+{
+    let answer = query(t, key);
+    match answer {
+        Query::Known(r, looked) => Answer::Found(0, r.function, r.place, looked),
+        Query::Unknown(refusal, looked) => Answer::Found(number(refusal), 0, 0, looked),
+    }
+}
+
+fn least(a: usize, b: usize) -> usize
+    ensures { λ r. ⌜ r ≡ min a b ⌝ }
+{
+    if a < b { a } else { b }
+}
+
+// "After `made=13` comes `events=0`, and no event line is read."
+fn unmade(p: Replay, next: Script, refusal: Refusal) -> Turn
+    ensures { λ r. ⌜ (r .replay ≡ stopped p next) × (r .answer ≡ Unmade (numberOf refusal)) ⌝ }
+{
+    Turn {
+        replay: Replay {
+            script: Script {
+                due: Due::Nothing,
+                first: 0,
+                second: 0,
+                third: 0,
+                cut: Cut::None,
+                lines: next.lines,
+            },
+            words: p.words,
+            events: p.events,
+        },
+        answer: Answer::Unmade(number(refusal)),
+    }
+}
+
+// "Program cap is at most 8; a larger one gives `made=13`." The table is made in the first of the lent words.
+fn tabled(p: Replay, next: Script, room: &mut [u64], c: u64, k: u64, mul1: u64, mul2: u64) -> Turn
+    ensures { λ r. ⌜ TurnIs (askedOf (now (room .entry)) p next (askTable c k mul1 mul2)) r (now (room .exit)) ⌝ }
+{
+    if 8 < c {
+        return unmade(p, next, Refusal::BadCreation);
+    }
+    let words = words_for(c);
+    let lent = least(words, room.len());
+    let verdict = create(&mut room[..lent], c, k, mul1, mul2);
+    match verdict {
+        Verdict::Done => Turn {
+            replay: Replay {
+                script: next,
+                words,
+                events: p.events,
+            },
+            answer: Answer::Made,
+        },
+        Verdict::Denied(refusal) => unmade(p, next, refusal),
+    }
+}
+
+// One event more is answered.
+fn answered(p: Replay, next: Script, answer: Answer) -> Turn
+    ensures { λ r. ⌜ (r .replay ≡ counted p next) × (r .answer ≡ answer) ⌝ }
+{
+    Turn {
+        replay: Replay {
+            script: next,
+            words: p.words,
+            events: wrapping_add_u64(p.events, 1),
+        },
+        answer,
+    }
+}
+
+fn queried(p: Replay, next: Script, room: &mut [u64], key: u64) -> Turn
+    ensures { λ r. ⌜ TurnIs (askedOf (now (room .entry)) p next (askQuery key)) r (now (room .exit)) ⌝ }
+{
+    let lent = least(p.words, room.len());
+    answered(p, next, found(&room[..lent], key))
+}
+
+fn changed(p: Replay, next: Script, room: &mut [u64], act: Act, cut: Cut) -> Turn
+    ensures { λ r. ⌜ TurnIs (askedOf (now (room .entry)) p next (askChange act cut)) r (now (room .exit)) ⌝ }
+{
+    let lent = least(p.words, room.len());
+    let answer = change(&mut room[..lent], act, cut);
+    answered(p, next, answer)
+}
+
+// Nothing is done.
+fn passed(p: Replay, next: Script, answer: Answer) -> Turn
+    ensures { λ r. ⌜ (r .replay ≡ moved p next) × (r .answer ≡ answer) ⌝ }
+{
+    Turn {
+        replay: Replay {
+            script: next,
+            words: p.words,
+            events: p.events,
+        },
+        answer,
+    }
+}
+
+pub fn take_line(p: Replay, room: &mut [u64], line: Line) -> Turn
+    ensures { λ r. ⌜ TurnIs (turnOf (now (room .entry)) p line) r (now (room .exit)) ⌝ }
+{
+    let script = p.script;
+    let reading = read(script, line);
+    let next = reading.script;
+    let asked = reading.asked;
+    match asked {
+        Asked::Nothing => passed(p, next, Answer::Nothing),
+        Asked::Table(c, k, mul1, mul2) => tabled(p, next, room, c, k, mul1, mul2),
+        Asked::Query(key) => queried(p, next, room, key),
+        Asked::Change(act, cut) => changed(p, next, room, act, cut),
+        Asked::Bad(line) => passed(p, next, Answer::Bad(line)),
+    }
+}
+
+pub fn finish(p: Replay, torn: bool) -> Answer
+    ensures { λ r. ⌜ r ≡ finishOf p torn ⌝ }
+{
+    let script = p.script;
+    let end = end_of(script, torn);
+    match end {
+        Ending::Whole => Answer::Events(p.events),
+        Ending::Bad(line) => Answer::Bad(line),
+        Ending::Over => Answer::Nothing,
+    }
+}
