@@ -6,7 +6,7 @@ use mathlib.Core.List.{List}
 use Rattle.rules.specs.Words.{Table}
 use Rattle.rules.specs.Answers.{changeMeans}
 use Rattle.rules.specs.Results.{changeResult, makeResult}
-use Rattle.rules.specs.Histories.{reported, kept, after}
+use Rattle.rules.specs.Histories.{reported, after}
 use Rattle.rules.specs.declared.Change.{Change}
 use Rattle.rules.proofs.Meanings.{change-one}
 use Rattle.listing.specs.Promises.{Changed}

@@ -1,6 +1,6 @@
--- No second answer and no second words keep what begun, take_line and finish promise.
+-- No second answer and no second words keep what begun, take_line, finish and least promise.
 -- Assumes nothing.
-use Prim.Native.Nat.{ℕ}
+use Prim.Native.Nat.{ℕ, min}
 use mathlib.Core.Path.{_≡_, sym, _∙_}
 use mathlib.Core.Bool.{Bool}
 use mathlib.Core.List.{List}
@@ -17,3 +17,6 @@ turn-one x r s u v a b = (a .replay ∙ sym (b .replay), a .answer ∙ sym (b .a
 
 pub finish-one : (p : Replay) (torn : Bool) (r s : Answer) → r ≡ finishOf p torn → s ≡ finishOf p torn → r ≡ s
 finish-one p torn r s a b = a ∙ sym b
+
+pub least-one : (asked there r s : ℕ) → r ≡ min asked there → s ≡ min asked there → r ≡ s
+least-one asked there r s a b = a ∙ sym b

@@ -18,8 +18,6 @@ use Rattle.rules.specs.declared.Verdict.the-variants.{Done, Denied}
 use Rattle.lines.specs.declared.Line.{Line}
 use Rattle.following.specs.Scripts.{start, readingOf, endingOf}
 use Rattle.following.specs.declared.Due.the-variants.{Nothing as noMore}
-use Rattle.following.specs.declared.Act.{Act}
-use Rattle.following.specs.declared.Cut.{Cut}
 use Rattle.following.specs.declared.Cut.the-variants.{None as noCut}
 use Rattle.following.specs.declared.Script.{Script}
 use Rattle.following.specs.declared.Asked.{Asked}

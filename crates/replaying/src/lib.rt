@@ -1,5 +1,6 @@
 // A script carried out: what its lines ask for, done on lent words, and what is answered.
 mod changes;
+pub mod lending;
 mod turns;
 
 use following::Script;

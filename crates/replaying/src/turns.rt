@@ -3,6 +3,7 @@ use crate::Answer;
 use crate::Replay;
 use crate::Turn;
 use crate::changes::change;
+use crate::lending::least;
 use following::Act;
 use following::Asked;
 use following::Cut;
@@ -22,7 +23,6 @@ use rules::Refusal;
 use rules::Verdict;
 use std::num::wrapping_add_u64;
 ghost use mathlib.Core.Path.{_≡_};
-ghost use Prim.Native.Nat.{min};
 ghost use Rattle.rules.specs.Results.{queryResult};
 ghost use Rattle.rules.specs.Answers.{numberOf};
 ghost use Rattle.following.specs.declared.Asked.the-variants.{Table as askTable, Query as askQuery, Change as askChange};
@@ -47,12 +47,6 @@ fn found(t: &[u64], key: u64) -> Answer
         Query::Known(r, looked) => Answer::Found(0, r.function, r.place, looked),
         Query::Unknown(refusal, looked) => Answer::Found(number(refusal), 0, 0, looked),
     }
-}
-
-fn least(a: usize, b: usize) -> usize
-    ensures { λ r. ⌜ r ≡ min a b ⌝ }
-{
-    if a < b { a } else { b }
 }
 
 // "After `made=13` comes `events=0`, and no event line is read."
