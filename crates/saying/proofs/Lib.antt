@@ -1,0 +1,4 @@
+mod Decimals
+mod Puts
+mod LinesPut
+pub mod Only

@@ -1,0 +1,70 @@
+-- Lines that are put one after the other, and what is promised of an answer whose lines are put from the front.
+-- Assumes nothing.
+use Prim.Native.Nat.{ℕ, _+_, _≤_}
+use mathlib.Core.Path.{_≡_, refl, _∙_}
+use mathlib.Core.List.{List, [], _∷_, _++_, flatMap, append-nil, append-assoc}
+use native.Mathlib.Nat.{zero-add}
+use native.Mathlib.Omega.{arith}
+use lib.ListN.{length, take, drop}
+use lib.Seq.{sets-eq, take-append-seam, drop-append-seam}
+use Rattle.replaying.specs.declared.Answer.{Answer}
+use Rattle.replaying.specs.declared.Answer.the-variants.{Nothing}
+use Rattle.lines.specs.Lines.{bytes}
+use Rattle.saying.specs.Texts.{Line, lineText, textOf}
+use Rattle.saying.specs.Promises.{Said}
+use Rattle.saying.specs.Writing.{putAt, Put, PutLines, lineWith}
+use Rattle.saying.proofs.Puts.{put-length, then}
+
+-- a line that is put with its name and `=` as one text
+abbrev named : Line → List ℕ
+named x = lineWith (bytes (x .0) ++ bytes "=") (x .1)
+
+line-text : (x : Line) → named x ≡ lineText x
+unfolding lineWith
+line-text x = refl
+
+pub last-line : (x : Line) {at r : ℕ} {l m : List ℕ} → Put (named x) at l r m → Put (flatMap lineText (x ∷ [])) at l r m
+unfolding flatMap
+last-line x p = rw (append-nil, ← (line-text x)) p
+
+pub line-before : (x : Line) (xs : List Line) {at r₁ r₂ : ℕ} {l m₁ m₂ : List ℕ} → Put (named x) at l r₁ m₁ → Put (flatMap lineText xs) r₁ m₁ r₂ m₂ → Put (flatMap lineText (x ∷ xs)) at l r₂ m₂
+unfolding flatMap
+line-before x xs p q = rw (← (line-text x)) (then p q)
+
+lines-after : (xs : List Line) (x : Line) → flatMap lineText xs ++ named x ≡ flatMap lineText (xs ++ (x ∷ []))
+unfolding flatMap
+lines-after [] x = rw (append-nil, line-text x)
+lines-after (y ∷ ys) x = rw (append-assoc (lineText y) (flatMap lineText ys) (named x), lines-after ys x)
+
+pub line-after : (xs : List Line) (x : Line) {at r₁ r₂ : ℕ} {l m₁ m₂ : List ℕ} → Put (flatMap lineText xs) at l r₁ m₁ → Put (named x) r₁ m₁ r₂ m₂ → Put (flatMap lineText (xs ++ (x ∷ []))) at l r₂ m₂
+line-after xs x p q = rw (← (lines-after xs x)) (then p q)
+
+-- ---- from the front
+
+from-front : (l text : List ℕ) → 0 + length text ≤ length l → putAt l 0 text ≡ text ++ drop (length text) l
+unfolding putAt
+from-front l text h = rw (sets-eq text l 0 h, zero-add)
+
+pub said : (answer : Answer) {l m : List ℕ} {r : ℕ} → PutLines answer l r m → Said answer l r m
+unfolding textOf
+said answer {l} {m} {r} p =
+    record {
+      size = size;
+      text = text;
+      rest = rw (front, size, drop-append-seam);
+      within = (omega (arith, p .room, p .next, put-length p), rw (text, ← size));
+    }
+  where
+    size : r ≡ length (textOf answer)
+    size = p .next ∙ zero-add (length (textOf answer))
+
+    front : m ≡ textOf answer ++ drop (length (textOf answer)) l
+    front = p .buffer ∙ from-front l (textOf answer) (p .room)
+
+    text : take r m ≡ textOf answer
+    text = rw (front, size, take-append-seam)
+
+-- nothing to say
+pub said-nothing : (l : List ℕ) → Said Nothing l 0 l
+unfolding textOf flatMap
+said-nothing l = record { size = refl; text = refl; rest = refl; within = (omega arith, refl) }

@@ -1,0 +1,51 @@
+-- A text is put byte by byte, and texts that are put one after the other are put as one text.
+-- Assumes nothing.
+use Prim.Native.Nat.{ℕ, suc, _+_, _≤_, _<_}
+use mathlib.Core.Path.{_≡_, refl}
+use mathlib.Core.List.{List, [], _∷_, _++_}
+use native.Mathlib.Nat.{add-zero}
+use native.Mathlib.Numerals.{add-one}
+use native.Mathlib.Omega.{arith}
+use lib.ListN.{length, take, getD, set, length-append}
+use lib.Seq.{sets, length-sets, length-take-le, take-suc}
+use Rattle.saying.specs.Writing.{putAt, Put}
+
+sets-append : (l : List ℕ) (at : ℕ) (xs ys : List ℕ) → sets l at (xs ++ ys) ≡ sets (sets l at xs) (at + length xs) ys
+sets-append l at [] ys = rw add-zero
+sets-append l at (x ∷ xs) ys =
+    let e : suc at + length xs ≡ at + suc (length xs) = omega arith in
+    rw (← e) (sets-append (set l at x) (suc at) xs ys)
+
+-- ---- a copy, byte by byte
+
+module _ (l : List ℕ) (at : ℕ) (text : List ℕ) where
+  pub put-none : l ≡ putAt l at (take 0 text)
+  unfolding putAt
+  put-none = refl
+
+  pub put-next : (i : ℕ) → i < length text → set (putAt l at (take i text)) (at + i) (getD text i 0) ≡ putAt l at (take (i + 1) text)
+  unfolding putAt
+  put-next i h =
+      rw (add-one, take-suc text i 0 h, sets-append l at (take i text) (getD text i 0 ∷ []), length-take-le i text (omega arith))
+
+  pub put-all : (i n : ℕ) {m : List ℕ} → i ≤ n → n ≤ i → n ≤ length text → at + n ≤ length l → m ≡ putAt l at (take i text) → Put (take n text) at l (at + n) m
+  put-all i n low high whole room e =
+      let same : i ≡ n = omega arith in
+      let size : length (take n text) ≡ n = length-take-le n text whole in
+      record { room = rw size room; next = rw size; buffer = rw (← same) e }
+
+-- ---- one text after the other
+
+pub put-length : {text : List ℕ} {at r : ℕ} {l m : List ℕ} → Put text at l r m → length m ≡ length l
+unfolding putAt
+put-length {text} {at} {l = l} p = rw (p .buffer) (length-sets l at text)
+
+pub then : {xs ys : List ℕ} {at r₁ r₂ : ℕ} {l m₁ m₂ : List ℕ} → Put xs at l r₁ m₁ → Put ys r₁ m₁ r₂ m₂ → Put (xs ++ ys) at l r₂ m₂
+unfolding putAt
+then {xs} {ys} {at} {l = l} p q =
+    let same = put-length p in
+    record {
+      room = simp length-append (omega arith);
+      next = simp length-append (omega arith);
+      buffer = rw (q .buffer, p .buffer, p .next, sets-append l at xs ys);
+    }

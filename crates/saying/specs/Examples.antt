@@ -1,0 +1,31 @@
+-- Document 01's output lines as one table under one statement, computed from the definitions of `Texts`.
+--
+-- A row holds an answer and what document 01 writes for it, "lines joined by commas here" and there each ended by a newline.
+-- The last rows are what it writes of a cut, of a table that is not made and of a bad line, with the longest numbers.
+-- Assumes nothing.
+use Prim.Native.String.{String}
+use mathlib.Core.Path.{_≡_, refl}
+use mathlib.Core.List.{List, [], _∷_, map, flatMap}
+use Rattle.replaying.specs.declared.Answer.{Answer}
+use Rattle.replaying.specs.declared.Answer.the-variants.{Nothing, Made, Unmade, Changed, Kept, Found, Events, Bad}
+use Rattle.lines.specs.Lines.{bytes}
+use Rattle.saying.specs.Texts.{decimal, textOf}
+
+abbrev pub table : List (Answer × String)
+table =
+    (Nothing, "")
+    ∷ (Made, "made=0\n")
+    ∷ (Changed 0 4, "answer=0\nstores=4\n")
+    ∷ (Found 0 10 20 1, "answer=0\nfn=10\nat=20\nprobes=1\n")
+    ∷ (Found 5 0 0 2, "answer=5\nfn=0\nat=0\nprobes=2\n")
+    ∷ (Events 3, "events=3\n")
+    ∷ (Unmade 13, "made=13\nevents=0\n")
+    ∷ (Kept 0 7 5, "answer=0\nstores=7\nkept=5\n")
+    ∷ (Bad 100, "bad=100\n")
+    ∷ (Found 0 18446744073709551615 9999999999999999999 10000000000000000000, "answer=0\nfn=18446744073709551615\nat=9999999999999999999\nprobes=10000000000000000000\n")
+    ∷ []
+
+-- the definitions compute what document 01 writes
+pub examples : map (λ (x : Answer × String). textOf (x .0)) table ≡ map (λ (x : Answer × String). bytes (x .1)) table
+unfolding flatMap decimal textOf
+examples = refl

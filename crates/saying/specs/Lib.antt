@@ -1,0 +1,4 @@
+pub mod Texts
+pub mod Promises
+pub mod Writing
+pub mod Examples

@@ -1,0 +1,27 @@
+-- Texts put into a buffer one after the other.
+-- Assumes nothing.
+use Prim.Native.Nat.{ℕ, _+_, _≤_}
+use mathlib.Core.Path.{_≡_}
+use mathlib.Core.List.{List, [], _∷_, _++_, flatMap}
+use lib.ListN.{length}
+use lib.Seq.{sets}
+use Rattle.replaying.specs.declared.Answer.{Answer}
+use Rattle.saying.specs.Texts.{decimal, lineText, linesOf}
+
+-- buffer l with a text from byte `at` on
+unfoldable pub putAt : List ℕ → ℕ → List ℕ → List ℕ
+putAt l at text = sets l at text
+
+-- the text had room in l and makes it m, and r is the next free byte
+pub record Put (text : List ℕ) (at : ℕ) (l : List ℕ) (r : ℕ) (m : List ℕ) : Type 0 where
+  pub room : at + length text ≤ length l
+  pub next : r ≡ at + length text
+  pub buffer : m ≡ putAt l at text
+
+-- a line whose name comes with its `=`
+unfoldable pub lineWith : List ℕ → ℕ → List ℕ
+lineWith name number = name ++ decimal number ++ (10 ∷ [])
+
+-- an answer's lines put from the front
+abbrev pub PutLines : Answer → List ℕ → ℕ → List ℕ → Type 0
+PutLines answer l r m = Put (flatMap lineText (linesOf answer)) 0 l r m
