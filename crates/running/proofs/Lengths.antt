@@ -1,0 +1,80 @@
+-- No good line has more than 26 bytes, and so 27 bytes of a line tell what the line says.
+-- Assumes nothing.
+use Prim.Native.Nat.{ℕ, zero, suc, _+_, _/_, _%_, _^_, _≤_, _<_}
+use mathlib.Core.Path.{_≡_, refl, sym, ap, _∙_}
+use mathlib.Core.Bool.{Bool, true, false, cond}
+use mathlib.Core.List.{List, [], _∷_, _++_}
+use native.Mathlib.Omega.{arith}
+use native.Mathlib.Decide.{decLe}
+use lib.ListN.{length, take, length-append}
+use lib.Dec.{ltb}
+use lib.Pow.{pow-add}
+use lib.Seq.{length-take-le, take-all}
+use borrow.Author.Tests.{ltb-false}
+use Rattle.lines.specs.Lines.{bytes, nameText, lineOf}
+use Rattle.lines.specs.Texts.{digitsIn, decimalText, lineText, Good}
+use Rattle.lines.specs.declared.Name.{Name}
+use Rattle.lines.specs.declared.Name.the-variants.{Cap, Top, Mul1, Mul2, Key, Fn, At, After}
+use Rattle.lines.specs.declared.Op.the-variants.{Insert, Update, Delete, Query, Begin, Step, End, Recover, Cut}
+use Rattle.lines.specs.declared.Line.{Line}
+use Rattle.lines.specs.declared.Line.the-variants.{Number, Event, Bad}
+use Rattle.lines.proofs.Texts.{onlyTextsSay}
+
+-- a number below 10^(k + 1) has at most k + 1 digits
+digits-few : (n k v : ℕ) → v < 10 ^ (k + 1) → length (digitsIn n v) ≤ k + 1
+unfolding digitsIn
+digits-few zero k v l = omega arith
+digits-few (suc n) k v l = go (ltb v 10) refl k l (λ j h. digits-few n j (v / 10) h)
+  where
+    go : (b : Bool) → ltb v 10 ≡ b → (j : ℕ) → v < 10 ^ (j + 1) → ((i : ℕ) → v / 10 < 10 ^ (i + 1) → length (digitsIn n (v / 10)) ≤ i + 1)
+        → length (cond b ((48 + v) ∷ []) (digitsIn n (v / 10) ++ ((48 + v % 10) ∷ []))) ≤ j + 1
+    go true e j h tenth = omega arith
+    go false e zero h tenth = absurd (omega (arith, ltb-false v 10 e, h))
+    go false e (suc j) h tenth =
+        let same : 10 ^ (suc j + 1) ≡ 10 ^ (j + 1 + 1) = ap (λ (i : ℕ). 10 ^ i) (omega arith) in
+        let below : v / 10 < 10 ^ (j + 1) = omega (arith, h, pow-add 10 (j + 1) 1) in
+        omega (arith, length-append (digitsIn n (v / 10)) ((48 + v % 10) ∷ []), tenth j below)
+
+name-few : (n : Name) → length (bytes (nameText n)) ≤ 6
+name-few Cap = omega arith
+name-few Top = omega arith
+name-few Mul1 = omega arith
+name-few Mul2 = omega arith
+name-few Key = omega arith
+name-few Fn = omega arith
+name-few At = omega arith
+name-few After = omega arith
+
+text-few : (l : Line) → Good l → length (lineText l) ≤ 26
+unfolding decimalText
+text-few (Number n v) g = omega (arith, length-append (bytes (nameText n)) (decimalText v), name-few n, digits-few (suc v) 19 v (omega (arith, g)))
+text-few (Event Insert) g = omega arith
+text-few (Event Update) g = omega arith
+text-few (Event Delete) g = omega arith
+text-few (Event Query) g = omega arith
+text-few (Event Begin) g = omega arith
+text-few (Event Step) g = omega arith
+text-few (Event End) g = omega arith
+text-few (Event Recover) g = omega arith
+text-few (Event Cut) g = omega arith
+text-few Bad g = absurd g
+
+-- a longer line is bad
+long-bad : (line : List ℕ) → 27 ≤ length line → lineOf line ≡ Bad
+long-bad line long = go (lineOf line) (λ d. onlyTextsSay line d)
+  where
+    go : (l : Line) → ((l ≡ Bad → ⊥) → Good l × (line ≡ lineText l)) → l ≡ Bad
+    go Bad f = refl
+    go (Number n v) f =
+        let t = f (λ e. let z : _≡_ {A = ℕ} 0 1 = cc in omega arith) in
+        absurd (omega (arith, ap length (t .1), text-few (Number n v) (t .0), long))
+    go (Event o) f =
+        let t = f (λ e. let z : _≡_ {A = ℕ} 0 1 = cc in omega arith) in
+        absurd (omega (arith, ap length (t .1), text-few (Event o) (t .0), long))
+
+pub line-enough : (line : List ℕ) → lineOf (take 27 line) ≡ lineOf line
+line-enough line = go (decLe 27 (length line))
+  where
+    go : Dec (27 ≤ length line) → lineOf (take 27 line) ≡ lineOf line
+    go (yes l) = long-bad (take 27 line) (omega (arith, length-take-le 27 line l)) ∙ sym (long-bad line l)
+    go (no l) = ap lineOf (take-all 27 line (omega arith))

@@ -1,0 +1,128 @@
+-- Byte by byte or line by line: the answers that say something are the same.
+-- Assumes nothing.
+use Prim.Native.Nat.{ℕ, suc, _+_, _≤_, _<_, min}
+use mathlib.Core.Path.{_≡_, refl, sym, ap, _∙_}
+use mathlib.Core.Bool.{Bool, true, false, cond}
+use mathlib.Core.List.{List, [], _∷_, _++_, map, append-assoc, append-nil}
+use native.Mathlib.Omega.{arith}
+use native.Mathlib.Decide.{decLe}
+use lib.ListN.{length, take, set, length-append, length-set}
+use lib.Dec.{eqb, ltb}
+use lib.Seq.{take-all, take-append-le, take-suc-set}
+use borrow.Author.Tests.{lt-ltb, le-ltb}
+use Rattle.lines.specs.Lines.{lineOf}
+use Rattle.replaying.specs.Replays.{begun, Turned, turnOf}
+use Rattle.replaying.specs.declared.Answer.{Answer}
+use Rattle.replaying.specs.declared.Answer.the-variants.{Nothing}
+use Rattle.replaying.specs.declared.Replay.{Replay}
+use Rattle.running.specs.Runs.{joined, split, answers, answersTo, heldAfter, After, byteTaken, endOf, fed, silent, spoken, BytesAnswerAsLines}
+use Rattle.running.proofs.Lengths.{line-enough}
+
+-- ---- lines whose first begins with bytes that were read before
+
+abbrev some-held : List ℕ → Bool → Bool
+some-held [] torn = torn
+some-held (b ∷ bs) torn = true
+
+abbrev prefixed : List ℕ → List (List ℕ) × Bool → List (List ℕ) × Bool
+prefixed read ([], torn) = ([], some-held read torn)
+prefixed read (l ∷ ls, torn) = ((read ++ l) ∷ ls, torn)
+
+held-one : (read : List ℕ) (b : ℕ) (torn : Bool) → some-held (read ++ (b ∷ [])) torn ≡ true
+held-one [] b torn = refl
+held-one (x ∷ read) b torn = refl
+
+held-true : (read : List ℕ) → some-held read true ≡ true
+held-true [] = refl
+held-true (x ∷ read) = refl
+
+prefixed-joined : (read : List ℕ) (b : ℕ) (s : List (List ℕ) × Bool) → prefixed read (joined b s) ≡ prefixed (read ++ (b ∷ [])) s
+prefixed-joined read b ([], torn) = rw (held-true read, held-one read b torn)
+prefixed-joined read b (l ∷ ls, torn) = rw (append-assoc read (b ∷ []) l)
+
+prefixed-nothing : (s : List (List ℕ) × Bool) → prefixed [] s ≡ s
+prefixed-nothing ([], torn) = refl
+prefixed-nothing (l ∷ ls, torn) = refl
+
+-- ---- what is held of a line that is being read
+
+-- as many bytes of it as there is place for
+pub record Holds (read line : List ℕ) (held : ℕ) : Type 0 where
+  pub long : length line ≡ 27
+  pub count : held ≡ min (length read) 27
+  pub bytes : take held line ≡ take 27 read
+
+holds-more : (read line : List ℕ) (held byte : ℕ) → Holds read line held → Holds (read ++ (byte ∷ [])) (heldAfter line held byte .1) (heldAfter line held byte .0)
+holds-more read line held byte h = go (decLe 27 held)
+  where
+    more : length (read ++ (byte ∷ [])) ≡ length read + 1
+    more = length-append read (byte ∷ [])
+
+    go : Dec (27 ≤ held) → Holds (read ++ (byte ∷ [])) (heldAfter line held byte .1) (heldAfter line held byte .0)
+    go (yes full) =
+        let enough : held ≡ 27 = omega (arith, h .count) in
+        rw (le-ltb held 27 full)
+        (record {
+          long = h .long;
+          count = omega (arith, h .count, more);
+          bytes = h .bytes ∙ sym (take-append-le 27 read (byte ∷ []) (omega (arith, h .count)));
+        })
+    go (no place) =
+        let free : held < 27 = omega arith in
+        let all : take 27 read ≡ read = take-all 27 read (omega (arith, h .count)) in
+        let both : take 27 (read ++ (byte ∷ [])) ≡ read ++ (byte ∷ []) = take-all 27 (read ++ (byte ∷ [])) (omega (arith, more, h .count)) in
+        let one : held + 1 ≡ suc held = omega arith in
+        let next : take (suc held) (set line held byte) ≡ take held line ++ (byte ∷ []) = take-suc-set line held byte (omega (arith, h .long)) in
+        rw (lt-ltb held 27 free)
+        (record {
+          long = length-set line held byte ∙ h .long;
+          count = omega (arith, h .count, more);
+          bytes = ap (λ (k : ℕ). take k (set line held byte)) one ∙ next ∙ rw (h .bytes, all, both);
+        })
+
+holds-nothing : (line : List ℕ) → length line ≡ 27 → Holds [] line 0
+holds-nothing line long = record { long = long; count = refl; bytes = refl }
+
+held-some : (read line : List ℕ) (held : ℕ) → Holds read line held → ltb 0 held ≡ some-held read false
+held-some [] line held h = le-ltb 0 held (omega (arith, h .count))
+held-some (b ∷ read) line held h = lt-ltb 0 held (omega (arith, h .count))
+
+said-line : (read line : List ℕ) (held : ℕ) → Holds read line held → lineOf (take held line) ≡ lineOf read
+said-line read line held h = ap lineOf (h .bytes) ∙ line-enough read
+
+spoken-next : (a : Answer) (x y : List Answer) → spoken x ≡ spoken y → spoken (a ∷ x) ≡ spoken (a ∷ y)
+spoken-next a x y e = ap (λ (z : List Answer). cond (silent a) z (a ∷ z)) e
+
+fed-lines : (bs : List ℕ) (p : Replay) (held : ℕ) (room line read : List ℕ) → Holds read line held
+    → spoken (fed (record { replay = p; held = held }) room line bs) ≡ spoken (answers room p (map lineOf (prefixed read (split bs) .0)) (prefixed read (split bs) .1))
+unfolding endOf byteTaken
+fed-lines [] p held room line read h = rw (held-some read line held h)
+fed-lines (b ∷ bs) p held room line read h =
+    go (eqb b 10) (λ q room₂. fed-lines bs q 0 room₂ line [] (holds-nothing line (h .long))) (fed-lines bs p _ room _ (read ++ (b ∷ [])) (holds-more read line held b h))
+  where
+    t : Turned
+    t = turnOf room p (lineOf (take held line))
+
+    next : Bool → After
+    next d =
+        cond d (record { run = record { replay = t .replay; held = 0 }; room = t .room; line = line; answer = t .answer })
+        (record { run = record { replay = p; held = heldAfter line held b .0 }; room = room; line = heldAfter line held b .1; answer = Nothing })
+
+    lines : Bool → List (List ℕ) × Bool
+    lines d = cond d ([] ∷ split bs .0, split bs .1) (joined b (split bs))
+
+    go : (d : Bool)
+        → ((q : Replay) (room₂ : List ℕ) → spoken (fed (record { replay = q; held = 0 }) room₂ line bs) ≡ spoken (answers room₂ q (map lineOf (prefixed [] (split bs) .0)) (prefixed [] (split bs) .1)))
+        → spoken (fed (record { replay = p; held = heldAfter line held b .0 }) room (heldAfter line held b .1) bs) ≡ spoken (answers room p (map lineOf (prefixed (read ++ (b ∷ [])) (split bs) .0)) (prefixed (read ++ (b ∷ [])) (split bs) .1))
+        → spoken (next d .answer ∷ fed (next d .run) (next d .room) (next d .line) bs) ≡ spoken (answers room p (map lineOf (prefixed read (lines d) .0)) (prefixed read (lines d) .1))
+    go true ended more =
+        let said : turnOf room p (lineOf (read ++ [])) ≡ t = rw (append-nil read, ← (said-line read line held h)) in
+        let rest = rw (prefixed-nothing (split bs)) at (ended (t .replay) (t .room)) in
+        let x = fed (record { replay = t .replay; held = 0 }) (t .room) line bs in
+        let y = answers (t .room) (t .replay) (map lineOf (split bs .0)) (split bs .1) in
+        rw said (spoken-next (t .answer) x y rest)
+    go false ended more = rw (prefixed-joined read b (split bs)) more
+
+pub bytesAnswerAsLines : BytesAnswerAsLines
+unfolding answersTo
+bytesAnswerAsLines room line input long = rw (prefixed-nothing (split input)) at (fed-lines input begun 0 room line [] (holds-nothing line long))

@@ -1,0 +1,110 @@
+-- Document 01, "Script program": a run, byte by byte and as a whole.
+-- Assumes nothing.
+use Prim.Native.Nat.{ℕ, _+_}
+use mathlib.Core.Path.{_≡_}
+use mathlib.Core.Bool.{Bool, true, false, cond}
+use mathlib.Core.List.{List, [], _∷_, map}
+use lib.ListN.{length, take, set}
+use lib.Dec.{eqb, ltb}
+use Rattle.lines.specs.Lines.{lineOf}
+use Rattle.lines.specs.declared.Line.{Line}
+use Rattle.replaying.specs.Replays.{begun, Turned, turnOf, finishOf}
+use Rattle.replaying.specs.declared.Answer.{Answer}
+use Rattle.replaying.specs.declared.Answer.the-variants.{Nothing, Made, Unmade, Changed, Kept, Found, Events, Bad}
+use Rattle.replaying.specs.declared.Replay.{Replay}
+use Rattle.running.specs.declared.Run.{Run}
+use Rattle.running.specs.declared.Taken.{Taken}
+
+-- ---- the whole run, over the input's lines
+
+-- "each ended by a newline": the ended lines of an input, and whether it ends in a torn one
+abbrev pub joined : ℕ → List (List ℕ) × Bool → List (List ℕ) × Bool
+joined b ([], torn) = ([], true)
+joined b (l ∷ ls, torn) = ((b ∷ l) ∷ ls, torn)
+
+abbrev pub split : List ℕ → List (List ℕ) × Bool
+split [] = ([], false)
+split (b ∷ bs) = cond (eqb b 10) ([] ∷ split bs .0, split bs .1) (joined b (split bs))
+
+-- every line in turn, then the end
+abbrev pub answers : List ℕ → Replay → List Line → Bool → List Answer
+answers room p [] torn = finishOf p torn ∷ []
+answers room p (l ∷ ls) torn = let t = turnOf room p l in t .answer ∷ answers (t .room) (t .replay) ls torn
+
+unfoldable pub answersTo : List ℕ → List ℕ → List Answer
+answersTo room input = answers room begun (map lineOf (split input .0)) (split input .1)
+
+-- ---- byte by byte
+
+abbrev pub ready : Run
+ready = record { replay = begun; held = 0 }
+
+-- a byte is held where there is place
+abbrev pub heldAfter : List ℕ → ℕ → ℕ → ℕ × List ℕ
+heldAfter line held byte = cond (ltb held 27) (held + 1, set line held byte) (held, line)
+
+abbrev pub HeldIs : List ℕ → ℕ → ℕ → ℕ → List ℕ → Type 0
+HeldIs line held byte r left = _≡_ {A = ℕ × List ℕ} (r, left) (heldAfter line held byte)
+
+-- the line that a newline ends
+abbrev pub lineTurn : Run → List ℕ → List ℕ → Turned
+lineTurn run room line = turnOf room (run .replay) (lineOf (take (run .held) line))
+
+pub record LineTaken (run : Run) (room line : List ℕ) (r : Taken) (left : List ℕ) : Type 0 where
+  pub replay : r .run .replay ≡ lineTurn run room line .replay
+  pub held : r .run .held ≡ 0
+  pub answer : r .answer ≡ lineTurn run room line .answer
+  pub words : left ≡ lineTurn run room line .room
+
+-- what a byte makes of a run: the run, the lent words, the held bytes and the answer
+pub record After : Type 0 where
+  pub run : Run
+  pub room : List ℕ
+  pub line : List ℕ
+  pub answer : Answer
+
+unfoldable pub byteTaken : Run → List ℕ → List ℕ → ℕ → After
+byteTaken run room line byte =
+    let t = lineTurn run room line in
+    let h = heldAfter line (run .held) byte in
+    cond (eqb byte 10) (record { run = record { replay = t .replay; held = 0 }; room = t .room; line = line; answer = t .answer })
+    (record { run = record { replay = run .replay; held = h .0 }; room = room; line = h .1; answer = Nothing })
+
+-- the code takes a byte so: answer r, and these words and held bytes at exit
+pub record TakenIs (x : After) (r : Taken) (left held : List ℕ) : Type 0 where
+  pub taken : r .run ≡ x .run
+  pub answer : r .answer ≡ x .answer
+  pub words : left ≡ x .room
+  pub bytes : held ≡ x .line
+
+abbrev pub ByteTaken : Run → List ℕ → List ℕ → ℕ → Taken → List ℕ → List ℕ → Type 0
+ByteTaken run room line byte r left held = TakenIs (byteTaken run room line byte) r left held
+
+unfoldable pub endOf : Run → Answer
+endOf run = finishOf (run .replay) (ltb 0 (run .held))
+
+-- ---- the two are one
+
+-- every byte in turn, then the end
+abbrev pub fed : Run → List ℕ → List ℕ → List ℕ → List Answer
+fed run room line [] = endOf run ∷ []
+fed run room line (b ∷ bs) = let x = byteTaken run room line b in x .answer ∷ fed (x .run) (x .room) (x .line) bs
+
+-- the answers that say something
+abbrev pub silent : Answer → Bool
+silent Nothing = true
+silent Made = false
+silent (Unmade n) = false
+silent (Changed n s) = false
+silent (Kept n s k) = false
+silent (Found n f p c) = false
+silent (Events n) = false
+silent (Bad n) = false
+
+abbrev pub spoken : List Answer → List Answer
+spoken [] = []
+spoken (a ∷ rest) = cond (silent a) (spoken rest) (a ∷ spoken rest)
+
+-- any input, fed byte by byte with 27 bytes to hold a line in, is answered as its lines are
+abbrev pub BytesAnswerAsLines : Type 0
+BytesAnswerAsLines = (room line input : List ℕ) → length line ≡ 27 → spoken (fed ready room line input) ≡ spoken (answersTo room input)

@@ -1,0 +1,82 @@
+// A script byte by byte, so that one of any length runs in little memory: the bytes of a line are held until its newline comes.
+use lines::parse;
+use replaying::Answer;
+use replaying::Replay;
+use replaying::begun;
+use replaying::finish;
+use replaying::lending::least;
+use replaying::take_line;
+ghost use mathlib.Core.Path.{_≡_};
+ghost use Rattle.running.specs.Runs.{ready as readyOf, HeldIs, LineTaken, ByteTaken, endOf};
+
+// Where a run stands: in its replay, and how many bytes of the line are held. No good line has more than 26 bytes, so that 27 of
+// a line tell that it is bad.
+pub struct Run {
+    pub replay: Replay,
+    pub held: usize,
+}
+
+pub struct Taken {
+    pub run: Run,
+    pub answer: Answer,
+}
+
+pub fn ready() -> Run
+    ensures { λ r. ⌜ r ≡ readyOf ⌝ }
+{
+    let replay = begun();
+    Run { replay, held: 0 }
+}
+
+// One byte more of a line, as far as 27 of them.
+fn hold(line: &mut [u8; 27], held: usize, byte: u8) -> usize
+    ensures { λ r. ⌜ HeldIs (now (line .entry)) held byte r (now (line .exit)) ⌝ }
+{
+    if held < 27 {
+        line[held] = byte;
+        return held + 1;
+    }
+    held
+}
+
+// "each ended by a newline"
+fn take_newline(run: Run, room: &mut [u64], line: &[u8; 27]) -> Taken
+    ensures { λ r. ⌜ LineTaken run (now (room .entry)) (now (line .entry)) r (now (room .exit)) ⌝ }
+{
+    let bytes: &[u8] = line;
+    let held = least(run.held, bytes.len());
+    let said = parse(&bytes[..held]);
+    let replay = run.replay;
+    let turn = take_line(replay, room, said);
+    let next = turn.replay;
+    let answer = turn.answer;
+    Taken {
+        run: Run {
+            replay: next,
+            held: 0,
+        },
+        answer,
+    }
+}
+
+pub fn take_byte(run: Run, room: &mut [u64], line: &mut [u8; 27], byte: u8) -> Taken
+    ensures { λ r. ⌜ ByteTaken run (now (room .entry)) (now (line .entry)) byte r (now (room .exit)) (now (line .exit)) ⌝ }
+{
+    if byte == b'\n' {
+        return take_newline(run, room, line);
+    }
+    let replay = run.replay;
+    let held = hold(line, run.held, byte);
+    Taken {
+        run: Run { replay, held },
+        answer: Answer::Nothing,
+    }
+}
+
+// What no newline ends is a torn line.
+pub fn end(run: Run) -> Answer
+    ensures { λ r. ⌜ r ≡ endOf run ⌝ }
+{
+    let replay = run.replay;
+    finish(replay, 0 < run.held)
+}
