@@ -1,0 +1,223 @@
+//! The ten calls over raw words. A changing call only reads the table and
+//! lists its stores; `make` makes them.
+
+use crate::layout::{table_words, word, Slot, LEAST_LIST_WORDS};
+use crate::placing::{find_placing, Placing};
+use crate::recovery::{judge, Kind};
+use crate::refusal::{Refusal, SUCCESS};
+use crate::table::{State, Table};
+
+/// A word index and the new word.
+type Store = (usize, u64);
+type Plan = Result<Vec<Store>, Refusal>;
+
+/// Zeroes all words and writes the header of an empty table at rest.
+pub fn create(table: &mut [u64], c: u64, k: u64, mul1: u64, mul2: u64) -> u64 {
+    let length_good = table_words(c) == Some(table.len());
+    let multipliers_good = mul1 % 2 == 1 && mul2 % 2 == 1;
+    if !length_good || !(1..=c).contains(&k) || !multipliers_good {
+        return Refusal::BadCreation.number();
+    }
+    table.fill(0);
+    table[word::FORM] = 1;
+    table[word::CAPACITY] = c;
+    table[word::MULTIPLIER_1] = mul1;
+    table[word::MULTIPLIER_2] = mul2;
+    table[word::STATE] = State { k, growing: false }.word();
+    SUCCESS
+}
+
+/// Answers a number, then function, place and probe count.
+pub fn query(table: &[u64], key: u64) -> (u64, [u64; 3]) {
+    let table = match Table::read(table).and_then(refuse_flag) {
+        Ok(table) => table,
+        Err(refusal) => return (refusal.number(), [0, 0, 0]),
+    };
+    let search = table.search(key);
+    match search.slot {
+        Some(slot) => {
+            let [_, function, place] = table.record(slot);
+            (SUCCESS, [function, place, search.probes])
+        }
+        None => (Refusal::KeyAbsent.number(), [0, 0, search.probes]),
+    }
+}
+
+pub fn insert(table: &[u64], key: u64, function: u64, place: u64, list: &mut [u64]) -> (u64, u64) {
+    change(table, list, |table| {
+        if table.search(key).slot.is_some() {
+            return Err(Refusal::KeyPresent);
+        }
+        placing_stores(table, [key, function, place])
+    })
+}
+
+pub fn update(table: &[u64], key: u64, function: u64, place: u64, list: &mut [u64]) -> (u64, u64) {
+    change(table, list, |table| {
+        let old = table.search(key).slot.ok_or(Refusal::KeyAbsent)?;
+        Ok(match table.lowest_free_slot(old.bucket) {
+            Some(free) => update_beside(table, old, free, [key, function, place]),
+            None => update_under_flag(old, function, place),
+        })
+    })
+}
+
+pub fn delete(table: &[u64], key: u64, list: &mut [u64]) -> (u64, u64) {
+    change(table, list, |table| {
+        let slot = table.search(key).slot.ok_or(Refusal::KeyAbsent)?;
+        Ok(vec![token_cleared(table, slot)])
+    })
+}
+
+pub fn begin(table: &[u64], list: &mut [u64]) -> (u64, u64) {
+    change(table, list, |table| {
+        if table.state.growing {
+            return Err(Refusal::AlreadyGrowing);
+        }
+        if table.state.k == table.capacity() {
+            return Err(Refusal::AtCapacity);
+        }
+        let grown = State { k: table.state.k + 1, growing: true };
+        Ok(vec![(word::STATE, grown.word())])
+    })
+}
+
+pub fn step(table: &[u64], list: &mut [u64]) -> (u64, u64) {
+    change(table, list, |table| {
+        let interim = table.interim().ok_or(Refusal::NotGrowing)?;
+        let items = table.taken_slots(&[interim]);
+        let item = *items.first().ok_or(Refusal::InterimEmpty)?;
+        let mut stores = placing_stores(table, table.record(item))?;
+        stores.push(token_cleared(table, item));
+        Ok(stores)
+    })
+}
+
+pub fn end(table: &[u64], list: &mut [u64]) -> (u64, u64) {
+    change(table, list, |table| {
+        let interim = table.interim().ok_or(Refusal::NotGrowing)?;
+        if !table.taken_slots(&[interim]).is_empty() {
+            return Err(Refusal::InterimNotEmpty);
+        }
+        let at_rest = State { growing: false, ..table.state };
+        Ok(vec![(word::STATE, at_rest.word())])
+    })
+}
+
+pub fn recover(table: &[u64], list: &mut [u64]) -> (u64, u64) {
+    answer(list, |list_words| {
+        let table = read_for_list(table, list_words)?;
+        let kind = judge(&table).ok_or(Refusal::NotRecoverable)?;
+        Ok(match kind {
+            Kind::Sound => vec![],
+            Kind::Doubled(later) => vec![token_cleared(&table, later)],
+            Kind::Flagged(slot) => vec![
+                (slot.function_word(), table.word(word::UPDATE_FUNCTION)),
+                (slot.place_word(), table.word(word::UPDATE_PLACE)),
+                (word::FLAG, 0),
+            ],
+        })
+    })
+}
+
+/// Makes the first `n` stores of a list, or none of them.
+pub fn make(table: &mut [u64], list: &[u64], n: u64) -> u64 {
+    let whole_pairs = list.len() as u64 / 2;
+    if n > whole_pairs {
+        return Refusal::BadStores.number();
+    }
+    let pairs = || list.chunks_exact(2).take(n as usize).map(|pair| (pair[0], pair[1]));
+    if pairs().any(|(index, _)| index >= table.len() as u64) {
+        return Refusal::BadStores.number();
+    }
+    for (index, new_word) in pairs() {
+        table[index as usize] = new_word;
+    }
+    SUCCESS
+}
+
+/// The frame of a changing call: refusals 1, 2, 3 in this order, then its own plan.
+fn change(table: &[u64], list: &mut [u64], plan: impl FnOnce(&Table) -> Plan) -> (u64, u64) {
+    answer(list, |list_words| plan(&refuse_flag(read_for_list(table, list_words)?)?))
+}
+
+/// Writes an accepted plan's stores to the list; a refused one leaves it alone.
+fn answer(list: &mut [u64], plan: impl FnOnce(usize) -> Plan) -> (u64, u64) {
+    match plan(list.len()) {
+        Err(refusal) => (refusal.number(), 0),
+        Ok(stores) => {
+            for (pair, (index, new_word)) in list.chunks_exact_mut(2).zip(&stores) {
+                pair[0] = *index as u64;
+                pair[1] = *new_word;
+            }
+            (SUCCESS, stores.len() as u64)
+        }
+    }
+}
+
+fn read_for_list(table: &[u64], list_words: usize) -> Result<Table<'_>, Refusal> {
+    let table = Table::read(table)?;
+    if list_words < LEAST_LIST_WORDS {
+        return Err(Refusal::ShortList);
+    }
+    Ok(table)
+}
+
+fn refuse_flag(table: Table) -> Result<Table, Refusal> {
+    match table.word(word::FLAG) {
+        0 => Ok(table),
+        _ => Err(Refusal::FlagNotZero),
+    }
+}
+
+/// The stores that bring a new record in, wherever it finds its place.
+fn placing_stores(table: &Table, record: [u64; 3]) -> Plan {
+    let [key, ..] = record;
+    Ok(match find_placing(table, key).ok_or(Refusal::NoPlace)? {
+        Placing::Free(slot) => item_stores(table, slot, record),
+        Placing::Move { from, to } => {
+            let mut stores = item_stores(table, to, table.record(from));
+            stores.push(token_cleared(table, from));
+            // The two slots are in different buckets, so the old bucket's last
+            // token is the one it has now.
+            stores.extend(item_stores(table, from, record));
+            stores
+        }
+    })
+}
+
+/// A record's three words, then the token that makes it valid.
+fn item_stores(table: &Table, slot: Slot, record: [u64; 3]) -> Vec<Store> {
+    let mut stores = record_stores(slot, record);
+    stores.push((slot.token_word(), table.token(slot.bucket) | slot.token_bit()));
+    stores
+}
+
+fn record_stores(slot: Slot, [key, function, place]: [u64; 3]) -> Vec<Store> {
+    vec![(slot.key_word(), key), (slot.function_word(), function), (slot.place_word(), place)]
+}
+
+fn token_cleared(table: &Table, slot: Slot) -> Store {
+    (slot.token_word(), table.token(slot.bucket) & !slot.token_bit())
+}
+
+/// The new record goes to a free slot of the same bucket; one token store changes over.
+fn update_beside(table: &Table, old: Slot, free: Slot, record: [u64; 3]) -> Vec<Store> {
+    let mut stores = record_stores(free, record);
+    let token = (table.token(old.bucket) | free.token_bit()) & !old.token_bit();
+    stores.push((old.token_word(), token));
+    stores
+}
+
+/// The bucket is full: the new record is kept in the header while the slot is torn.
+fn update_under_flag(slot: Slot, function: u64, place: u64) -> Vec<Store> {
+    vec![
+        (word::UPDATE_TARGET, slot.key_word() as u64),
+        (word::UPDATE_FUNCTION, function),
+        (word::UPDATE_PLACE, place),
+        (word::FLAG, 1),
+        (slot.function_word(), function),
+        (slot.place_word(), place),
+        (word::FLAG, 0),
+    ]
+}

@@ -1,0 +1,30 @@
+//! The changing calls and recovery, as values.
+
+use crate::calls;
+
+#[derive(Clone, Copy, Debug, PartialEq, Eq)]
+pub enum Event {
+    Insert { key: u64, function: u64, place: u64 },
+    Update { key: u64, function: u64, place: u64 },
+    Delete { key: u64 },
+    Begin,
+    Step,
+    End,
+    Recover,
+}
+
+impl Event {
+    /// Lists the event's stores and answers the number and how many they are;
+    /// the table is left as it is.
+    pub fn list_stores(self, table: &[u64], list: &mut [u64]) -> (u64, u64) {
+        match self {
+            Event::Insert { key, function, place } => calls::insert(table, key, function, place, list),
+            Event::Update { key, function, place } => calls::update(table, key, function, place, list),
+            Event::Delete { key } => calls::delete(table, key, list),
+            Event::Begin => calls::begin(table, list),
+            Event::Step => calls::step(table, list),
+            Event::End => calls::end(table, list),
+            Event::Recover => calls::recover(table, list),
+        }
+    }
+}

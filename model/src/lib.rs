@@ -1,0 +1,34 @@
+//! An independent model of the level hashing table of document 01.
+//!
+//! From the bottom up:
+//! - `layout`: where words, buckets, slots and levels stand;
+//! - `refusal`: the refusal numbers;
+//! - `table`: reading a table whose header is good;
+//! - `placing`: where a new item would go;
+//! - `recovery`: which of the three kinds a table is;
+//! - `calls`: the ten calls, over raw words;
+//! - `event`: the changing calls and recovery, as values;
+//! - `script_lines`: reading the lines of a script;
+//! - `script`: the script program.
+//!
+//! NOTES.md tells how document 01 was read where it leaves a doubt.
+
+#![forbid(unsafe_code)]
+
+mod calls;
+mod event;
+mod layout;
+mod placing;
+mod recovery;
+mod refusal;
+mod script;
+mod script_lines;
+mod table;
+
+pub use calls::{begin, create, delete, end, insert, make, query, recover, step, update};
+pub use event::Event;
+pub use layout::{table_words, word, Level, Slot, LEAST_LIST_WORDS, SLOTS_PER_BUCKET};
+pub use refusal::{Refusal, SUCCESS};
+pub use script::{run as run_script, LARGEST_PROGRAM_CAPACITY};
+pub use script_lines::LONGEST_LINE;
+pub use table::{State, Table};

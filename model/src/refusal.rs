@@ -1,0 +1,28 @@
+//! The refusal numbers of document 01.
+
+/// The number that stands for "not refused".
+pub const SUCCESS: u64 = 0;
+
+#[derive(Clone, Copy, Debug, PartialEq, Eq)]
+pub enum Refusal {
+    BadTable = 1,
+    ShortList = 2,
+    FlagNotZero = 3,
+    KeyPresent = 4,
+    KeyAbsent = 5,
+    NoPlace = 6,
+    AlreadyGrowing = 7,
+    NotGrowing = 8,
+    AtCapacity = 9,
+    InterimNotEmpty = 10,
+    InterimEmpty = 11,
+    NotRecoverable = 12,
+    BadCreation = 13,
+    BadStores = 14,
+}
+
+impl Refusal {
+    pub fn number(self) -> u64 {
+        self as u64
+    }
+}

@@ -1,0 +1,161 @@
+//! Reading a table whose length and header are good. Nothing else is asked of
+//! it: its tokens, keys and flag may be anything.
+
+use crate::layout::{table_words, token_word, word, Level, Slot};
+use crate::refusal::Refusal;
+
+/// Token words are read modulo this.
+const TOKEN_MODULUS: u64 = 16;
+const PHASE_UNIT: u64 = 256;
+
+/// The state of a table: its top level has 2^k buckets.
+#[derive(Clone, Copy, Debug, PartialEq, Eq)]
+pub struct State {
+    pub k: u64,
+    pub growing: bool,
+}
+
+impl State {
+    pub fn word(self) -> u64 {
+        self.k + PHASE_UNIT * u64::from(self.growing)
+    }
+
+    fn from_word(state: u64, c: u64) -> Option<State> {
+        let k = state % PHASE_UNIT;
+        let (growing, least_k) = match state / PHASE_UNIT {
+            0 => (false, 1),
+            1 => (true, 2),
+            _ => return None,
+        };
+        (least_k..=c).contains(&k).then_some(State { k, growing })
+    }
+}
+
+/// What a search for a key met.
+pub struct Search {
+    pub slot: Option<Slot>,
+    /// The number of buckets looked at.
+    pub probes: u64,
+}
+
+#[derive(Clone, Copy)]
+pub struct Table<'a> {
+    words: &'a [u64],
+    pub state: State,
+}
+
+impl<'a> Table<'a> {
+    /// Reads the header; refuses what refusal 1 names.
+    pub fn read(words: &'a [u64]) -> Result<Table<'a>, Refusal> {
+        let c = *words.get(word::CAPACITY).ok_or(Refusal::BadTable)?;
+        if table_words(c) != Some(words.len()) {
+            return Err(Refusal::BadTable);
+        }
+        let odd = |multiplier: u64| multiplier % 2 == 1;
+        let multipliers_good = odd(words[word::MULTIPLIER_1]) && odd(words[word::MULTIPLIER_2]);
+        if words[word::FORM] != 1 || !multipliers_good {
+            return Err(Refusal::BadTable);
+        }
+        let state = State::from_word(words[word::STATE], c).ok_or(Refusal::BadTable)?;
+        Ok(Table { words, state })
+    }
+
+    pub fn word(&self, index: usize) -> u64 {
+        self.words[index]
+    }
+
+    pub fn capacity(&self) -> u64 {
+        self.words[word::CAPACITY]
+    }
+
+    pub fn top(&self) -> Level {
+        Level::with_exponent(self.state.k)
+    }
+
+    pub fn bottom(&self) -> Level {
+        Level::with_exponent(self.state.k - 1)
+    }
+
+    /// The interim level, there only while growing.
+    pub fn interim(&self) -> Option<Level> {
+        self.state.growing.then(|| Level::with_exponent(self.state.k - 2))
+    }
+
+    /// The levels in use, in the order top, bottom, interim.
+    pub fn levels_in_use(&self) -> Vec<Level> {
+        let mut levels = vec![self.top(), self.bottom()];
+        levels.extend(self.interim());
+        levels
+    }
+
+    /// All levels the words have room for, in use or not.
+    pub fn all_levels(&self) -> Vec<Level> {
+        (0..=self.capacity()).map(Level::with_exponent).collect()
+    }
+
+    /// The token word as it stands.
+    pub fn raw_token(&self, bucket: usize) -> u64 {
+        self.words[token_word(bucket)]
+    }
+
+    /// The token word as calls read it.
+    pub fn token(&self, bucket: usize) -> u64 {
+        self.raw_token(bucket) % TOKEN_MODULUS
+    }
+
+    pub fn is_taken(&self, slot: Slot) -> bool {
+        self.token(slot.bucket) & slot.token_bit() != 0
+    }
+
+    pub fn taken_count(&self, bucket: usize) -> u32 {
+        self.token(bucket).count_ones()
+    }
+
+    pub fn lowest_free_slot(&self, bucket: usize) -> Option<Slot> {
+        Slot::all_of(bucket).find(|&slot| !self.is_taken(slot))
+    }
+
+    pub fn key(&self, slot: Slot) -> u64 {
+        self.words[slot.key_word()]
+    }
+
+    /// Key, function and place.
+    pub fn record(&self, slot: Slot) -> [u64; 3] {
+        [slot.key_word(), slot.function_word(), slot.place_word()].map(|index| self.words[index])
+    }
+
+    /// The buckets of a level where a key may stand: first place, then second if different.
+    pub fn places(&self, key: u64, level: Level) -> Vec<usize> {
+        let multipliers = [word::MULTIPLIER_1, word::MULTIPLIER_2];
+        let mut buckets = multipliers.map(|index| bucket_of(key, self.words[index], level)).to_vec();
+        buckets.dedup();
+        buckets
+    }
+
+    /// The taken slots of some levels, by level as given, then bucket and slot ascending.
+    pub fn taken_slots(&self, levels: &[Level]) -> Vec<Slot> {
+        let buckets = levels.iter().flat_map(|level| level.buckets());
+        buckets.flat_map(Slot::all_of).filter(|&slot| self.is_taken(slot)).collect()
+    }
+
+    /// Looks for a key in the probe order.
+    pub fn search(&self, key: u64) -> Search {
+        let mut probes = 0;
+        for level in self.levels_in_use() {
+            for bucket in self.places(key, level) {
+                probes += 1;
+                let holds_key = |slot: &Slot| self.is_taken(*slot) && self.key(*slot) == key;
+                if let Some(slot) = Slot::all_of(bucket).find(holds_key) {
+                    return Search { slot: Some(slot), probes };
+                }
+            }
+        }
+        Search { slot: None, probes }
+    }
+}
+
+fn bucket_of(key: u64, multiplier: u64, level: Level) -> usize {
+    let hash = key.wrapping_mul(multiplier) >> 32;
+    // The hash is below 2^32, so that it fits the index type.
+    level.buckets().start + hash as usize % level.size
+}

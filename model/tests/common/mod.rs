@@ -1,0 +1,72 @@
+//! A table that events are made on, as the tests tell their stories.
+#![allow(dead_code)] // each test file uses its own part
+
+use ragansils_model::*;
+
+/// The multipliers of the marked examples.
+pub const MARKED_1: u64 = 4294967297;
+pub const MARKED_2: u64 = 12884901889;
+
+/// A list word no call writes, to see what is left alone.
+pub const UNTOUCHED: u64 = 0xdead_beef;
+
+pub struct Story {
+    pub table: Vec<u64>,
+}
+
+impl Story {
+    /// The table of the marked examples: c = 2, k = 1.
+    pub fn marked() -> Story {
+        Story::with(2, 1, MARKED_1, MARKED_2)
+    }
+
+    pub fn with(c: u64, k: u64, mul1: u64, mul2: u64) -> Story {
+        let mut table = vec![UNTOUCHED; table_words(c).unwrap()];
+        assert_eq!(create(&mut table, c, k, mul1, mul2), SUCCESS);
+        Story { table }
+    }
+
+    /// The number and the pairs listed; checks that nothing else was written.
+    pub fn list(&self, event: Event) -> (u64, Vec<(u64, u64)>) {
+        let mut list = [UNTOUCHED; 24];
+        let (number, stores) = event.list_stores(&self.table, &mut list);
+        let (written, rest) = list.split_at(2 * stores as usize);
+        assert!(rest.iter().all(|&word| word == UNTOUCHED));
+        (number, written.chunks(2).map(|pair| (pair[0], pair[1])).collect())
+    }
+
+    pub fn refused(&self, event: Event, number: u64) {
+        assert_eq!(self.list(event), (number, vec![]), "{event:?}");
+    }
+
+    /// Lists an accepted event's stores and makes the first `kept`.
+    pub fn cut(&mut self, event: Event, kept: usize) -> Vec<(u64, u64)> {
+        let (number, pairs) = self.list(event);
+        assert_eq!(number, SUCCESS, "{event:?}");
+        let words: Vec<u64> = pairs.iter().flat_map(|&(index, word)| [index, word]).collect();
+        assert_eq!(make(&mut self.table, &words, kept.min(pairs.len()) as u64), SUCCESS);
+        pairs
+    }
+
+    pub fn whole(&mut self, event: Event) -> Vec<(u64, u64)> {
+        self.cut(event, usize::MAX)
+    }
+
+    pub fn insert_keys(&mut self, keys: impl IntoIterator<Item = u64>) {
+        for key in keys {
+            self.whole(insert_event(key, key + 100, key + 200));
+        }
+    }
+
+    pub fn query(&self, key: u64) -> (u64, [u64; 3]) {
+        query(&self.table, key)
+    }
+}
+
+pub fn insert_event(key: u64, function: u64, place: u64) -> Event {
+    Event::Insert { key, function, place }
+}
+
+pub fn update_event(key: u64, function: u64, place: u64) -> Event {
+    Event::Update { key, function, place }
+}

@@ -1,0 +1,147 @@
+//! The script program, line by line.
+
+const HEADER: &str = "cap=2\ntop=1\nmul1=4294967297\nmul2=12884901889\n";
+
+fn run(script: impl AsRef<[u8]>) -> String {
+    let mut output = Vec::new();
+    ragansils_model::run_script(script.as_ref(), &mut output).unwrap();
+    String::from_utf8(output).unwrap()
+}
+
+/// Lines are joined by commas here, as in document 01.
+fn after_header(events: &str) -> String {
+    let script = format!("{HEADER}{}", events.replace(',', "\n"));
+    run(script).replace('\n', ",")
+}
+
+#[test]
+fn the_whole_case() {
+    assert_eq!(
+        after_header("op=insert,key=1,fn=10,at=20,op=query,key=1,op=query,key=3,"),
+        "made=0,answer=0,stores=4,answer=0,fn=10,at=20,probes=1,answer=5,fn=0,at=0,probes=2,events=3,"
+    );
+}
+
+#[test]
+fn header_lines() {
+    assert_eq!(run(""), "bad=1\n");
+    assert_eq!(run("cap=2"), "bad=1\n");
+    assert_eq!(run("cap=2\n"), "bad=2\n");
+    assert_eq!(run("cap=2\ntop=1\nmul1=1\nmul2=1"), "bad=4\n");
+    assert_eq!(run("top=1\ncap=2\nmul1=1\nmul2=1\n"), "bad=1\n");
+    assert_eq!(run(HEADER), "made=0\nevents=0\n");
+    assert_eq!(run("cap=9\ntop=01\nmul1=1\nmul2=1\n"), "bad=2\n");
+    assert_eq!(run("cap=9\ntop=1\nmul1=1\n"), "bad=4\n");
+}
+
+#[test]
+fn refused_creation_reads_no_event() {
+    for header in
+        ["9,1,1,1", "0,0,1,1", "2,0,1,1", "2,3,1,1", "2,1,2,1", "2,1,1,0", "18446744073709551615,1,1,1"]
+    {
+        let names = ["cap", "top", "mul1", "mul2"];
+        let lines = names.iter().zip(header.split(',')).map(|(name, number)| format!("{name}={number}\n"));
+        let script = lines.collect::<String>() + "nonsense";
+        assert_eq!(run(script), "made=13\nevents=0\n");
+    }
+    assert_eq!(run("cap=8\ntop=8\nmul1=1\nmul2=1\n"), "made=0\nevents=0\n");
+}
+
+#[test]
+fn bad_numbers() {
+    for bad in [
+        "",
+        "01",
+        "00",
+        "+1",
+        "-1",
+        " 1",
+        "1 ",
+        "1\r",
+        "1x",
+        "0x1",
+        "1.0",
+        "18446744073709551616",
+        "99999999999999999999",
+        "100000000000000000000",
+    ] {
+        assert_eq!(after_header(&format!("op=query,key={bad},")), "made=0,bad=6,", "{bad:?}");
+    }
+    let largest = after_header("op=query,key=18446744073709551615,");
+    assert_eq!(largest, "made=0,answer=5,fn=0,at=0,probes=2,events=1,");
+    assert_eq!(after_header("op=query,key=0,"), "made=0,answer=5,fn=0,at=0,probes=2,events=1,");
+}
+
+#[test]
+fn bad_bytes_and_very_long_lines() {
+    assert_eq!(after_header("op=begin\r,"), "made=0,bad=5,");
+    assert_eq!(after_header("op =begin,"), "made=0,bad=5,");
+    assert_eq!(after_header("Op=begin,"), "made=0,bad=5,");
+    assert_eq!(after_header(","), "made=0,bad=5,");
+    assert_eq!(after_header("key=1,"), "made=0,bad=5,");
+    assert_eq!(after_header(&format!("op=query,key={},", "1".repeat(1 << 20))), "made=0,bad=6,");
+    let mut script = HEADER.as_bytes().to_vec();
+    script.extend([0xff, 0x00, b'\n']);
+    assert_eq!(run(script), "made=0\nbad=5\n");
+}
+
+#[test]
+fn unknown_unended_and_missing_lines() {
+    assert_eq!(after_header("op=begin,op=nonsense,"), "made=0,answer=0,stores=1,bad=6,");
+    assert_eq!(after_header("op=begin,op=step"), "made=0,answer=0,stores=1,bad=6,");
+    assert_eq!(after_header("op=insert,key=1,fn=2,"), "made=0,bad=8,");
+    assert_eq!(after_header("op=insert,key=1,fn=2,at=3"), "made=0,bad=8,");
+    assert_eq!(after_header("op=insert,key=1,at=2,fn=3,"), "made=0,bad=7,");
+    assert_eq!(after_header("op=delete,"), "made=0,bad=6,");
+}
+
+#[test]
+fn cuts() {
+    let one = "op=cut,after=2,op=insert,key=1,fn=10,at=20,op=query,key=1,";
+    let absent = "answer=5,fn=0,at=0,probes=2,events=2,";
+    assert_eq!(after_header(one), format!("made=0,answer=0,stores=4,kept=2,{absent}"));
+    let all = "op=cut,after=18446744073709551615,op=begin,op=begin,";
+    assert_eq!(after_header(all), "made=0,answer=0,stores=1,kept=1,answer=7,stores=0,events=2,");
+    let refused = "op=cut,after=3,op=step,";
+    assert_eq!(after_header(refused), "made=0,answer=8,stores=0,kept=0,events=1,");
+    let recover = "op=cut,after=0,op=recover,";
+    assert_eq!(after_header(recover), "made=0,answer=0,stores=0,kept=0,events=1,");
+}
+
+#[test]
+fn misplaced_cuts() {
+    for tail in [
+        "",
+        "op=query,key=1,",
+        "op=cut,after=1,op=begin,",
+        "op=nonsense,",
+        "op=begin",
+        "key=1,",
+        ",",
+        "op=begin\r,",
+    ] {
+        let answer = after_header(&format!("op=begin,op=cut,after=1,{tail}"));
+        assert_eq!(answer, "made=0,answer=0,stores=1,bad=6,", "{tail:?}");
+    }
+    let long = format!("op=cut,after=1,{},", "o".repeat(100));
+    assert_eq!(after_header(&long), "made=0,bad=5,");
+}
+
+#[test]
+fn bad_lines_under_a_cut_are_themselves_bad() {
+    for bad in ["", "after=1", "after=01,", "before=1,", "op=begin,"] {
+        assert_eq!(after_header(&format!("op=cut,{bad}")), "made=0,bad=6,", "{bad:?}");
+    }
+    assert_eq!(after_header("op=cut,after=1,op=insert,key=1,fn=x,"), "made=0,bad=9,");
+    assert_eq!(after_header("op=cut,after=1,op=delete,"), "made=0,bad=8,");
+}
+
+#[test]
+fn a_forgotten_recovery_stays_forgotten() {
+    let keys: String = [1, 3, 5, 7].iter().map(|k| format!("op=insert,key={k},fn=0,at=0,")).collect();
+    let events =
+        format!("{keys}op=cut,after=4,op=update,key=1,fn=30,at=40,op=query,key=1,op=recover,op=query,key=1,");
+    let answer = after_header(&events);
+    let tail = "answer=0,stores=7,kept=4,answer=3,fn=0,at=0,probes=0,answer=0,stores=3,answer=0,fn=30,at=40,probes=1,events=8,";
+    assert!(answer.ends_with(tail), "{answer}");
+}
