@@ -1,0 +1,67 @@
+//! Runs each case through the library and the model, side by side.
+
+use std::path::Path;
+
+use crate::case::{difference, run_model, Call, Case, Outcome};
+use crate::case_text::write_case;
+use crate::library;
+use crate::tally::Tally;
+
+/// What a case is checked for.
+#[derive(Clone, Copy, Debug, PartialEq, Eq)]
+pub enum Check {
+    /// The library answers as the model does.
+    Call,
+    /// The table is sound: a query answers as the plain map does, and each cut
+    /// of a change leaves the map before or after it.
+    SoundTable,
+}
+
+/// Something that should not be.
+#[derive(Debug)]
+pub struct Finding {
+    pub check: Check,
+    pub case: Case,
+    pub what: String,
+}
+
+pub struct Both<'t> {
+    pub tally: &'t mut Tally,
+    /// Where each case is kept before the library sees it; a crash leaves its case there.
+    trace: Option<&'t Path>,
+}
+
+impl<'t> Both<'t> {
+    pub fn new(tally: &'t mut Tally) -> Both<'t> {
+        Both { tally, trace: None }
+    }
+
+    pub fn traced(tally: &'t mut Tally, trace: Option<&'t Path>) -> Both<'t> {
+        Both { tally, trace }
+    }
+
+    pub fn run(&mut self, case: &Case) -> Result<Outcome, Finding> {
+        let finding = |what| Finding { check: Check::Call, case: case.clone(), what };
+        let model = run_model(case);
+        if let Some(file) = self.trace {
+            std::fs::write(file, write_case(Check::Call, case)).expect("the trace file can be written");
+        }
+        let library = library::run(case).map_err(finding)?;
+        self.tally.count_call(case, &model);
+        match difference(&library, &model) {
+            Some(what) => Err(finding(what)),
+            None => Ok(model),
+        }
+    }
+
+    /// The table after the first `n` stores of a list that fits it.
+    pub fn make(&mut self, table: &[u64], list: &[u64], n: u64) -> Result<Vec<u64>, Finding> {
+        let case = Case { call: Call::Make { n }, table: table.to_vec(), list: list.to_vec() };
+        let outcome = self.run(&case)?;
+        if outcome.number != 0 {
+            let what = format!("making listed stores is refused with {}", outcome.number);
+            return Err(Finding { check: Check::Call, case, what });
+        }
+        Ok(outcome.table)
+    }
+}

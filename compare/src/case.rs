@@ -1,0 +1,101 @@
+//! One call over given words, and what it answers in the model.
+
+use ragansils_model as model;
+use ragansils_model::Event;
+
+#[derive(Clone, Copy, Debug, PartialEq, Eq)]
+pub enum Call {
+    Create { c: u64, k: u64, mul1: u64, mul2: u64 },
+    Query { key: u64 },
+    Change(Event),
+    Make { n: u64 },
+}
+
+#[derive(Clone, Debug, PartialEq, Eq)]
+pub struct Case {
+    pub call: Call,
+    pub table: Vec<u64>,
+    pub list: Vec<u64>,
+}
+
+/// A call's answer and what its buffers hold after it.
+#[derive(Clone, Debug, PartialEq, Eq)]
+pub struct Outcome {
+    pub number: u64,
+    /// The query's three words, a changing call's number of stores, else nothing.
+    pub answer: Vec<u64>,
+    pub table: Vec<u64>,
+    pub list: Vec<u64>,
+}
+
+impl Call {
+    pub fn name(self) -> &'static str {
+        match self {
+            Call::Create { .. } => "create",
+            Call::Query { .. } => "query",
+            Call::Make { .. } => "make",
+            Call::Change(event) => event_name(event),
+        }
+    }
+
+    pub fn answer_words(self) -> usize {
+        match self {
+            Call::Create { .. } | Call::Make { .. } => 0,
+            Call::Query { .. } => 3,
+            Call::Change(_) => 1,
+        }
+    }
+}
+
+/// The name scripts and counts use.
+pub fn event_name(event: Event) -> &'static str {
+    match event {
+        Event::Insert { .. } => "insert",
+        Event::Update { .. } => "update",
+        Event::Delete { .. } => "delete",
+        Event::Begin => "begin",
+        Event::Step => "step",
+        Event::End => "end",
+        Event::Recover => "recover",
+    }
+}
+
+impl Outcome {
+    /// The number of stores a changing call or recovery reports.
+    pub fn stores(&self) -> u64 {
+        self.answer.first().copied().unwrap_or(0)
+    }
+}
+
+pub fn run_model(case: &Case) -> Outcome {
+    let (mut table, mut list) = (case.table.clone(), case.list.clone());
+    let (number, answer) = match case.call {
+        Call::Create { c, k, mul1, mul2 } => (model::create(&mut table, c, k, mul1, mul2), vec![]),
+        Call::Make { n } => (model::make(&mut table, &list, n), vec![]),
+        Call::Query { key } => {
+            let (number, answer) = model::query(&table, key);
+            (number, answer.to_vec())
+        }
+        Call::Change(event) => {
+            let (number, stores) = event.list_stores(&table, &mut list);
+            (number, vec![stores])
+        }
+    };
+    Outcome { number, answer, table, list }
+}
+
+/// Says what differs between the library's outcome and the model's.
+pub fn difference(library: &Outcome, model: &Outcome) -> Option<String> {
+    if library.number != model.number {
+        return Some(format!("answer: library {}, model {}", library.number, model.number));
+    }
+    let parts = [
+        ("answer", &library.answer, &model.answer),
+        ("table", &library.table, &model.table),
+        ("list", &library.list, &model.list),
+    ];
+    parts.iter().find_map(|(name, library, model)| {
+        let index = (0..library.len()).find(|&index| library[index] != model[index])?;
+        Some(format!("{name} word {index}: library {}, model {}", library[index], model[index]))
+    })
+}

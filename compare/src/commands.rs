@@ -1,0 +1,209 @@
+//! What the command line asks for.
+
+use std::path::Path;
+use std::str::FromStr;
+use std::time::{Duration, Instant, SystemTime, UNIX_EPOCH};
+
+use crate::both::{Both, Check, Finding};
+use crate::case::Case;
+use crate::case_text::{read_case, write_case};
+use crate::random::Random;
+use crate::scripts::{self, Disagreement};
+use crate::shrink::shrink_case;
+use crate::sound_tables::check_alone;
+use crate::tally::Tally;
+use crate::words;
+
+const USAGE: &str = "\
+compare words --seed S --calls N [--trace FILE]
+compare scripts --seed S --scripts N --program PATH
+compare long MINUTES [--seed S] [--program PATH]
+compare case FILE
+compare script FILE --program PATH
+(FILE after --trace keeps the case the library was given last, for when it crashes;
+ a long run without --program makes no scripts)";
+
+/// From these sizes on, a refusal number that was never seen fails the run.
+const FULL_SIZE_CALLS: u64 = 100_000;
+const FULL_SIZE_SCRIPTS: u64 = 1_000;
+
+/// One round of a long run.
+const ROUND_CALLS: u64 = 1_000_000;
+const ROUND_SCRIPTS: u64 = 1_500;
+
+/// Scripts make good tables, lend good lists and make good stores: no 1, 2 or 14.
+const REFUSALS_OF_SCRIPTS: std::ops::RangeInclusive<u64> = 3..=13;
+const REFUSALS_OF_CALLS: std::ops::RangeInclusive<u64> = 1..=14;
+
+type Answer = Result<(), String>;
+
+pub fn run(arguments: &[String]) -> Answer {
+    let words: Vec<&str> = arguments.iter().map(String::as_str).collect();
+    let options = Options { words: &words };
+    match words[..] {
+        ["words", ..] => {
+            let trace = options.value("--trace").map(Path::new);
+            words_run(options.number("--seed")?, options.number("--calls")?, trace)
+        }
+        ["scripts", ..] => {
+            scripts_run(options.number("--seed")?, options.number("--scripts")?, options.program()?)
+        }
+        ["long", minutes, ..] => {
+            let minutes = minutes.parse().map_err(|error| format!("{minutes}: {error}"))?;
+            let seed = match options.value("--seed") {
+                Some(_) => options.number("--seed")?,
+                None => clock_seed(),
+            };
+            long_run(minutes, seed, options.program().ok())
+        }
+        ["case", file] => one_case(file),
+        ["script", file, ..] => one_script(file, options.program()?),
+        _ => Err(format!("usage:\n{USAGE}")),
+    }
+}
+
+struct Options<'a> {
+    words: &'a [&'a str],
+}
+
+impl Options<'_> {
+    fn value(&self, name: &str) -> Option<&str> {
+        let at = self.words.iter().position(|&word| word == name)?;
+        self.words.get(at + 1).copied()
+    }
+
+    fn number(&self, name: &str) -> Result<u64, String> {
+        let text = self.value(name).ok_or(format!("{name} is missing\n{USAGE}"))?;
+        u64::from_str(text).map_err(|error| format!("{name} {text}: {error}"))
+    }
+
+    fn program(&self) -> Result<&Path, String> {
+        self.value("--program").map(Path::new).ok_or(format!("--program is missing\n{USAGE}"))
+    }
+}
+
+fn clock_seed() -> u64 {
+    SystemTime::now().duration_since(UNIX_EPOCH).map_or(0, |time| time.as_nanos() as u64)
+}
+
+fn words_run(seed: u64, calls: u64, trace: Option<&Path>) -> Answer {
+    println!("words: seed {seed}, at least {calls} calls");
+    let mut tally = Tally::default();
+    let result = words::run(seed, calls, &mut Both::traced(&mut tally, trace));
+    tally.print();
+    result.map_err(|finding| report_finding(seed, finding))?;
+    if calls >= FULL_SIZE_CALLS {
+        demand_refusals(&tally, REFUSALS_OF_CALLS)?;
+    }
+    say_alike();
+    Ok(())
+}
+
+fn scripts_run(seed: u64, count: u64, program: &Path) -> Answer {
+    println!("scripts: seed {seed}, {count} scripts through {}", program.display());
+    let mut tally = Tally::default();
+    let result = scripts::run(seed, count, program, &mut tally);
+    tally.print();
+    result.map_err(|disagreement| report_disagreement(seed, program, disagreement))?;
+    if count >= FULL_SIZE_SCRIPTS {
+        demand_refusals(&tally, REFUSALS_OF_SCRIPTS)?;
+    }
+    say_alike();
+    Ok(())
+}
+
+/// Round after round, each from its own seed, until the time is over.
+fn long_run(minutes: u32, seed: u64, program: Option<&Path>) -> Answer {
+    println!("long: seed {seed}, {minutes} minutes");
+    let end = Instant::now() + Duration::from_secs(60 * u64::from(minutes));
+    let mut seeds = Random::new(seed);
+    let mut tally = Tally::default();
+    let mut rounds = 0;
+    while Instant::now() < end {
+        rounds += 1;
+        let (words_seed, scripts_seed) = (seeds.word(), seeds.word());
+        println!("round {rounds}: words seed {words_seed}, scripts seed {scripts_seed}");
+        words::run(words_seed, ROUND_CALLS, &mut Both::new(&mut tally))
+            .map_err(|finding| report_finding(words_seed, finding))?;
+        if let Some(program) = program {
+            scripts::run(scripts_seed, ROUND_SCRIPTS, program, &mut tally)
+                .map_err(|disagreement| report_disagreement(scripts_seed, program, disagreement))?;
+        }
+    }
+    println!("rounds: {rounds}");
+    tally.print();
+    demand_refusals(&tally, REFUSALS_OF_CALLS)?;
+    say_alike();
+    Ok(())
+}
+
+/// The last line of a run that found nothing.
+fn say_alike() {
+    println!("no difference");
+}
+
+fn demand_refusals(tally: &Tally, possible: std::ops::RangeInclusive<u64>) -> Answer {
+    let unseen = tally.unseen_refusals(possible);
+    if unseen.is_empty() {
+        Ok(())
+    } else {
+        Err(format!("refusal numbers never seen: {unseen:?}"))
+    }
+}
+
+fn check_case(check: Check, case: &Case) -> Result<(), Finding> {
+    let mut tally = Tally::default();
+    let mut both = Both::new(&mut tally);
+    match check {
+        Check::Call => both.run(case).map(|_| ()),
+        Check::SoundTable => check_alone(&mut both, case),
+    }
+}
+
+fn one_case(file: &str) -> Answer {
+    let text = std::fs::read_to_string(file).map_err(|error| format!("{file}: {error}"))?;
+    let (check, case) = read_case(&text)?;
+    check_case(check, &case).map_err(|finding| finding.what)?;
+    say_alike();
+    Ok(())
+}
+
+fn one_script(file: &str, program: &Path) -> Answer {
+    let script = std::fs::read(file).map_err(|error| format!("{file}: {error}"))?;
+    let output = scripts::compare(program, &script)?;
+    print!("{}", String::from_utf8_lossy(&output));
+    say_alike();
+    Ok(())
+}
+
+fn report_finding(seed: u64, finding: Finding) -> String {
+    println!("seed {seed}: {}", finding.what);
+    // Shrunk by the check that can be run again; a failure only the history sees stays as it is.
+    let fails = |case: &Case| check_case(finding.check, case).is_err();
+    let smallest = shrink_case(finding.case, fails);
+    let what = check_case(finding.check, &smallest).map_or_else(|smaller| smaller.what, |()| finding.what);
+    let text = write_case(finding.check, &smallest);
+    println!("the smallest case found: {what}\n{text}");
+    save(&format!("failure-{seed}.case"), text.as_bytes(), |file| format!("case {file}"));
+    what
+}
+
+fn report_disagreement(seed: u64, program: &Path, disagreement: Disagreement) -> String {
+    println!("seed {seed}: {}", disagreement.what);
+    let smallest = scripts::shrink(program, disagreement.script);
+    let what = scripts::compare(program, &smallest).err().unwrap_or(disagreement.what);
+    println!("the smallest script found: {what}\n{}", String::from_utf8_lossy(&smallest));
+    save(&format!("failure-{seed}.script"), &smallest, |file| {
+        format!("script {file} --program {}", program.display())
+    });
+    what
+}
+
+/// Keeps a failure as a file, so that bytes no terminal shows are kept too, and says how to run it again.
+fn save(name: &str, content: &[u8], arguments: impl Fn(&str) -> String) {
+    let file = std::env::current_dir().unwrap_or_default().join(name);
+    match std::fs::write(&file, content) {
+        Ok(()) => println!("run again with: compare {}", arguments(&file.to_string_lossy())),
+        Err(error) => println!("{} could not be written: {error}", file.display()),
+    }
+}

@@ -1,0 +1,176 @@
+//! The proved library behind its C interface. Every buffer stands between
+//! guard words, which are checked after each call.
+
+use ragansils_model::Event;
+
+use crate::case::{Call, Case, Outcome};
+
+mod c {
+    extern "C" {
+        pub fn ragansils_create(table: *mut u64, words: usize, c: u64, k: u64, mul1: u64, mul2: u64) -> u64;
+        pub fn ragansils_query(table: *const u64, words: usize, key: u64, answer: *mut u64) -> u64;
+        pub fn ragansils_insert(
+            table: *const u64,
+            words: usize,
+            key: u64,
+            function: u64,
+            place: u64,
+            list: *mut u64,
+            list_words: usize,
+            stores: *mut u64,
+        ) -> u64;
+        pub fn ragansils_update(
+            table: *const u64,
+            words: usize,
+            key: u64,
+            function: u64,
+            place: u64,
+            list: *mut u64,
+            list_words: usize,
+            stores: *mut u64,
+        ) -> u64;
+        pub fn ragansils_delete(
+            table: *const u64,
+            words: usize,
+            key: u64,
+            list: *mut u64,
+            list_words: usize,
+            stores: *mut u64,
+        ) -> u64;
+        pub fn ragansils_begin(
+            table: *const u64,
+            words: usize,
+            list: *mut u64,
+            list_words: usize,
+            stores: *mut u64,
+        ) -> u64;
+        pub fn ragansils_step(
+            table: *const u64,
+            words: usize,
+            list: *mut u64,
+            list_words: usize,
+            stores: *mut u64,
+        ) -> u64;
+        pub fn ragansils_end(
+            table: *const u64,
+            words: usize,
+            list: *mut u64,
+            list_words: usize,
+            stores: *mut u64,
+        ) -> u64;
+        pub fn ragansils_recover(
+            table: *const u64,
+            words: usize,
+            list: *mut u64,
+            list_words: usize,
+            stores: *mut u64,
+        ) -> u64;
+        pub fn ragansils_make(
+            table: *mut u64,
+            words: usize,
+            list: *const u64,
+            list_words: usize,
+            n: u64,
+        ) -> u64;
+    }
+}
+
+const GUARD_WORDS: usize = 16;
+
+/// What answer buffers hold before a call, to see that each word is written.
+const UNWRITTEN: u64 = 0x5a5a_0bad_0bad_a5a5;
+
+/// Words lent to the library, with guard words on both sides.
+struct Guarded {
+    words: Vec<u64>,
+}
+
+impl Guarded {
+    fn new(content: &[u64]) -> Guarded {
+        let mut words: Vec<u64> = (0..GUARD_WORDS).map(guard_word).collect();
+        words.extend_from_slice(content);
+        words.extend((0..GUARD_WORDS).map(guard_word));
+        Guarded { words }
+    }
+
+    fn length(&self) -> usize {
+        self.words.len() - 2 * GUARD_WORDS
+    }
+
+    /// Both kinds of pointer come from the one writable buffer, so that even a
+    /// library that breaks its promise to only read is seen, not undefined.
+    fn pointer(&mut self) -> *mut u64 {
+        self.words[GUARD_WORDS..].as_mut_ptr()
+    }
+
+    fn content(&self) -> &[u64] {
+        &self.words[GUARD_WORDS..][..self.length()]
+    }
+
+    fn intact(&self) -> bool {
+        let before = &self.words[..GUARD_WORDS];
+        let after = &self.words[GUARD_WORDS + self.length()..];
+        [before, after].iter().all(|side| side.iter().enumerate().all(|(i, &w)| w == guard_word(i)))
+    }
+}
+
+fn guard_word(index: usize) -> u64 {
+    0xc0de_c0de_0000_0000 + index as u64
+}
+
+struct Lent {
+    table: Guarded,
+    list: Guarded,
+    /// The query's answer, or the number of stores.
+    answer: Guarded,
+}
+
+/// Runs a case through the library; an error says which guard words were touched.
+pub fn run(case: &Case) -> Result<Outcome, String> {
+    let answer_words = case.call.answer_words();
+    let mut lent = Lent {
+        table: Guarded::new(&case.table),
+        list: Guarded::new(&case.list),
+        answer: Guarded::new(&vec![UNWRITTEN; answer_words]),
+    };
+    let number = call_library(case.call, &mut lent);
+    for (name, buffer) in [("table", &lent.table), ("list", &lent.list), ("answer", &lent.answer)] {
+        if !buffer.intact() {
+            return Err(format!("the library wrote outside the {name}"));
+        }
+    }
+    Ok(Outcome {
+        number,
+        answer: lent.answer.content().to_vec(),
+        table: lent.table.content().to_vec(),
+        list: lent.list.content().to_vec(),
+    })
+}
+
+fn call_library(call: Call, lent: &mut Lent) -> u64 {
+    let (table, words) = (lent.table.pointer(), lent.table.length());
+    let (list, list_words) = (lent.list.pointer(), lent.list.length());
+    let answer = lent.answer.pointer();
+    // SAFETY: each pointer is valid for the length handed over with it, the answer buffer has
+    // the words the call writes, and no two of them overlap.
+    unsafe {
+        match call {
+            Call::Create { c, k, mul1, mul2 } => c::ragansils_create(table, words, c, k, mul1, mul2),
+            Call::Query { key } => c::ragansils_query(table, words, key, answer),
+            Call::Make { n } => c::ragansils_make(table, words, list, list_words, n),
+            Call::Change(event) => match event {
+                Event::Insert { key, function, place } => {
+                    c::ragansils_insert(table, words, key, function, place, list, list_words, answer)
+                }
+                Event::Update { key, function, place } => {
+                    c::ragansils_update(table, words, key, function, place, list, list_words, answer)
+                }
+                Event::Delete { key } => c::ragansils_delete(table, words, key, list, list_words, answer),
+                Event::Begin => c::ragansils_begin(table, words, list, list_words, answer),
+                Event::Step => c::ragansils_step(table, words, list, list_words, answer),
+                Event::End => c::ragansils_end(table, words, list, list_words, answer),
+                Event::Recover => c::ragansils_recover(table, words, list, list_words, answer),
+            },
+        }
+    }
+}

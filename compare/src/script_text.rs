@@ -1,0 +1,142 @@
+//! Random scripts. The model carries the table along, so that the events fit its state.
+
+use ragansils_model::{create, make, table_words, Event, LARGEST_PROGRAM_CAPACITY, LEAST_LIST_WORDS};
+
+use crate::case::event_name;
+use crate::case_text::event_arguments;
+use crate::history::{next_event, Keys, Mood, Setting};
+use crate::random::Random;
+
+/// The most stores an event has is 10; a cut is tried just beyond that, too.
+const CUTS_TO_TRY: u64 = 12;
+
+pub fn random_script(random: &mut Random) -> Vec<u8> {
+    if random.one_in(12) {
+        return refused_creation(random);
+    }
+    let grows_large = random.one_in(40);
+    let setting = match grows_large {
+        true => Setting::of_capacity(random, LARGEST_PROGRAM_CAPACITY),
+        false => Setting::random(random),
+    };
+    let story = Story {
+        events: if grows_large { 1500 + random.below(1500) } else { random.below(200) },
+        mood: if grows_large { Mood::filling() } else { Mood::random(random) },
+        cut_one_in: random.pick(&[1, 2, 4, 10, 1000]),
+        forgets_one_in: random.pick(&[1, 1, 3, 1000]),
+        recovers_late_one_in: random.pick(&[5, 15, 50]),
+    };
+    story.write(random, setting)
+}
+
+/// A good script whose creation is refused, with events that are not read.
+fn refused_creation(random: &mut Random) -> Vec<u8> {
+    let mut setting = Setting::random(random);
+    match random.below(5) {
+        0 => setting.c = random.pick(&[0, 9, 20, 21, u64::MAX]),
+        1 => setting.k = random.pick(&[0, setting.c + 1, 257, u64::MAX]),
+        2 => setting.mul1 = random.word() & !1,
+        3 => setting.mul2 = 0,
+        _ => setting.c = random.any_word(),
+    }
+    let mut script = Script::default();
+    script.header(setting);
+    script.text.extend_from_slice(b"op=begin\nnot read");
+    script.text
+}
+
+/// How a script goes.
+struct Story {
+    events: u64,
+    mood: Mood,
+    cut_one_in: u64,
+    forgets_one_in: u64,
+    /// A recovery comes now and then, when several may have been forgotten.
+    recovers_late_one_in: u64,
+}
+
+impl Story {
+    fn write(&self, random: &mut Random, setting: Setting) -> Vec<u8> {
+        let keys = Keys::random(random, setting);
+        let mut script = Script::default();
+        script.header(setting);
+        for _ in 0..self.events {
+            if random.one_in(5) {
+                let key = keys.pick_likely(random, &script.table);
+                script.query(key);
+                continue;
+            }
+            if random.one_in(self.recovers_late_one_in) {
+                script.event(Event::Recover, None);
+            }
+            let event = next_event(random, &script.table, &keys, self.mood, script.last_number);
+            if random.one_in(self.cut_one_in) {
+                script.event(event, Some(any_cut(random)));
+                if !random.one_in(self.forgets_one_in) {
+                    recover(random, &mut script);
+                }
+            } else {
+                script.event(event, None);
+            }
+        }
+        script.text
+    }
+}
+
+fn any_cut(random: &mut Random) -> u64 {
+    if random.one_in(20) {
+        random.any_word()
+    } else {
+        random.below(CUTS_TO_TRY)
+    }
+}
+
+/// A recovery that may be cut itself, and then comes again.
+fn recover(random: &mut Random, script: &mut Script) {
+    while random.one_in(3) {
+        script.event(Event::Recover, Some(random.below(5)));
+    }
+    script.event(Event::Recover, None);
+}
+
+#[derive(Default)]
+struct Script {
+    text: Vec<u8>,
+    table: Vec<u64>,
+    last_number: u64,
+}
+
+impl Script {
+    fn line(&mut self, name: &str, value: impl ToString) {
+        self.text.extend_from_slice(format!("{name}={}\n", value.to_string()).as_bytes());
+    }
+
+    fn header(&mut self, Setting { c, k, mul1, mul2 }: Setting) {
+        for (name, value) in [("cap", c), ("top", k), ("mul1", mul1), ("mul2", mul2)] {
+            self.line(name, value);
+        }
+        let words = table_words(c).filter(|_| c <= LARGEST_PROGRAM_CAPACITY);
+        self.table = vec![0; words.unwrap_or(0)];
+        create(&mut self.table, c, k, mul1, mul2);
+    }
+
+    fn query(&mut self, key: u64) {
+        self.line("op", "query");
+        self.line("key", key);
+    }
+
+    fn event(&mut self, event: Event, cut: Option<u64>) {
+        if let Some(after) = cut {
+            self.line("op", "cut");
+            self.line("after", after);
+        }
+        self.line("op", event_name(event));
+        for (name, value) in event_arguments(event) {
+            self.line(name, value);
+        }
+        let mut list = [0; LEAST_LIST_WORDS];
+        let (number, stores) = event.list_stores(&self.table, &mut list);
+        make(&mut self.table, &list, cut.unwrap_or(stores).min(stores));
+        self.last_number = number;
+    }
+}

@@ -1,0 +1,175 @@
+//! Sound tables against the plain map: queries, and changes that are cut after
+//! every number of stores and recovered, the recovery cut too.
+
+use ragansils_model::{Event, LEAST_LIST_WORDS};
+
+use crate::both::{Both, Check, Finding};
+use crate::case::{Call, Case, Outcome};
+use crate::plain_map::{self, PlainMap};
+
+/// The list lent to recoveries: longer than need be, and not zero.
+const RECOVERY_LIST: [u64; 22] = [0x0123_4567_89ab_cdef; 22];
+
+/// How much is tried of a change.
+#[derive(Clone, Copy, PartialEq, Eq)]
+pub enum Depth {
+    WholeOnly,
+    EveryCut,
+}
+
+/// A sound table and its map, after a change or a refusal.
+pub struct Changed {
+    pub number: u64,
+    pub table: Vec<u64>,
+    pub map: PlainMap,
+}
+
+/// Checks one change of a sound table whose map is `before`.
+pub fn check_change(
+    both: &mut Both,
+    case: &Case,
+    event: Event,
+    before: &PlainMap,
+    depth: Depth,
+) -> Result<Changed, Finding> {
+    let outcome = both.run(case)?;
+    let number = outcome.number;
+    if !plain_map::answer_fits(before, event, number) {
+        return Err(finding(case, format!("the plain map does not allow the answer {number}")));
+    }
+    if number != 0 {
+        return Ok(Changed { number, table: case.table.clone(), map: before.clone() });
+    }
+    let after = plain_map::after(before, event);
+    let mut change = Change { both, case, outcome: &outcome, before, after: &after };
+    if depth == Depth::EveryCut {
+        for kept in 0..=outcome.stores() {
+            change.check_cut(kept)?;
+        }
+    }
+    let table = change.whole()?;
+    Ok(Changed { number, table, map: after })
+}
+
+/// Checks one query of a sound table whose map is `map`.
+pub fn check_query(both: &mut Both, case: &Case, key: u64, map: &PlainMap) -> Result<(), Finding> {
+    let outcome = both.run(case)?;
+    if plain_map::query_fits(map, key, outcome.number, &outcome.answer) {
+        return Ok(());
+    }
+    Err(finding(case, format!("the plain map has {:?} for this key", map.get(&key))))
+}
+
+/// Checks a case of its own, where it is one of a sound table: the plain map is the table's.
+pub fn check_alone(both: &mut Both, case: &Case) -> Result<(), Finding> {
+    let recovery = Event::Recover.list_stores(&case.table, &mut RECOVERY_LIST.clone());
+    let map = plain_map::of_table(&case.table).filter(|_| recovery == (0, 0));
+    match (map, case.call) {
+        (Some(map), Call::Query { key }) => check_query(both, case, key, &map),
+        (Some(map), Call::Change(event)) if case.list.len() >= LEAST_LIST_WORDS => {
+            check_change(both, case, event, &map, Depth::EveryCut).map(|_| ())
+        }
+        _ => Ok(()),
+    }
+}
+
+fn finding(case: &Case, what: String) -> Finding {
+    Finding { check: Check::SoundTable, case: case.clone(), what }
+}
+
+struct Change<'a, 't> {
+    both: &'a mut Both<'t>,
+    case: &'a Case,
+    outcome: &'a Outcome,
+    before: &'a PlainMap,
+    after: &'a PlainMap,
+}
+
+impl Change<'_, '_> {
+    fn finding(&self, what: String) -> Finding {
+        finding(self.case, what)
+    }
+
+    fn make(&mut self, kept: u64) -> Result<Vec<u64>, Finding> {
+        self.both.make(&self.case.table, &self.outcome.list, kept)
+    }
+
+    /// The table with all stores made; it must hold exactly the map after.
+    fn whole(&mut self) -> Result<Vec<u64>, Finding> {
+        let table = self.make(self.outcome.stores())?;
+        if plain_map::of_table(&table).as_ref() != Some(self.after) {
+            return Err(self.finding("the whole change does not give the plain map".to_string()));
+        }
+        Ok(table)
+    }
+
+    fn check_cut(&mut self, kept: u64) -> Result<(), Finding> {
+        self.both.tally.cuts += 1;
+        let cut_table = self.make(kept)?;
+        for recovered in self.recovered_every_way(kept, &cut_table)? {
+            let map = plain_map::of_table(&recovered);
+            let is = |expected: &PlainMap| map.as_ref() == Some(expected);
+            let good = match kept {
+                0 => is(self.before),
+                _ if kept == self.outcome.stores() => is(self.after),
+                _ => is(self.before) || is(self.after),
+            };
+            if !good {
+                return Err(self.finding(format!("cut after {kept} stores: a wrong map is recovered")));
+            }
+        }
+        Ok(())
+    }
+
+    /// The recovered tables, one for each cut of the first recovery.
+    fn recovered_every_way(&mut self, kept: u64, table: &[u64]) -> Result<Vec<Vec<u64>>, Finding> {
+        let first = self.recovery(kept, table)?;
+        let mut recovered = vec![];
+        for recovery_kept in 0..=first.stores() {
+            self.both.tally.recovery_cuts += 1;
+            let half = self.both.make(table, &first.list, recovery_kept)?;
+            let second = self.recovery(kept, &half)?;
+            let whole = self.both.make(&half, &second.list, second.stores())?;
+            if self.recovery(kept, &whole)?.stores() != 0 {
+                let what = format!("cut after {kept} stores, recovery after {recovery_kept}: not sound");
+                return Err(self.finding(what));
+            }
+            recovered.push(whole);
+        }
+        Ok(recovered)
+    }
+
+    fn recovery(&mut self, kept: u64, table: &[u64]) -> Result<Outcome, Finding> {
+        let call = Call::Change(Event::Recover);
+        let case = Case { call, table: table.to_vec(), list: RECOVERY_LIST.to_vec() };
+        let outcome = self.both.run(&case)?;
+        match outcome.number {
+            0 => Ok(outcome),
+            number => Err(self.finding(format!("cut after {kept} stores: recovery refuses with {number}"))),
+        }
+    }
+}
+
+#[cfg(test)]
+mod tests {
+    use super::*;
+    use crate::tally::Tally;
+    use ragansils_model::{create, table_words};
+
+    /// A wrong plain map must be found, or no right one would mean anything.
+    #[test]
+    fn a_wrong_map_is_found() {
+        let mut table = vec![0; table_words(2).unwrap()];
+        create(&mut table, 2, 1, 1 << 32 | 1, 3 << 32 | 1);
+        let event = Event::Insert { key: 1, function: 10, place: 20 };
+        let case = Case { call: Call::Change(event), table, list: vec![0; 20] };
+        let mut tally = Tally::default();
+        let mut both = Both::new(&mut tally);
+        let mut check = |map: PlainMap, depth| check_change(&mut both, &case, event, &map, depth).is_ok();
+
+        assert!(check(PlainMap::new(), Depth::EveryCut));
+        assert!(!check(PlainMap::from([(1, [10, 20])]), Depth::WholeOnly));
+        assert!(!check(PlainMap::from([(2, [10, 20])]), Depth::WholeOnly));
+        assert!(!check(PlainMap::from([(2, [10, 20])]), Depth::EveryCut));
+    }
+}

@@ -1,0 +1,92 @@
+//! What a run has seen.
+
+use std::collections::BTreeMap;
+use std::fmt::Display;
+
+use crate::case::{Case, Outcome};
+
+type Counts = BTreeMap<String, u64>;
+
+#[derive(Default)]
+pub struct Tally {
+    calls: Counts,
+    /// Store lists by call and length.
+    lists: Counts,
+    refusals: BTreeMap<u64, u64>,
+    recoveries: Counts,
+    bad_lines: Counts,
+    pub total_calls: u64,
+    pub cuts: u64,
+    pub recovery_cuts: u64,
+    pub scripts: u64,
+}
+
+impl Tally {
+    pub fn count_call(&mut self, case: &Case, outcome: &Outcome) {
+        self.total_calls += 1;
+        self.count_answered(case.call.name(), outcome.number, outcome.stores());
+    }
+
+    /// Counts a call of the library or an event of a script. `stores` is of no matter for a query.
+    pub fn count_answered(&mut self, name: &str, number: u64, stores: u64) {
+        add(&mut self.calls, name);
+        self.count_refusal(number);
+        match name {
+            "recover" => add(&mut self.recoveries, recovery_kind(number, stores)),
+            "query" | "create" | "make" => {}
+            _ if number == 0 => add(&mut self.lists, &format!("{name} of {stores}")),
+            _ => {}
+        }
+    }
+
+    pub fn count_refusal(&mut self, number: u64) {
+        if number != 0 {
+            *self.refusals.entry(number).or_default() += 1;
+        }
+    }
+
+    pub fn count_bad_line(&mut self, kind: &str) {
+        add(&mut self.bad_lines, kind);
+    }
+
+    /// The refusal numbers that were never seen, of those that a run can meet.
+    pub fn unseen_refusals(&self, possible: impl IntoIterator<Item = u64>) -> Vec<u64> {
+        possible.into_iter().filter(|number| !self.refusals.contains_key(number)).collect()
+    }
+
+    pub fn print(&self) {
+        println!("calls: {}; scripts: {}", self.total_calls, self.scripts);
+        print_counts("calls and script events by name", &self.calls);
+        print_counts("store lists", &self.lists);
+        print_counts("refusals", &self.refusals);
+        println!("cuts made: {}; recoveries cut: {}", self.cuts, self.recovery_cuts);
+        print_counts("recoveries by kind", &self.recoveries);
+        print_counts("bad lines by kind", &self.bad_lines);
+    }
+}
+
+fn recovery_kind(number: u64, stores: u64) -> &'static str {
+    match (number, stores) {
+        (0, 0) => "sound",
+        (0, 1) => "doubled key",
+        (0, _) => "flagged update",
+        _ => "refused",
+    }
+}
+
+fn add(counts: &mut Counts, name: &str) {
+    match counts.get_mut(name) {
+        Some(count) => *count += 1,
+        None => {
+            counts.insert(name.to_string(), 1);
+        }
+    }
+}
+
+fn print_counts(title: &str, counts: &BTreeMap<impl Display, u64>) {
+    if counts.is_empty() {
+        return;
+    }
+    let entries: Vec<String> = counts.iter().map(|(name, count)| format!("{name}: {count}")).collect();
+    println!("{title}: {}", entries.join(", "));
+}
