@@ -104,14 +104,17 @@ fn count(script: &[u8], output: &[u8], tally: &mut Tally) {
     // The answers are in the order of the events; a cut is no event.
     let script_lines = split_lines(script);
     let mut ops = script_lines.iter().filter_map(|line| op_of(line)).filter(|&op| op != "cut");
+    let mut op = "unknown";
     for (index, (name, number)) in output.iter().enumerate() {
         match name.as_str() {
             "answer" => {
+                op = ops.next().unwrap_or("unknown");
                 // A query's second line is no count of stores, but then it is not used.
                 let second = output.get(index + 1).map_or(0, |line| line.1);
-                tally.count_answered(ops.next().unwrap_or("unknown"), *number, second);
+                tally.count_answered(op, *number, second);
             }
             "made" => tally.count_refusal(*number),
+            "kept" if op == "recover" => tally.recovery_cuts += 1,
             "kept" => tally.cuts += 1,
             "bad" => tally.count_bad_line(bad_line_kind(&script_lines, *number)),
             _ => {}
