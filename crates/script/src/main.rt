@@ -34,10 +34,14 @@ fn put(text: &[u8], out: &mut [u8], waiting: usize) -> usize
     waiting + text.len()
 }
 
+// Most bytes are answered by nothing.
 fn put_answer(answer: Answer, out: &mut [u8], waiting: usize) -> usize
     requires { ⌜ waiting ≤ length (now out) ⌝ }
     ensures { λ r. ⌜ r ≤ length (now (out .entry)) ⌝ }
 {
+    if let Answer::Nothing = answer {
+        return waiting;
+    }
     let mut text = [0u8; 128];
     let n = say(answer, &mut text);
     put(&text[..n], out, waiting)
