@@ -27,13 +27,13 @@ enough (suc n) zero v h k = absurd (omega arith)
 enough (suc n) (suc m) v h k = go (ltb v 10) refl (enough n m (v / 10))
   where
     go : (b : Bool) → ltb v 10 ≡ b → (v / 10 < n → v / 10 < m → digitsIn n (v / 10) ≡ digitsIn m (v / 10))
-        → cond b ((48 + v) ∷ []) (digitsIn n (v / 10) ++ ((48 + v % 10) ∷ [])) ≡ cond b ((48 + v) ∷ []) (digitsIn m (v / 10) ++ ((48 + v % 10) ∷ []))
+        → cond b [] (digitsIn n (v / 10)) ++ ((48 + v % 10) ∷ []) ≡ cond b [] (digitsIn m (v / 10)) ++ ((48 + v % 10) ∷ [])
     go true e r = refl
     go false e r = let l = ltb-false v 10 e in ap (λ (ds : List ℕ). ds ++ ((48 + v % 10) ∷ [])) (r (omega arith) (omega arith))
 
 decimal-one : (v : ℕ) → v < 10 → decimalText v ≡ (48 + v) ∷ []
 unfolding decimalText digitsIn
-decimal-one v h = rw (lt-ltb v 10 h)
+decimal-one v h = let last : v % 10 ≡ v = omega arith in rw (lt-ltb v 10 h, last)
 
 decimal-more : (v : ℕ) → 10 ≤ v → decimalText v ≡ decimalText (v / 10) ++ ((48 + v % 10) ∷ [])
 unfolding decimalText digitsIn

@@ -10,10 +10,11 @@ use Rattle.lines.specs.Lines.{bytes, nameText, opText, lineOf}
 use Rattle.lines.specs.declared.Line.{Line}
 use Rattle.lines.specs.declared.Line.the-variants.{Number, Event, Bad}
 
--- a number's digits, at most n of them: the digits of its tenth, and then its last one
+-- a number's digits, at most n of them: the digits of its tenth, where it is not below 10, and then its last one. `rest` is computed
+-- only where it is asked for, so that a number takes no more steps than it has digits
 unfoldable pub digitsIn : ℕ → ℕ → List ℕ
 digitsIn zero v = []
-digitsIn (suc n) v = cond (ltb v 10) ((48 + v) ∷ []) (digitsIn n (v / 10) ++ ((48 + v % 10) ∷ []))
+digitsIn (suc n) v = let rest = digitsIn n (v / 10) in cond (ltb v 10) [] rest ++ ((48 + v % 10) ∷ [])
 
 -- all of its digits, which are at most v + 1: `0` for 0, and "no leading zeros"
 unfoldable pub decimalText : ℕ → List ℕ

@@ -27,7 +27,7 @@ digits-few zero k v l = omega arith
 digits-few (suc n) k v l = go (ltb v 10) refl k l (λ j h. digits-few n j (v / 10) h)
   where
     go : (b : Bool) → ltb v 10 ≡ b → (j : ℕ) → v < 10 ^ (j + 1) → ((i : ℕ) → v / 10 < 10 ^ (i + 1) → length (digitsIn n (v / 10)) ≤ i + 1)
-        → length (cond b ((48 + v) ∷ []) (digitsIn n (v / 10) ++ ((48 + v % 10) ∷ []))) ≤ j + 1
+        → length (cond b [] (digitsIn n (v / 10)) ++ ((48 + v % 10) ∷ [])) ≤ j + 1
     go true e j h tenth = omega arith
     go false e zero h tenth = absurd (omega (arith, ltb-false v 10 e, h))
     go false e (suc j) h tenth =

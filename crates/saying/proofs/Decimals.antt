@@ -6,7 +6,7 @@ use native.Mathlib.Nat.{pow-succ', one-le-pow}
 use native.Mathlib.Omega.{arith}
 use borrow.Author.Tests.{lt-ltb, le-ltb}
 use Rattle.io.specs.Digits.{digits, Fewest, glyph}
-use Rattle.saying.specs.Texts.{decimalIn, decimal}
+use Rattle.lines.specs.Texts.{digitsIn, decimalText}
 
 digit : (n : ℕ) → glyph (n % 10) ≡ 48 + n % 10
 digit n = rw (lt-ltb (n % 10) 10 (omega arith))
@@ -16,7 +16,8 @@ longer : (n r : ℕ) → Fewest 10 1 n (suc (suc r)) → 10 ^ suc r ≤ n
 longer n r f = let e : suc (suc r) - 1 ≡ suc r = omega arith in rw e at (f .2 (omega arith))
 
 -- with as many steps as there are digits, or more
-digits-in : (k n r : ℕ) → r ≤ k → Fewest 10 1 n r → decimalIn k n ≡ digits 10 r n
+digits-in : (k n r : ℕ) → r ≤ k → Fewest 10 1 n r → digitsIn k n ≡ digits 10 r n
+unfolding digitsIn
 digits-in zero n r h f = absurd (omega (arith, f .0))
 digits-in (suc k) n zero h f = absurd (omega (arith, f .0))
 digits-in (suc k) n (suc zero) h f = rw (lt-ltb n 10 (omega (arith, f .1)), digit n)
@@ -39,6 +40,6 @@ few-digits n zero f = omega arith
 few-digits n (suc zero) f = omega arith
 few-digits n (suc (suc r)) f = omega (arith, below-power (suc r), longer n r f)
 
-pub decimal-is : (n r : ℕ) → Fewest 10 1 n r → digits 10 r n ≡ decimal n
-unfolding decimal
+pub decimal-is : (n r : ℕ) → Fewest 10 1 n r → digits 10 r n ≡ decimalText n
+unfolding decimalText
 decimal-is n r f = sym (digits-in (suc n) n r (few-digits n r f) f)

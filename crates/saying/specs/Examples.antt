@@ -9,7 +9,8 @@ use mathlib.Core.List.{List, [], _∷_, map, flatMap}
 use Rattle.replaying.specs.declared.Answer.{Answer}
 use Rattle.replaying.specs.declared.Answer.the-variants.{Nothing, Made, Unmade, Changed, Kept, Found, Events, Bad}
 use Rattle.lines.specs.Lines.{bytes}
-use Rattle.saying.specs.Texts.{decimal, textOf}
+use Rattle.lines.specs.Texts.{digitsIn, decimalText}
+use Rattle.saying.specs.Texts.{textOf}
 
 abbrev pub table : List (Answer × String)
 table =
@@ -27,5 +28,5 @@ table =
 
 -- the definitions compute what document 01 writes
 pub examples : map (λ (x : Answer × String). textOf (x .0)) table ≡ map (λ (x : Answer × String). bytes (x .1)) table
-unfolding flatMap decimal textOf
+unfolding flatMap digitsIn decimalText textOf
 examples = refl

@@ -1,12 +1,11 @@
 -- Document 01, "Script program": what is written as an answer. "Lines of name=decimal, no leading zeros, each ended by a
 -- newline".
 -- Assumes nothing.
-use Prim.Native.Nat.{ℕ, zero, suc, _+_, _/_, _%_}
+use Prim.Native.Nat.{ℕ}
 use Prim.Native.String.{String}
-use mathlib.Core.Bool.{cond}
 use mathlib.Core.List.{List, [], _∷_, _++_, flatMap}
-use lib.Dec.{ltb}
 use Rattle.lines.specs.Lines.{bytes}
+use Rattle.lines.specs.Texts.{decimalText}
 use Rattle.replaying.specs.declared.Answer.{Answer}
 use Rattle.replaying.specs.declared.Answer.the-variants.{Nothing, Made, Unmade, Changed, Kept, Found, Events, Bad}
 
@@ -27,19 +26,9 @@ linesOf (Found n f p c) = ("answer", n) ∷ ("fn", f) ∷ ("at", p) ∷ ("probes
 linesOf (Events n) = ("events", n) ∷ []
 linesOf (Bad n) = ("bad", n) ∷ []
 
--- a decimal: a number below 10 is its digit, and any other its tenth's decimal and then its last digit, so that no decimal
--- but 0's begins with a zero. The first number bounds the steps, and n + 1 are enough for n. `rest` is computed only where
--- it is asked for, so that a long number takes no more steps than it has digits
-abbrev pub decimalIn : ℕ → ℕ → List ℕ
-decimalIn zero n = []
-decimalIn (suc k) n = let rest = decimalIn k (n / 10) in cond (ltb n 10) [] rest ++ ((48 + n % 10) ∷ [])
-
-unfoldable pub decimal : ℕ → List ℕ
-decimal n = decimalIn (suc n) n
-
 -- a line and an answer as bytes. A newline is byte 10
 abbrev pub lineText : Line → List ℕ
-lineText line = bytes (line .0) ++ bytes "=" ++ decimal (line .1) ++ (10 ∷ [])
+lineText line = bytes (line .0) ++ bytes "=" ++ decimalText (line .1) ++ (10 ∷ [])
 
 unfoldable pub textOf : Answer → List ℕ
 textOf answer = flatMap lineText (linesOf answer)

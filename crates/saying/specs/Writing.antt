@@ -6,7 +6,8 @@ use mathlib.Core.List.{List, [], _∷_, _++_, flatMap}
 use lib.ListN.{length}
 use lib.Seq.{sets}
 use Rattle.replaying.specs.declared.Answer.{Answer}
-use Rattle.saying.specs.Texts.{decimal, lineText, linesOf}
+use Rattle.lines.specs.Texts.{decimalText}
+use Rattle.saying.specs.Texts.{lineText, linesOf}
 
 -- buffer l with a text from byte `at` on
 unfoldable pub putAt : List ℕ → ℕ → List ℕ → List ℕ
@@ -20,7 +21,7 @@ pub record Put (text : List ℕ) (at : ℕ) (l : List ℕ) (r : ℕ) (m : List �
 
 -- a line whose name comes with its `=`
 unfoldable pub lineWith : List ℕ → ℕ → List ℕ
-lineWith name number = name ++ decimal number ++ (10 ∷ [])
+lineWith name number = name ++ decimalText number ++ (10 ∷ [])
 
 -- an answer's lines put from the front
 abbrev pub PutLines : Answer → List ℕ → ℕ → List ℕ → Type 0

@@ -4,7 +4,7 @@ ghost use mathlib.Core.Path.{_≡_};
 ghost use Prim.Native.Nat.{_+_, _≤_};
 ghost use lib.ListN.{length, take};
 ghost use Rattle.saying.specs.Promises.{Said};
-ghost use Rattle.saying.specs.Texts.{decimal};
+ghost use Rattle.lines.specs.Texts.{decimalText};
 ghost use Rattle.saying.specs.Writing.{Put, PutLines, lineWith};
 
 // Puts the first `count` bytes of a text into a buffer from byte `at` on, and answers the next free byte.
@@ -37,7 +37,7 @@ fn copy_digits(digits: &[u8; 20], count: usize, out: &mut [u8; 128], at: usize) 
 // Puts a number's decimal, and answers as `copy` does.
 fn tell(number: u64, out: &mut [u8; 128], at: usize) -> usize
     requires { ⌜ at + 20 ≤ 128 ⌝ }
-    ensures { λ r. ⌜ Put (decimal number) at (now (out .entry)) r (now (out .exit)) × (r ≤ at + 20) ⌝ }
+    ensures { λ r. ⌜ Put (decimalText number) at (now (out .entry)) r (now (out .exit)) × (r ≤ at + 20) ⌝ }
 {
     let mut digits = [0u8; 20];
     let count = io::decimal(number, &mut digits);
