@@ -33,20 +33,22 @@ start = record { due = aNumber WantCap; first = 0; second = 0; third = 0; cut = 
 abbrev pub nextLine : Script → ℕ
 nextLine s = (s .lines + 1) % 2 ^ 64
 
--- it is read, and more is to come: with these numbers read so far, and under this cut line
+-- it is read: what is due after it, the numbers read for that, the cut line over that, and what it asks for
+abbrev pub onward : Script → Due → ℕ → ℕ → ℕ → CutLine → Asked → Reading
+onward s due a b c under asked =
+    record { script = record { due = due; first = a; second = b; third = c; cut = under; lines = nextLine s }; asked = asked }
+
+-- more is to come for a header or an event
 abbrev pub waits : Script → Due → ℕ → ℕ → ℕ → CutLine → Reading
-waits s due a b c under =
-    record { script = record { due = due; first = a; second = b; third = c; cut = under; lines = nextLine s }; asked = askNothing }
+waits s due a b c under = onward s due a b c under askNothing
 
 -- it makes a header or an event whole, and an event is due
 abbrev pub asks : Script → Asked → Reading
-asks s asked =
-    record { script = record { due = anEvent; first = 0; second = 0; third = 0; cut = noCut; lines = nextLine s }; asked = asked }
+asks s asked = onward s anEvent 0 0 0 noCut asked
 
 -- "First bad line: `bad=` its number, from 1, and stop."
 abbrev pub stopsAt : Script → ℕ → Reading
-stopsAt s line =
-    record { script = record { due = noMore; first = 0; second = 0; third = 0; cut = noCut; lines = nextLine s }; asked = askEnd line }
+stopsAt s line = onward s noMore 0 0 0 noCut (askEnd line)
 
 abbrev pub stops : Script → Reading
 stops s = stopsAt s (nextLine s)

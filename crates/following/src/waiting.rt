@@ -15,7 +15,7 @@ ghost use mathlib.Core.Path.{_≡_};
 ghost use mathlib.Core.Bool.{cond};
 ghost use lib.Dec.{eqb};
 ghost use Rattle.following.specs.declared.Due.the-variants.{Number as aNumber, Event as anEvent};
-ghost use Rattle.following.specs.Scripts.{start as startOf, nextLine, waits as waitsOf, asks as asksOf, stopsAt as stopsAtOf, stops as stopsOf, nameNumber, nameFor, numberRead, eventBegun, mayBeCut, eventRead, expected, readingOf, noEventLine, atEvent, endingOf};
+ghost use Rattle.following.specs.Scripts.{start as startOf, nextLine, onward as onwardOf, waits as waitsOf, asks as asksOf, stopsAt as stopsAtOf, stops as stopsOf, nameNumber, nameFor, numberRead, eventBegun, mayBeCut, eventRead, expected, readingOf, noEventLine, atEvent, endingOf};
 
 // "`cap`, `top` (the first k), `mul1`, `mul2`, then events"
 pub fn start() -> Script
@@ -37,9 +37,9 @@ fn next_line(s: Script) -> u64
     wrapping_add_u64(s.lines, 1)
 }
 
-// More is to come, with these numbers read so far.
-fn waits(s: Script, due: Due, a: u64, b: u64, c: u64, cut: Cut) -> Reading
-    ensures { λ r. ⌜ r ≡ waitsOf s due a b c cut ⌝ }
+// A line is read: what is due after it, with these numbers read for that and under this cut line, and what it asks for.
+fn onward(s: Script, due: Due, a: u64, b: u64, c: u64, cut: Cut, asked: Asked) -> Reading
+    ensures { λ r. ⌜ r ≡ onwardOf s due a b c cut asked ⌝ }
 {
     Reading {
         script: Script {
@@ -50,42 +50,29 @@ fn waits(s: Script, due: Due, a: u64, b: u64, c: u64, cut: Cut) -> Reading
             cut,
             lines: next_line(s),
         },
-        asked: Asked::Nothing,
+        asked,
     }
+}
+
+// More is to come for a header or an event.
+fn waits(s: Script, due: Due, a: u64, b: u64, c: u64, cut: Cut) -> Reading
+    ensures { λ r. ⌜ r ≡ waitsOf s due a b c cut ⌝ }
+{
+    onward(s, due, a, b, c, cut, Asked::Nothing)
 }
 
 // A header or an event is whole.
 fn asks(s: Script, asked: Asked) -> Reading
     ensures { λ r. ⌜ r ≡ asksOf s asked ⌝ }
 {
-    Reading {
-        script: Script {
-            due: Due::Event,
-            first: 0,
-            second: 0,
-            third: 0,
-            cut: Cut::None,
-            lines: next_line(s),
-        },
-        asked,
-    }
+    onward(s, Due::Event, 0, 0, 0, Cut::None, asked)
 }
 
 // "First bad line: `bad=` its number, from 1, and stop."
 fn stops_at(s: Script, line: u64) -> Reading
     ensures { λ r. ⌜ r ≡ stopsAtOf s line ⌝ }
 {
-    Reading {
-        script: Script {
-            due: Due::Nothing,
-            first: 0,
-            second: 0,
-            third: 0,
-            cut: Cut::None,
-            lines: next_line(s),
-        },
-        asked: Asked::Bad(line),
-    }
+    onward(s, Due::Nothing, 0, 0, 0, Cut::None, Asked::Bad(line))
 }
 
 fn name_number(name: Name) -> u64
