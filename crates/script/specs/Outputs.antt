@@ -1,0 +1,78 @@
+-- Document 01, "Script program": what the program writes for an input, with its case and its other sentences as one
+-- table, computed from the definitions of the library.
+-- Assumes nothing.
+use Prim.Native.Nat.{ℕ}
+use Prim.Native.String.{String}
+use mathlib.Core.Path.{_≡_, refl}
+use mathlib.Core.List.{List, [], _∷_, _++_, map, flatMap}
+use lib.ListN.{length, replicate}
+use Rattle.words.specs.Product.{productOf, hashOf}
+use Rattle.rules.specs.Words.{wordsFor, stateOf, stateWord, atRest, headerOf, flagOf, stateGood, odd, capacityTests, headerTests, topOf, bottomOf, interimOf, levelsInUse, slotAt, slotsIn, placeAt, placeOf, tokenWord, keyWord, functionWord, placeWord, keyIn, recordIn, tokenOf, tidy, isTaken, show, taken}
+use Rattle.rules.specs.Places.{hashesOf, firstPlace, secondPlace, samePlace, placesIn, probes, placesOf, holds, hitIn, lookup}
+use Rattle.rules.specs.Placing.{takenIn, freeSlot, fewer, emptier, roomIn, placing}
+use Rattle.rules.specs.Stores.{putStores, placingStores, written}
+use Rattle.rules.specs.Calls.{headerGood, listLong, flagClear, changingTests, queryTests, endTests, endOf, outcome}
+use Rattle.rules.specs.Results.{changeResult, queryResult, createTests, created, createResult, makeTests, makeResult}
+use Rattle.lines.specs.Lines.{bytes, decimalOf, nameOf, opOf, lineOf}
+use Rattle.lines.specs.Texts.{digitsIn, decimalText}
+use Rattle.following.specs.Scripts.{readingOf, endingOf}
+use Rattle.replaying.specs.Events.{answerTo}
+use Rattle.replaying.specs.Replays.{turnOf, finishOf}
+use Rattle.running.specs.Runs.{ready, fed, answersTo}
+use Rattle.saying.specs.Texts.{textOf}
+
+-- the text of all that is answered to an input, on lent words
+unfoldable pub outputTo : List ℕ → List ℕ → List ℕ
+outputTo room input = flatMap textOf (answersTo room input)
+
+-- so it is written, also where the input is fed byte by byte, as the program does, with 27 bytes to hold a line in
+abbrev pub BytesWritten : Type 0
+BytesWritten = (room line input : List ℕ) → length line ≡ 27 → flatMap textOf (fed ready room line input) ≡ outputTo room input
+
+-- ---- document 01's case, and its other sentences, as inputs and outputs
+
+-- the header of the smallest table
+abbrev pub smallest : String → List ℕ
+smallest events = bytes "cap=1\ntop=1\nmul1=1\nmul2=1\n" ++ bytes events
+
+abbrev pub cases : List (List ℕ × String)
+cases =
+    -- "Whole case, lines joined by commas here."
+    (
+      bytes "cap=2\ntop=1\nmul1=4294967297\nmul2=12884901889\nop=insert\nkey=1\nfn=10\nat=20\nop=query\nkey=1\nop=query\nkey=3\n",
+      "made=0\nanswer=0\nstores=4\nanswer=0\nfn=10\nat=20\nprobes=1\nanswer=5\nfn=0\nat=0\nprobes=2\nevents=3\n",
+    )
+    -- "Program cap is at most 8; a larger one gives `made=13`." "After `made=13` comes `events=0`, and no event line is read."
+    ∷ (bytes "cap=9\ntop=1\nmul1=1\nmul2=1\nop=what\n", "made=13\nevents=0\n")
+    -- and all four lines are read before
+    ∷ (bytes "cap=9\ntop=1\nmul1=x\n", "bad=3\n")
+    -- "A number of 2^64 or more is bad, and so is the line missing where input ends too soon."
+    ∷ (bytes "", "bad=1\n")
+    ∷ (bytes "cap=1\ntop=1\n", "bad=3\n")
+    ∷ (smallest "op=query\nkey=18446744073709551615\n", "made=0\nanswer=5\nfn=0\nat=0\nprobes=2\nevents=1\n")
+    ∷ (smallest "op=query\nkey=18446744073709551616\n", "made=0\nbad=6\n")
+    -- "no leading zeros, each ended by a newline"
+    ∷ (bytes "cap=01\n", "bad=1\n")
+    ∷ (smallest "op=end", "made=0\nbad=5\n")
+    -- "First bad line: `bad=` its number, from 1, and stop.", after what was answered before
+    ∷ (smallest "op=end\nop=what\nop=end\n", "made=0\nanswer=8\nstores=0\nbad=6\n")
+    -- "`op=cut` with `after`, which must stand right before a changing event or recover (else the cut line is the bad line)"
+    ∷ (smallest "op=cut\nafter=1\nop=query\nkey=1\n", "made=0\nbad=5\n")
+    ∷ (smallest "op=cut\nafter=1\n", "made=0\nbad=5\n")
+    ∷ (smallest "op=cut\nafter=x\nop=end\n", "made=0\nbad=6\n")
+    -- "lets only that many of its stores be made, or all if there are fewer"; "An event under a cut line adds `kept=` .. the cut
+    -- line itself is neither answered nor counted."
+    ∷ (
+      smallest "op=cut\nafter=3\nop=insert\nkey=1\nfn=2\nat=3\nop=query\nkey=1\n",
+      "made=0\nanswer=0\nstores=4\nkept=3\nanswer=5\nfn=0\nat=0\nprobes=2\nevents=2\n",
+    )
+    ∷ (
+      smallest "op=cut\nafter=9\nop=insert\nkey=1\nfn=2\nat=3\nop=query\nkey=1\n",
+      "made=0\nanswer=0\nstores=4\nkept=4\nanswer=0\nfn=2\nat=3\nprobes=1\nevents=2\n",
+    )
+    ∷ []
+
+-- the definitions compute what document 01 writes, on used words
+pub cases-computed : map (λ (x : List ℕ × String). outputTo (replicate 100 7) (x .0)) cases ≡ map (λ (x : List ℕ × String). bytes (x .1)) cases
+unfolding productOf hashOf flatMap wordsFor stateOf stateWord atRest headerOf flagOf stateGood odd capacityTests headerTests topOf bottomOf interimOf levelsInUse slotAt slotsIn placeAt placeOf tokenWord keyWord functionWord placeWord keyIn recordIn tokenOf tidy isTaken show taken hashesOf firstPlace secondPlace samePlace placesIn probes placesOf holds hitIn lookup takenIn freeSlot fewer emptier roomIn placing putStores placingStores written headerGood listLong flagClear changingTests queryTests endTests endOf outcome changeResult queryResult createTests created createResult makeTests makeResult decimalOf nameOf opOf lineOf digitsIn decimalText readingOf endingOf answerTo turnOf finishOf answersTo textOf outputTo
+cases-computed = refl
