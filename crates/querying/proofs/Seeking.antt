@@ -2,7 +2,7 @@
 -- Assumes nothing.
 use Prim.Native.Nat.{ℕ, _+_, _≤_, _<_}
 use mathlib.Core.Path.{_≡_, refl}
-use mathlib.Core.Bool.{true, false}
+use mathlib.Core.Bool.{true, false, and-false}
 use mathlib.Core.Option.{Option, none, some}
 use borrow.Author.Tests.{eq-eqb, ne-eqb}
 use lib.ListN.{drop}
@@ -33,9 +33,9 @@ module _ (t : Table) (h : Header) (key : ℕ) where
       unfolding inSlots holds taken slotAt
       slot-free e = rw (slots-next p s l, ← w, e)
 
-      pub slot-other : isTaken h word s ≡ true → (keyIn t (slotAt p s) ≡ key → ⊥) → inSlots p s ≡ inSlots p (s + 1)
+      pub slot-other : (keyIn t (slotAt p s) ≡ key → ⊥) → inSlots p s ≡ inSlots p (s + 1)
       unfolding inSlots holds taken slotAt
-      slot-other e k = rw (slots-next p s l, ← w, e, ne-eqb _ _ k)
+      slot-other k = rw (slots-next p s l, ← w, ne-eqb _ _ k, and-false (isTaken h word s))
 
       pub slot-hit : isTaken h word s ≡ true → keyIn t (slotAt p s) ≡ key → inSlots p s ≡ some (slotAt p s)
       unfolding inSlots holds taken slotAt

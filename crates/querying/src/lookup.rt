@@ -34,13 +34,13 @@ fn find(t: &[u64], h: Header, key: u64, x: Hashes) -> Lookup
             answer = Lookup::Absent(looked);
             let word = token(t, p.bucket);
             for s in 0..4 {
-                if is_taken(h, word, s) {
-                    let at = Slot {
-                        level: p.level,
-                        bucket: p.bucket,
-                        slot: s,
-                    };
-                    if key_at(t, at) == key {
+                let at = Slot {
+                    level: p.level,
+                    bucket: p.bucket,
+                    slot: s,
+                };
+                if key_at(t, at) == key {
+                    if is_taken(h, word, s) {
                         answer = Lookup::Stands(at, looked);
                         break 'search;
                     }

@@ -68,11 +68,11 @@ token-requires c κs = within (c .before .before)
 loop-holds : tie.Need-loop-holds Inv-loop μ-loop Inv-search μ-search
 loop-holds c = (refl, slots-all _ _ _ _)
 
+key-at-requires : tie.Need-key-at-requires Inv-loop μ-loop Inv-search μ-search
+key-at-requires c κs = (within (c .before .before .before .before .before), c .loop-test .taken)
+
 is-taken-requires : tie.Need-is-taken-requires Inv-loop μ-loop Inv-search μ-search
 is-taken-requires c κs = search needs
-
-key-at-requires : tie.Need-key-at-requires Inv-loop μ-loop Inv-search μ-search
-key-at-requires c κs = (within (c .before .before .before .before .before .before .before), c .before .before .loop-test .taken)
 
 add-s : tie.Need-add-s Inv-loop μ-loop Inv-search μ-search
 add-s c = omega arith
@@ -86,12 +86,12 @@ loop-again c =
     let q = c .before .before in
     let v = q .before .loop .inv in
     let w = q .before .before .token .ensures in
-    let e = sym (c .before .is-taken .ensures) in
+    let e = c .before .key-at .ensures in
     let l = q .loop-test .taken in (
       v .0,
       v .1
-          ∙ ⊎-elim (λ u. slot-other _ _ _ _ w _ l (e ∙ u .0 .taken) (λ k. u .2 .left (u .1 .ensures ∙ k)))
-          (λ u. slot-free _ _ _ _ w _ l (e ∙ u .left)) (c .if2 .came),
+          ∙ ⊎-elim (λ u. slot-free _ _ _ _ w _ l (sym (u .1 .ensures) ∙ u .2 .left))
+          (λ u. slot-other _ _ _ _ w _ l (λ k. u .left (e ∙ k))) (c .if2 .came),
     )
 
 add-i : tie.Need-add-i Inv-loop μ-loop Inv-search μ-search
@@ -134,7 +134,7 @@ returns-2 c =
     (s .search .inv .3
     ∙ turn-hit _ _ _ _ _ _ _ _ l (s .search .inv .2) (p .nth-place .ensures .0) (sym (f .is-fresh .ensures) ∙ w .before .if1 .taken)
     (k .before .loop .inv .1
-    ∙ slot-hit _ _ _ _ (w .token .ensures) _ (k .loop-test .taken) (sym (c .before .before .before .is-taken .ensures) ∙ c .before .before .if2 .taken) (sym (c .before .key-at .ensures) ∙ c .if3 .taken)))
+    ∙ slot-hit _ _ _ _ (w .token .ensures) _ (k .loop-test .taken) (sym (c .before .is-taken .ensures) ∙ c .if3 .taken) (sym (c .before .before .before .key-at .ensures) ∙ c .before .before .if2 .taken)))
 
 pub find-spec : {M : Type 1} → statement M
 find-spec =
@@ -151,8 +151,8 @@ find-spec =
     add-looked
     token-requires
     loop-holds
-    is-taken-requires
     key-at-requires
+    is-taken-requires
     add-s
     loop-less
     loop-again
