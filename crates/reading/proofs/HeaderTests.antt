@@ -2,7 +2,7 @@
 -- Assumes nothing.
 use Prim.Native.Nat.{ℕ, _+_, _-_, _*_, _%_, _^_, _≤_, _<_}
 use mathlib.Core.Path.{_≡_, refl, sym, _∙_}
-use mathlib.Core.Bool.{Bool, true, false, _&&_, _||_}
+use mathlib.Core.Bool.{false, and-true, and-false, or-false}
 use native.Mathlib.Omega.{arith}
 use borrow.Author.Tests.{lt-leb, le-leb, eq-eqb, ne-eqb}
 use lib.ListN.{length}
@@ -13,18 +13,6 @@ use Rattle.rules.specs.Calls.{headerGood}
 use Rattle.rules.specs.declared.State.{State}
 use Rattle.rules.specs.declared.Header.{Header}
 use Rattle.rules.proofs.Tests.{all-no}
-
-and-true : (b : Bool) → b ≡ (b && true)
-and-true true = refl
-and-true false = refl
-
-or-false : (b : Bool) → b ≡ (b || false)
-or-false true = refl
-or-false false = refl
-
-and-false : (b : Bool) → (b && false) ≡ false
-and-false true = refl
-and-false false = refl
 
 module _ (c : ℕ) (s : State) where
   pub state-above : c < s .k → false ≡ stateGood c s
@@ -37,11 +25,11 @@ module _ (c : ℕ) (s : State) where
 
   pub state-rest : s .k ≤ c → s .phase ≡ 0 → leb 1 (s .k) ≡ stateGood c s
   unfolding stateGood
-  state-rest h p = rw (eq-eqb _ _ p, le-leb _ _ h, ne-eqb (s .phase) 1 (omega arith)) (and-true _ ∙ or-false _)
+  state-rest h p = rw (eq-eqb _ _ p, le-leb _ _ h, ne-eqb (s .phase) 1 (omega arith)) (sym (or-false _ ∙ and-true _))
 
   pub state-growing : s .k ≤ c → s .phase ≡ 1 → leb 2 (s .k) ≡ stateGood c s
   unfolding stateGood
-  state-growing h p = rw (ne-eqb (s .phase) 0 (omega arith), eq-eqb _ _ p, le-leb _ _ h) (and-true _ ∙ or-false _)
+  state-growing h p = rw (ne-eqb (s .phase) 0 (omega arith), eq-eqb _ _ p, le-leb _ _ h) (sym (or-false _ ∙ and-true _))
 
 module _ (size : ℕ) (h : Header) where
   pub low : h .c < 1 → false ≡ all (headerTests size h)
@@ -70,7 +58,7 @@ module _ (size : ℕ) (h : Header) where
 
   pub by-state : 1 ≤ h .c → h .c ≤ 20 → size ≡ wordsFor (h .c) → h .form ≡ 1 → h .mul1 % 2 ≡ 1 → h .mul2 % 2 ≡ 1 → stateGood (h .c) (h .state) ≡ all (headerTests size h)
   unfolding headerTests capacityTests odd
-  by-state a b l f m n = rw (le-leb _ _ a, le-leb _ _ b, eq-eqb _ _ l, eq-eqb _ _ f, eq-eqb _ _ m, eq-eqb _ _ n) (and-true _)
+  by-state a b l f m n = rw (le-leb _ _ a, le-leb _ _ b, eq-eqb _ _ l, eq-eqb _ _ f, eq-eqb _ _ m, eq-eqb _ _ n, and-true)
 
 -- the length that the code computes
 pub sized : (p c : ℕ) → p ≡ 2 ^ (c + 1) → 9 + 13 * (p - 1) ≡ wordsFor c
