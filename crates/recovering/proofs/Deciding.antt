@@ -23,7 +23,7 @@ use Rattle.rules.specs.declared.Record.{Record}
 use Rattle.rules.proofs.Headers.{header-passes}
 use Rattle.rules.proofs.Tests.{all-no}
 use Rattle.rules.proofs.PlacesInUse.{slot-within}
-use Rattle.rules.proofs.Twins.{taken-in}
+use Rattle.rules.proofs.Twins.{taken-in, twins-ordered}
 use Rattle.rules.proofs.Copies.{copies, copy-twins, linear, still-alike, flagged-alike, target-some}
 use Rattle.reading.specs.Within.{SlotWithin}
 use Rattle.scanning.specs.declared.copies.Scan.{Scan}
@@ -94,7 +94,7 @@ module _ (t : Table) (g : GoodHeader (length t) (headerOf t)) where
   taken-within x u = slot-within (length t) (headerOf t) g x (u .used)
 
   copies-within : (u : Slot × Slot) → In u (copies t) → SlotWithin t (u .0) × SlotWithin t (u .1)
-  copies-within u i = let r = copy-twins t (headerOf t .c) (g .state) u i in (taken-within (u .0) (r .first), taken-within (u .1) (r .later))
+  copies-within u i = let r = twins-ordered t (u .0) (u .1) (copy-twins t u i) in (taken-within (u .0) (r .first), taken-within (u .1) (r .later))
 
   pub scan-within : ScanWithin t (scanOf t (headerOf t))
   scan-within = go (all (map (inPlace t) (takenSlots t))) refl
@@ -105,8 +105,8 @@ module _ (t : Table) (g : GoodHeader (length t) (headerOf t)) where
       pairs (p ∷ (q ∷ l)) k = tt
 
       go : (b : Bool) → all (map (inPlace t) (takenSlots t)) ≡ b → ScanWithin t (scanOf t (headerOf t))
-      go true e = rw (scan-placed t e) (pairs (copies t) copies-within)
-      go false e = rw (scan-misplaced t e) tt
+      go true e = rw (scan-placed t g e) (pairs (copies t) copies-within)
+      go false e = rw (scan-misplaced t g e) tt
 
   still-within : (scan : Scan) → ScanWithin t scan → FindingWithin t (stillOf t scan)
   still-within Clear w = tt
@@ -170,8 +170,8 @@ module _ (t : Table) {h : Header} (own : h ≡ headerOf t) where
     still-found e = go (all (map (inPlace t) (takenSlots t))) refl
       where
         go : (b : Bool) → all (map (inPlace t) (takenSlots t)) ≡ b → stillOf t (scanOf t (headerOf t)) ≡ finding t
-        go true p = rw (orderly 0 e, p, scan-placed t p) (sym (still-alike t (twins t) (copies t) (linear t good p) ∙ still-scanned t (copies t)))
-        go false p = rw (orderly 0 e, p, misflagged 1 (λ (z : flagOf t ≡ 1). omega arith), scan-misplaced t p)
+        go true p = rw (orderly 0 e, p, scan-placed t good p) (sym (still-alike t (twins t) (copies t) (linear t good p) ∙ still-scanned t (copies t)))
+        go false p = rw (orderly 0 e, p, misflagged 1 (λ (z : flagOf t ≡ 1). omega arith), scan-misplaced t good p)
 
     flagged-found : flagOf t ≡ 1 → flaggedOf (target t) (scanOf t (headerOf t)) ≡ finding t
     unfolding finding
@@ -181,8 +181,8 @@ module _ (t : Table) {h : Header} (own : h ≡ headerOf t) where
         other = misflagged 0 (λ (z : flagOf t ≡ 0). omega arith)
 
         go : (b : Bool) → all (map (inPlace t) (takenSlots t)) ≡ b → flaggedOf (target t) (scanOf t (headerOf t)) ≡ finding t
-        go true p = rw (other, orderly 1 e, p, scan-placed t p) (sym (flagged-alike (target t) (twins t) (copies t) (linear t good p) ∙ flagged-scanned (target t) (copies t)))
-        go false p = rw (other, orderly 1 e, p, scan-misplaced t p) (flagged-spoilt (target t))
+        go true p = rw (other, orderly 1 e, p, scan-placed t good p) (sym (flagged-alike (target t) (twins t) (copies t) (linear t good p) ∙ flagged-scanned (target t) (copies t)))
+        go false p = rw (other, orderly 1 e, p, scan-misplaced t good p) (flagged-spoilt (target t))
 
     pub find-still : {scan : Scan} {r : Finding} → scan ≡ scanOf t h → flagOf t ≡ 0 → r ≡ stillOf t scan → Answer t r
     find-still {scan} q e f =

@@ -1,10 +1,9 @@
--- What recovery asks of a list: whether it is empty, which is its only element, or whether there are more. Lists without
--- repetition and with the same elements answer alike.
+-- What recovery asks of a list: whether it is empty, which is its only element, or whether there are more.
 -- Assumes nothing.
 use Prim.Native.Nat.{_<_}
 use mathlib.Core.Path.{_≡_, refl, sym, ap, _∙_}
 use mathlib.Core.List.{List, [], _∷_, List·Memᴰ as In, List·Memᴰ·head as here, List·Memᴰ·tail as there, List·Memᴰ·not-nil, List·Memᴰ·eq-of-singleton}
-use mathlib.Core.Logic.{_⊎_, inl, inr}
+use mathlib.Core.Logic.{_⊎_, ⊎-elim, inl, inr}
 use native.Mathlib.Omega.{arith}
 use lib.ListN.{length}
 use Rattle.rules.proofs.Lists.{NoRepeat}
@@ -14,13 +13,26 @@ module _ {A : Type 0} where
   abbrev pub Alike : List A → List A → Type 0
   Alike xs ys = (xs ≡ ys) ⊎ ((1 < length xs) × (1 < length ys))
 
-  pub alike-members : (xs ys : List A) → NoRepeat xs → NoRepeat ys → ((x : A) → In x xs → In x ys) → ((x : A) → In x ys → In x xs) → Alike xs ys
-  alike-members [] [] a b f g = inl refl
-  alike-members [] (y ∷ ys) a b f g = absurd (List·Memᴰ·not-nil (g y (here refl)))
-  alike-members (x ∷ xs) [] a b f g = absurd (List·Memᴰ·not-nil (f x (here refl)))
-  alike-members (x ∷ []) (y ∷ []) a b f g = inl (ap (λ (z : A). z ∷ []) (List·Memᴰ·eq-of-singleton (f x (here refl))))
-  alike-members (x ∷ []) (y ∷ (z ∷ ys)) a b f g =
-      absurd (b .0 z (here refl) (List·Memᴰ·eq-of-singleton (g y (here refl)) ∙ sym (List·Memᴰ·eq-of-singleton (g z (there (here refl))))))
-  alike-members (x ∷ (z ∷ xs)) (y ∷ []) a b f g =
-      absurd (a .0 z (here refl) (List·Memᴰ·eq-of-singleton (f x (here refl)) ∙ sym (List·Memᴰ·eq-of-singleton (f z (there (here refl))))))
-  alike-members (x ∷ (z ∷ xs)) (y ∷ (w ∷ ys)) a b f g = inr (omega arith)
+  -- two elements that differ
+  pub record Two (l : List A) : Type 0 where
+    pub first : A
+    pub second : A
+    pub one : In first l
+    pub other : In second l
+    pub apart : first ≡ second → ⊥
+
+  -- of lists without repetition: ys has elements of xs alone, and each element of xs unless it has two anyway
+  pub alike-parts : (xs ys : List A) → NoRepeat xs → NoRepeat ys → ((y : A) → In y ys → In y xs) → ((x : A) → In x xs → In x ys ⊎ Two ys) → Alike xs ys
+  alike-parts [] [] a b f g = inl refl
+  alike-parts [] (y ∷ ys) a b f g = absurd (List·Memᴰ·not-nil (f y (here refl)))
+  alike-parts (x ∷ xs) [] a b f g = absurd (⊎-elim (λ (i : In x []). List·Memᴰ·not-nil i) (λ (w : Two []). List·Memᴰ·not-nil (w .one)) (g x (here refl)))
+  alike-parts (x ∷ []) (y ∷ []) a b f g = inl (ap (λ (z : A). z ∷ []) (sym (List·Memᴰ·eq-of-singleton (f y (here refl)))))
+  alike-parts (x ∷ []) (y ∷ (z ∷ ys)) a b f g =
+      absurd (b .0 z (here refl) (List·Memᴰ·eq-of-singleton (f y (here refl)) ∙ sym (List·Memᴰ·eq-of-singleton (f z (there (here refl))))))
+  alike-parts (x ∷ (z ∷ xs)) (y ∷ []) a b f g = absurd (a .0 z (here refl) (only x (here refl) ∙ sym (only z (there (here refl)))))
+    where
+      only : (u : A) → In u (x ∷ (z ∷ xs)) → u ≡ y
+      only u i =
+          ⊎-elim (λ (j : In u (y ∷ [])). List·Memᴰ·eq-of-singleton j)
+          (λ (w : Two (y ∷ [])). absurd (w .apart (List·Memᴰ·eq-of-singleton (w .one) ∙ sym (List·Memᴰ·eq-of-singleton (w .other))))) (g u i)
+  alike-parts (x ∷ (z ∷ xs)) (y ∷ (w ∷ ys)) a b f g = inr (omega arith)

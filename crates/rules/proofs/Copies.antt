@@ -1,34 +1,35 @@
--- An item's other copies are looked for in the places of its key alone, at most six buckets, and not among all taken slots:
--- where each taken slot stands "in a place of its key" both ways find the same pairs, though in another order, and recovery
--- then finds the same. And word 6 tells its slot without a search.
+-- An item's other copies are not looked for among all taken slots: the lookup of its key ends at one of them, in at most six
+-- buckets. Where each taken slot stands "in a place of its key" this finds no pair, one or more where the rules' list of pairs has
+-- none, one or more, and the same one; so recovery finds the same. And word 6 tells its slot without a search.
 -- Assumes nothing.
 use Prim.Native.Nat.{ℕ, _<_}
 use mathlib.Core.Path.{_≡_, refl, sym, ap, _∙_}
-use mathlib.Core.Bool.{true}
-use mathlib.Core.List.{List, [], _∷_, map, flatMap, List·Memᴰ as In, Memᴰ·cast}
-use mathlib.Core.Logic.{Iff·rfl, inl, inr}
+use mathlib.Core.Bool.{Bool, true, false, cond}
+use mathlib.Core.List.{List, [], _∷_, map, flatMap, List·Memᴰ as In, List·Memᴰ·head as here, List·Memᴰ·not-nil, List·Memᴰ·eq-of-singleton, Memᴰ·cast}
+use mathlib.Core.Logic.{Iff·rfl, _⊎_, ⊎-elim, inl, inr}
 use mathlib.Core.Option.{Option, none, some}
 use native.Mathlib.Omega.{arith}
 use lib.ListN.{length}
 use lib.Dec.{eqb}
 use borrow.Author.Tests.{eqb-true, eqb-false}
-use Rattle.rules.specs.Choice.{all, given, select}
-use Rattle.rules.specs.Words.{Table, GoodHeader, GoodState, headerOf, targetOf, slotsIn, placeOf, keyWord, keyIn, taken}
-use Rattle.rules.specs.Places.{placesOf, holds}
-use Rattle.rules.specs.Soundness.{takenSlots, inPlace, Before, twins, whenStill, target, whenFlagged}
-use Rattle.rules.specs.Copies.{isBefore, slotsFor, isCopy}
-use Rattle.rules.specs.declared.Header.{Header}
+use Rattle.rules.specs.Choice.{all, given}
+use Rattle.rules.specs.Words.{Table, GoodHeader, GoodState, headerOf, targetOf, placeOf, keyWord, keyIn}
+use Rattle.rules.specs.Places.{samePlace, placesOf, lookup}
+use Rattle.rules.specs.Soundness.{takenSlots, TakenSlot, inPlace, Before, twins, whenStill, target, whenFlagged}
+use Rattle.rules.specs.Copies.{isBefore, inOrder, sameSlot, copyAt, copiesOf}
 use Rattle.rules.specs.declared.Place.{Place}
 use Rattle.rules.specs.declared.Slot.{Slot}
+use Rattle.rules.specs.declared.Lookup.{Lookup}
+use Rattle.rules.specs.declared.Lookup.the-variants.{Stands, Absent}
 use Rattle.rules.specs.declared.Finding.the-variants.{Neither}
-use Rattle.rules.proofs.Lists.{firstOf-some, firstOf-none, given-some, given-none, select-in, in-select, flatMap-in, in-flatMap, ascending-flatMap, ascending-select, NoRepeat}
-use Rattle.rules.proofs.Tests.{Tells, tells-lt, tells-eq, tells-and, tells-or, tells-all}
+use Rattle.rules.proofs.Lists.{never, firstOf-some, firstOf-none, given-some, given-none, flatMap-in, in-flatMap, ascending-flatMap, NoRepeat}
+use Rattle.rules.proofs.Tests.{Tells, tells-lt, tells-eq, tells-and, tells-or, tells-all, tells-any}
 use Rattle.rules.proofs.Addresses.{key-word-one}
-use Rattle.rules.proofs.Alike.{Alike, alike-members}
+use Rattle.rules.proofs.Alike.{Alike, Two, alike-parts}
 use Rattle.rules.proofs.FreeSlots.{slot-place}
-use Rattle.rules.proofs.SlotsInUse.{place-ascends, slots-of-place}
-use Rattle.rules.proofs.PlacesInUse.{Elsewhere, places-in-use, places-apart, slot-of-place, slot-by-bucket, in-place}
-use Rattle.rules.proofs.Twins.{slots-apart, taken-in, in-taken, taken-apart, paired, paired-in, in-paired, paired-apart, Twins, twins-ordered, twins-all, twins-apart}
+use Rattle.rules.proofs.PlacesInUse.{same-place-tells, slot-by-bucket, in-place}
+use Rattle.rules.proofs.Twins.{before-once, before-apart, taken-in, in-taken, taken-apart, taken-compare, Twins, twins-ordered, twins-apart, same-or-twins}
+use Rattle.rules.proofs.Lookups.{stands-one, lookup-stands, lookup-sees, holder-among, holder-taken}
 
 -- ---- the order of slots as a test
 
@@ -36,77 +37,189 @@ before-tells : (x y : Slot) → Tells (isBefore x y) (Before x y)
 unfolding isBefore
 before-tells x y = tells-or _ _ (tells-lt _ _) (tells-and _ _ (tells-eq _ _) (tells-or _ _ (tells-lt _ _) (tells-and _ _ (tells-eq _ _) (tells-lt _ _))))
 
+-- of two pairs that are one, put in order: their first slots are one, or the pairs cross over
+in-order-one : (a b c d : Slot) → inOrder a b ≡ inOrder c d → (a ≡ c) ⊎ ((a ≡ d) × (b ≡ c))
+unfolding inOrder
+in-order-one a b c d e = go (isBefore a b) (isBefore c d) e
+  where
+    go : (p q : Bool) → _≡_ {A = Slot × Slot} (cond p (a, b) (b, a)) (cond q (c, d) (d, c)) → (a ≡ c) ⊎ ((a ≡ d) × (b ≡ c))
+    go true true e = inl (ap (λ (u : Slot × Slot). u .0) e)
+    go true false e = inr (ap (λ (u : Slot × Slot). u .0) e, ap (λ (u : Slot × Slot). u .1) e)
+    go false true e = inr (ap (λ (u : Slot × Slot). u .1) e, ap (λ (u : Slot × Slot). u .0) e)
+    go false false e = inl (ap (λ (u : Slot × Slot). u .1) e)
+
+in-order-first : (x y : Slot) → Before x y → inOrder x y ≡ (x, y)
+unfolding inOrder
+in-order-first x y b = rw (before-tells x y .1 b)
+
+in-order-last : (x y : Slot) → Before y x → inOrder x y ≡ (y, x)
+unfolding inOrder
+in-order-last x y b = go (isBefore x y) refl
+  where
+    go : (p : Bool) → isBefore x y ≡ p → _≡_ {A = Slot × Slot} (cond p (x, y) (y, x)) (y, x)
+    go true e = absurd (before-once x y (before-tells x y .0 e) b)
+    go false e = refl
+
 -- ---- the copies of an item
 
--- those that hold the key of slot x and come after it
-unfoldable pub laterCopies : Table → Header → Slot → List Slot
-laterCopies t h x = select (isCopy t h (keyIn t x) x) (slotsFor h (keyIn t x))
+same-tells : (x y : Slot) → Tells (sameSlot x y) ((x .bucket ≡ y .bucket) × (x .slot ≡ y .slot))
+unfolding sameSlot
+same-tells x y = tells-and _ _ (tells-eq _ _) (tells-eq _ _)
 
-unfoldable pub copiesOf : Table → Header → Slot → List (Slot × Slot)
-copiesOf t h x = paired x (laterCopies t h x)
-
--- all that are found so, for each taken slot in order
+-- all that are found, for each taken slot in order
 unfoldable pub copies : Table → List (Slot × Slot)
 copies t = flatMap (copiesOf t (headerOf t)) (takenSlots t)
 
-pub holds-tells : (t : Table) (h : Header) (key : ℕ) (x : Slot) → Tells (holds t h key x) ((taken t h x ≡ true) × (keyIn t x ≡ key))
-unfolding holds
-holds-tells t h key x = tells-and _ _ Iff·rfl (tells-eq _ _)
+module _ (t : Table) where
+  -- the lookup of slot x's key ends in slot y
+  Ends : Slot → Slot → Type 0
+  Ends x y = (n : ℕ) × (lookup t (headerOf t) (keyIn t x) ≡ Stands y n)
 
-copy-tells : (t : Table) (h : Header) (key : ℕ) (x y : Slot) → Tells (isCopy t h key x y) (((taken t h y ≡ true) × (keyIn t y ≡ key)) × Before x y)
-unfolding isCopy
-copy-tells t h key x y = tells-and _ _ (holds-tells t h key y) (before-tells x y)
+  -- then y is taken with the same key
+  ends-taken : (x y : Slot) → Ends x y → TakenSlot t y × (keyIn t y ≡ keyIn t x)
+  unfolding Ends
+  ends-taken x y e = holder-taken t (keyIn t x) y (lookup-stands t (keyIn t x) y (e .0) (e .1) .0)
 
-module _ (t : Table) (c : ℕ) (good : GoodState c (headerOf t .state)) where
-  slots-for-apart : (key : ℕ) → NoRepeat (slotsFor (headerOf t) key)
-  unfolding slotsFor placeOf
-  slots-for-apart key =
-      ascending-flatMap Elsewhere _ slotsIn (placesOf (headerOf t) key) (places-apart c (headerOf t) good key) (λ p. slots-apart (slotsIn p) (place-ascends p))
-      (λ p q d x y i j e. d (ap (λ (z : Place). z .bucket) (sym (slot-place p x i) ∙ ap placeOf e ∙ slot-place q y j)))
+  -- slots with one key have one end
+  ends-one : (a b x y : Slot) → keyIn t a ≡ keyIn t b → Ends a x → Ends b y → x ≡ y
+  unfolding Ends
+  ends-one a b x y k e f = stands-one x y (e .0) (f .0) (sym (e .1) ∙ ap (lookup t (headerOf t)) k ∙ f .1) .0
+
+  -- a slot where the lookup of its own key ends is "in a place of its key"
+  pub itself-in-place : (x y : Slot) (n : ℕ) → lookup t (headerOf t) (keyIn t x) ≡ Stands y n → sameSlot x y ≡ true → inPlace t x ≡ true
+  unfolding inPlace placeOf
+  itself-in-place x y n q e =
+      let s = lookup-stands t (keyIn t x) y n q .0 in
+      let same = ap (λ (p : Place). p .bucket) (slot-place (s .place) y (s .here)) in
+      tells-any (samePlace (placeOf x)) _ (same-place-tells (placeOf x)) (placesOf (headerOf t) (keyIn t x)) .1
+      (s .place, holder-among t (keyIn t x) y s, same-tells x y .0 e .0 ∙ same)
+
+  -- a copy that is found: where the lookup ends, which is elsewhere
+  copy-found : (x : Slot) (u : Slot × Slot) → In u (copiesOf t (headerOf t) x) → (y : Slot) × Ends x y × (sameSlot x y ≡ false) × (u ≡ inOrder x y)
+  unfolding copiesOf Ends
+  copy-found x u i = go (lookup t (headerOf t) (keyIn t x)) refl i
+    where
+      at : (y : Slot) (n : ℕ) → lookup t (headerOf t) (keyIn t x) ≡ Stands y n → (b : Bool) → sameSlot x y ≡ b → In u (cond b [] (inOrder x y ∷ []))
+          → (y : Slot) × Ends x y × (sameSlot x y ≡ false) × (u ≡ inOrder x y)
+      at y n q true e i = absurd (List·Memᴰ·not-nil i)
+      at y n q false e i = (y, (n, q), e, List·Memᴰ·eq-of-singleton i)
+
+      go : (o : Lookup) → lookup t (headerOf t) (keyIn t x) ≡ o → In u (copyAt x o) → (y : Slot) × Ends x y × (sameSlot x y ≡ false) × (u ≡ inOrder x y)
+      go (Stands y n) q i = at y n q (sameSlot x y) refl i
+      go (Absent n) q i = absurd (List·Memᴰ·not-nil i)
+
+  same-self : (x : Slot) → sameSlot x x ≡ true
+  same-self x = same-tells x x .1 (refl, refl)
+
+  -- each copy that is found is a pair of the rules
+  pub copy-twins : (u : Slot × Slot) → In u (copies t) → In u (twins t)
+  unfolding copies
+  copy-twins u i =
+      let r = flatMap-in (copiesOf t (headerOf t)) (takenSlots t) u i in
+      let x = r .0 in
+      let f = copy-found x u (r .2) in
+      let y = f .0 in
+      let e = ends-taken x y (f .1) in
+      Memᴰ·cast (f .3)
+      (⊎-elim (λ (s : x ≡ y). never (same-self x) (rw (← s) at (f .2)))
+      (⊎-elim (λ (j : In {A = Slot × Slot} (x, y) (twins t)). Memᴰ·cast (in-order-first x y (twins-ordered t x y j .order)) j)
+      (λ (j : In {A = Slot × Slot} (y, x) (twins t)). Memᴰ·cast (in-order-last x y (twins-ordered t y x j .order)) j))
+      (same-or-twins t x y (taken-in t x (r .1)) (e .0) (sym (e .1))))
 
   copies-apart : NoRepeat (copies t)
-  unfolding copies copiesOf laterCopies
-  copies-apart =
-      let later = laterCopies t (headerOf t) in
-      ascending-flatMap _ _ (copiesOf t (headerOf t)) (takenSlots t) (taken-apart t)
-      (λ x. paired-apart x (later x) (ascending-select _ (isCopy t (headerOf t) (keyIn t x) x) (slotsFor (headerOf t) (keyIn t x)) (slots-for-apart (keyIn t x))))
-      (λ x y d u v i j e. d (sym (paired-in x (later x) u i .0) ∙ ap (λ (p : Slot × Slot). p .0) e ∙ paired-in y (later y) v j .0))
+  unfolding copies copiesOf
+  copies-apart = ascending-flatMap _ _ (copiesOf t (headerOf t)) (takenSlots t) (taken-apart t) one crossed
+    where
+      few : (b : Bool) (u : Slot × Slot) → NoRepeat (cond b [] (u ∷ []))
+      few true u = tt
+      few false u = (λ v i. absurd (List·Memᴰ·not-nil i), tt)
 
-  -- each copy that is found makes a pair, and each pair is found
-  pub copy-twins : (u : Slot × Slot) → In u (copies t) → Twins t (u .0) (u .1)
-  unfolding copies copiesOf laterCopies slotsFor
-  copy-twins u i =
-      let h = headerOf t in
-      let r = flatMap-in (copiesOf t h) (takenSlots t) u i in
-      let x = r .0 in
-      let p = paired-in x (laterCopies t h x) u (r .2) in
-      let s = select-in (isCopy t h (keyIn t x) x) (slotsFor h (keyIn t x)) (u .1) (p .1) in
-      let q = flatMap-in slotsIn (placesOf h (keyIn t x)) (u .1) (s .0) in
-      let f = copy-tells t h (keyIn t x) x (u .1) .0 (s .1) in
-      record {
-        first = taken-in t (u .0) (Memᴰ·cast (p .0) (r .1));
-        later = record { used = slot-of-place (h .state) (q .0) (u .1) (places-in-use h (keyIn t x) (q .0) (q .1)) (q .2); shown = f .0 .0 };
-        key = ap (keyIn t) (p .0) ∙ sym (f .0 .1);
-        order = rw (p .0) (f .1);
-      }
+      at : (x : Slot) (o : Lookup) → NoRepeat (copyAt x o)
+      at x (Stands y n) = few (sameSlot x y) (inOrder x y)
+      at x (Absent n) = tt
 
-  twins-copy : (x y : Slot) → Twins t x y → inPlace t y ≡ true → In {A = Slot × Slot} (x, y) (copies t)
-  unfolding copies copiesOf laterCopies slotsFor
-  twins-copy x y w e =
-      let h = headerOf t in
-      let place : In (placeOf y) (placesOf h (keyIn t x)) = rw (w .key) (in-place c t good y (w .later .used) e) in
-      in-flatMap (copiesOf t h) (in-taken t x (w .first))
-      (in-paired x (laterCopies t h x) (x, y) refl
-      (in-select (isCopy t h (keyIn t x) x) (in-flatMap slotsIn place (slots-of-place y (w .later .used .slot))) (copy-tells t h (keyIn t x) x y .1 ((w .later .shown, sym (w .key)), w .order))))
+      one : (x : Slot) → NoRepeat (copiesOf t (headerOf t) x)
+      one x = at x (lookup t (headerOf t) (keyIn t x))
 
--- the search that is linear in the table finds the pairs that the rules name
+      crossed : (x y : Slot) → (x ≡ y → ⊥) → (u v : Slot × Slot) → In u (copiesOf t (headerOf t) x) → In v (copiesOf t (headerOf t) y) → u ≡ v → ⊥
+      crossed x y d u v i j e =
+          let f = copy-found x u i in
+          let g = copy-found y v j in
+          ⊎-elim d
+          (λ (c : (x ≡ g .0) × (f .0 ≡ y)).
+          let k = ends-taken x (f .0) (f .1) .1 in
+          let own = ends-one y x (g .0) (f .0) (ap (keyIn t) (sym (c .1)) ∙ k) (g .1) (f .1) in
+          never (same-self y) (rw (own ∙ c .1) at (g .2)))
+          (in-order-one x (f .0) y (g .0) (sym (f .3) ∙ e ∙ g .3))
+
+  -- ---- where each taken slot is "in a place of its key"
+
+  module _ (c : ℕ) (good : GoodState c (headerOf t .state)) (placed : (x : Slot) → TakenSlot t x → inPlace t x ≡ true) where
+    -- its lookup ends somewhere
+    ends : (x : Slot) → TakenSlot t x → (y : Slot) × Ends x y
+    unfolding Ends
+    ends x u = go (lookup t (headerOf t) (keyIn t x)) refl
+      where
+        go : (o : Lookup) → lookup t (headerOf t) (keyIn t x) ≡ o → (y : Slot) × Ends x y
+        go (Stands y n) q = (y, (n, q))
+        go (Absent n) q = absurd (lookup-sees t x u (in-place c t good x (u .used) (placed x u)) n q)
+
+    -- and where that is elsewhere, a copy is found
+    found : (x y : Slot) → TakenSlot t x → Ends x y → (x ≡ y → ⊥) → In (inOrder x y) (copies t)
+    unfolding copies copiesOf Ends
+    found x y u e d = in-flatMap (copiesOf t (headerOf t)) (in-taken t x u) (rw (e .1) (go (sameSlot x y) refl))
+      where
+        go : (b : Bool) → sameSlot x y ≡ b → In (inOrder x y) (cond b [] (inOrder x y ∷ []))
+        go true q = let r = same-tells x y .0 q in absurd (d (slot-by-bucket (headerOf t .state) c good x y (u .used) (ends-taken x y e .0 .used) (r .0) (r .1)))
+        go false q = here refl
+
+    -- each pair of the rules is found, or there are two copies anyway: of more than two slots with one key each but one is a copy of
+    -- that one
+    twins-copy : (a b : Slot) → Twins t a b → In {A = Slot × Slot} (a, b) (copies t) ⊎ Two (copies t)
+    unfolding Ends
+    twins-copy a b w = first (compare a z (w .first) taken-z)
+      where
+        z : Slot
+        z = ends a (w .first) .0
+
+        to-z : Ends a z
+        to-z = ends a (w .first) .1
+
+        also : Ends b z
+        also = (to-z .0, rw (← (w .key)) (to-z .1))
+
+        taken-z : TakenSlot t z
+        taken-z = ends-taken a z to-z .0
+
+        compare : (x y : Slot) → TakenSlot t x → TakenSlot t y → (x ≡ y) ⊎ (x ≡ y → ⊥)
+        compare x y u v =
+            ⊎-elim inl (λ (o : Before x y ⊎ Before y x). inr (⊎-elim (λ (p : Before x y). before-apart x y p) (λ (p : Before y x) (e : x ≡ y). before-apart y x p (sym e)) o))
+            (taken-compare t x y u v)
+
+        second : (a ≡ z → ⊥) → (b ≡ z) ⊎ (b ≡ z → ⊥) → In {A = Slot × Slot} (a, b) (copies t) ⊎ Two (copies t)
+        second n (inl e) = inl (Memᴰ·cast (sym (in-order-first a b (w .order))) (rw (← e) at (found a z (w .first) to-z n)))
+        second n (inr m) =
+            inr
+            (record {
+              first = inOrder a z;
+              second = inOrder b z;
+              one = found a z (w .first) to-z n;
+              other = found b z (w .later) also m;
+              apart = λ e. ⊎-elim (before-apart a b (w .order)) (λ (r : (a ≡ z) × (z ≡ b)). n (r .0)) (in-order-one a z b z e);
+            })
+
+        first : (a ≡ z) ⊎ (a ≡ z → ⊥) → In {A = Slot × Slot} (a, b) (copies t) ⊎ Two (copies t)
+        first (inl e) =
+            inl (Memᴰ·cast (sym (in-order-last b a (w .order))) (rw (← e) at (found b z (w .later) also (λ f. before-apart a b (w .order) (e ∙ sym f)))))
+        first (inr n) = second n (compare b z (w .later) taken-z)
+
+-- the search that is linear in the table finds the pairs that the rules name, or as they do more than one
 pub linear : (t : Table) → GoodHeader (length t) (headerOf t) → all (map (inPlace t) (takenSlots t)) ≡ true → Alike (twins t) (copies t)
 linear t g e =
-    alike-members (twins t) (copies t) (twins-apart t) (copies-apart t (headerOf t .c) (g .state))
+    alike-parts (twins t) (copies t) (twins-apart t) (copies-apart t) (copy-twins t)
     (λ u i.
-    let w = twins-ordered t (u .0) (u .1) i in
-    twins-copy t (headerOf t .c) (g .state) (u .0) (u .1) w (tells-all (inPlace t) _ (λ x. Iff·rfl) (takenSlots t) .0 e (u .1) (in-taken t (u .1) (w .later))))
-    (λ u i. twins-all t (u .0) (u .1) (copy-twins t (headerOf t .c) (g .state) u i))
+    twins-copy t (headerOf t .c) (g .state) (λ x w. tells-all (inPlace t) _ (λ x. Iff·rfl) (takenSlots t) .0 e x (in-taken t x w)) (u .0) (u .1)
+    (twins-ordered t (u .0) (u .1) i))
 
 -- ---- what recovery finds is alike
 

@@ -28,9 +28,9 @@ pub mod Interims
 pub mod Unused
 pub mod Sound
 pub mod Maps
+pub mod Lookups
 pub mod Copies
 pub mod Findings
-pub mod Lookups
 pub mod Queries
 pub mod Refusals
 pub mod StoreLists

@@ -3,14 +3,14 @@
 -- Assumes nothing.
 use Prim.Native.Nat.{ℕ, _+_}
 use mathlib.Core.Path.{_≡_, refl, sym, ap, _∙_}
-use mathlib.Core.Bool.{false}
+use mathlib.Core.Bool.{true, false}
 use mathlib.Core.List.{List, [], _∷_, _++_, List·Memᴰ as In, List·Memᴰ·head as here, List·Memᴰ·not-nil, List·Memᴰ·cases-cons, Memᴰ·append-right}
-use mathlib.Core.Logic.{⊎-elim}
+use mathlib.Core.Logic.{Iff·rfl, ⊎-elim}
 use mathlib.Core.Option.{Option, none, some}
 use native.Mathlib.Omega.{arith}
 use lib.ListN.{length}
 use Rattle.rules.specs.Choice.{given}
-use Rattle.rules.specs.Words.{Table, headerOf, placeOf, slotsIn, keyIn, recordIn}
+use Rattle.rules.specs.Words.{Table, headerOf, placeOf, slotsIn, keyIn, recordIn, taken}
 use Rattle.rules.specs.Places.{placesOf, holds, hitIn, found, seek, lookup}
 use Rattle.rules.specs.Soundness.{TakenSlot, OrderlyTable, SoundTable, PlainMap, HasMap}
 use Rattle.rules.specs.Demands.{FirstHolder}
@@ -24,7 +24,10 @@ use Rattle.rules.proofs.Lists.{never, not-some, some-one, firstOf-none,
 use Rattle.rules.proofs.FreeSlots.{lowest-passing}
 use Rattle.rules.proofs.SlotsInUse.{slots-of-place}
 use Rattle.rules.proofs.PlacesInUse.{places-in-use, slot-of-place, own-place}
-use Rattle.rules.proofs.Copies.{holds-tells}
+use Rattle.rules.proofs.Tests.{Tells, tells-eq, tells-and}
+
+pub stands-one : (x y : Slot) (m n : ℕ) → Stands x m ≡ Stands y n → (x ≡ y) × (m ≡ n)
+stands-one x y m n e = (cc, cc)
 
 -- ---- a search along places
 
@@ -38,9 +41,6 @@ module _ (hit : Place → Option Slot) where
     pub position : n ≡ m + length before + 1
     pub none-before : (p : Place) → In p before → hit p ≡ none
     pub answer : hit place ≡ some x
-
-  stands-one : (x y : Slot) (m n : ℕ) → Stands x m ≡ Stands y n → (x ≡ y) × (m ≡ n)
-  stands-one x y m n e = (cc, cc)
 
   seek-stands : (m : ℕ) (ps : List Place) (x : Slot) (n : ℕ) → seek hit m ps ≡ Stands x n → Reached m ps x n
   seek-stands m [] x n e = absurd (let z : _≡_ {A = ℕ} 0 1 = cc in omega arith)
@@ -76,6 +76,10 @@ module _ (hit : Place → Option Slot) where
           (omega (arith, r .0), λ y i. ⊎-elim (λ (h : y ≡ p). rw h q) (λ (h : In y ps). r .1 y h) (List·Memᴰ·cases-cons i))
 
 -- ---- a lookup
+
+pub holds-tells : (t : Table) (h : Header) (key : ℕ) (x : Slot) → Tells (holds t h key x) ((taken t h x ≡ true) × (keyIn t x ≡ key))
+unfolding holds
+holds-tells t h key x = tells-and _ _ Iff·rfl (tells-eq _ _)
 
 module _ (t : Table) (h : Header) (key : ℕ) where
   -- no slot of a place holds the key
@@ -129,6 +133,12 @@ holder-taken t key x s =
 pub placed-in : (f : ℕ) (t : Table) → OrderlyTable f t → (x : Slot) → TakenSlot t x → In (placeOf x) (placesOf (headerOf t) (keyIn t x))
 placed-in f t o x u = let p = o .placed x u in own-place (headerOf t .c) (headerOf t) (o .header .state) (keyIn t x) x (u .used) (p .0) (p .1) (sym (p .2))
 
+-- such a slot is not missed
+pub lookup-sees : (t : Table) (x : Slot) → TakenSlot t x → In (placeOf x) (placesOf (headerOf t) (keyIn t x)) → (n : ℕ) → lookup t (headerOf t) (keyIn t x) ≡ Absent n → ⊥
+lookup-sees t x u p n e =
+    never (holds-tells t (headerOf t) (keyIn t x) x .1 (u .shown, refl))
+    (lookup-absent t (headerOf t) (keyIn t x) n e .1 (placeOf x) p x (slots-of-place x (u .used .slot)))
+
 -- ---- on a sound table
 
 -- the slot where a lookup finds a key, with its record
@@ -139,12 +149,6 @@ pub record FoundIn (t : Table) (key : ℕ) (r : Record) : Type 0 where
   pub item : TakenSlot t slot
   pub holding : keyIn t slot ≡ key
   pub value : recordIn t slot ≡ r
-
--- a taken slot of an orderly table is not missed
-lookup-sees : (f : ℕ) (t : Table) → OrderlyTable f t → (x : Slot) → TakenSlot t x → (n : ℕ) → lookup t (headerOf t) (keyIn t x) ≡ Absent n → ⊥
-lookup-sees f t o x u n e =
-    never (holds-tells t (headerOf t) (keyIn t x) x .1 (u .shown, refl))
-    (lookup-absent t (headerOf t) (keyIn t x) n e .1 (placeOf x) (placed-in f t o x u) x (slots-of-place x (u .used .slot)))
 
 module _ (t : Table) (m : PlainMap) (sound : SoundTable t) (map : HasMap t m) (key : ℕ) where
   known : (x : Slot) → TakenSlot t x × (keyIn t x ≡ key) → m key ≡ some (recordIn t x)
@@ -159,7 +163,7 @@ module _ (t : Table) (m : PlainMap) (sound : SoundTable t) (map : HasMap t m) (k
           record { slot = x; count = n; answer = q; item = s .0; holding = s .1; value = some-one (sym (known x s) ∙ e) }
       go (Absent n) q =
           let o = map .only key r e in
-          absurd (lookup-sees 0 t (sound .orderly) (o .0) (o .1) n (rw (o .2) q))
+          absurd (lookup-sees t (o .0) (o .1) (placed-in 0 t (sound .orderly) (o .0) (o .1)) n (rw (o .2) q))
 
   pub lookup-unknown : m key ≡ none → (n : ℕ) × (lookup t (headerOf t) key ≡ Absent n)
   lookup-unknown e = go (lookup t (headerOf t) key) refl

@@ -53,6 +53,9 @@ module _ (t : Table) where
   pub taken-apart : NoRepeat (takenSlots t)
   taken-apart = slots-apart (takenSlots t) taken-ascend
 
+  pub taken-compare : (a b : Slot) → TakenSlot t a → TakenSlot t b → (a ≡ b) ⊎ (Before a b ⊎ Before b a)
+  taken-compare a b u v = ascending-compare Before (takenSlots t) taken-ascend a b (in-taken a u) (in-taken b v)
+
 -- ---- a slot paired with each of a list
 
 abbrev pub paired : Slot → List Slot → List (Slot × Slot)
@@ -131,7 +134,7 @@ module _ (t : Table) where
 
   -- two taken slots with one key are one slot or a pair, in one order or the other
   pub same-or-twins : (a b : Slot) → TakenSlot t a → TakenSlot t b → keyIn t a ≡ keyIn t b → (a ≡ b) ⊎ (In {A = Slot × Slot} (a, b) (twins t) ⊎ In {A = Slot × Slot} (b, a) (twins t))
-  same-or-twins a b u v k = go (ascending-compare Before (takenSlots t) (taken-ascend t) a b (in-taken t a u) (in-taken t b v))
+  same-or-twins a b u v k = go (taken-compare t a b u v)
     where
       go : (a ≡ b) ⊎ (Before a b ⊎ Before b a) → (a ≡ b) ⊎ (In {A = Slot × Slot} (a, b) (twins t) ⊎ In {A = Slot × Slot} (b, a) (twins t))
       go (inl e) = inl e

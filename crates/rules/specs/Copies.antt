@@ -1,23 +1,32 @@
--- What a recovery that is linear in the table asks: which slots may hold another copy of a key, and which of them come later.
--- `proofs/Copies` shows that it finds what `Soundness` says.
+-- What a recovery that is linear in the table asks: of each taken slot, where the lookup of its key ends. Where that is another
+-- slot, the two are copies. `proofs/Copies` shows that it finds what `Soundness` says.
 -- Assumes nothing.
-use Prim.Native.Nat.{ℕ}
-use mathlib.Core.Bool.{Bool, _&&_, _||_}
-use mathlib.Core.List.{List, flatMap}
+use mathlib.Core.Bool.{Bool, cond, _&&_, _||_}
+use mathlib.Core.List.{List, [], _∷_}
 use lib.Dec.{ltb, eqb}
-use Rattle.rules.specs.Words.{Table, slotsIn}
-use Rattle.rules.specs.Places.{placesOf, holds}
+use Rattle.rules.specs.Words.{Table, keyIn}
+use Rattle.rules.specs.Places.{lookup}
 use Rattle.rules.specs.declared.Header.{Header}
 use Rattle.rules.specs.declared.Slot.{Slot}
+use Rattle.rules.specs.declared.Lookup.{Lookup}
+use Rattle.rules.specs.declared.Lookup.the-variants.{Stands, Absent}
 
 -- "by top, bottom, interim, then bucket and slot ascending", as a test
 unfoldable pub isBefore : Slot → Slot → Bool
 isBefore x y = ltb (x .level) (y .level) || (eqb (x .level) (y .level) && (ltb (x .bucket) (y .bucket) || (eqb (x .bucket) (y .bucket) && ltb (x .slot) (y .slot))))
 
--- the slots of the key's places
-unfoldable pub slotsFor : Header → ℕ → List Slot
-slotsFor h key = flatMap slotsIn (placesOf h key)
+-- two slots in that order
+unfoldable pub inOrder : Slot → Slot → Slot × Slot
+inOrder x y = cond (isBefore x y) (x, y) (y, x)
 
--- slot y holds the key, and comes after slot x
-unfoldable pub isCopy : Table → Header → ℕ → Slot → Slot → Bool
-isCopy t h key x y = holds t h key y && isBefore x y
+-- whether two slots are one; a bucket belongs to one level alone
+unfoldable pub sameSlot : Slot → Slot → Bool
+sameSlot x y = eqb (x .bucket) (y .bucket) && eqb (x .slot) (y .slot)
+
+-- slot x, and where the lookup of its key ends
+abbrev pub copyAt : Slot → Lookup → List (Slot × Slot)
+copyAt x (Stands y n) = cond (sameSlot x y) [] (inOrder x y ∷ [])
+copyAt x (Absent n) = []
+
+unfoldable pub copiesOf : Table → Header → Slot → List (Slot × Slot)
+copiesOf t h x = copyAt x (lookup t h (keyIn t x))

@@ -2,26 +2,28 @@
 -- Assumes nothing.
 use Prim.Native.Nat.{ℕ, _+_, _-_, _^_, _≤_, _<_}
 use mathlib.Core.Path.{_≡_, _∙_}
-use mathlib.Core.Bool.{true, false, or-false}
+use mathlib.Core.Bool.{true, false, cond, or-false}
 use mathlib.Core.List.{List, [], _∷_, map, flatMap, foldl, foldl-map, List·Memᴰ as In}
 use lib.ListN.{length, getD, take, drop}
-use lib.Dec.{ltb}
+use lib.Dec.{ltb, eqb}
 use borrow.Author.Tests.{le-ltb, eq-eqb, ne-eqb}
 use native.Mathlib.Omega.{arith}
 use Rattle.rules.specs.Choice.{any, from}
 use Rattle.rules.specs.Words.{Table, atRest, topOf, bottomOf, interimOf, levelsInUse, bucketsOf, slotAt, slotsIn, placeOf, placeAt, slotsOf, slotsInUse, isTaken, tokenOf, taken, keyIn}
-use Rattle.rules.specs.Places.{hashesOf, samePlace, probes, placesOf, holds}
+use Rattle.rules.specs.Places.{hashesOf, samePlace, probes, placesOf, lookup}
 use Rattle.rules.specs.declared.Header.{Header}
 use Rattle.rules.specs.declared.Hashes.{Hashes}
 use Rattle.rules.specs.declared.Place.{Place}
 use Rattle.rules.specs.declared.Slot.{Slot}
+use Rattle.rules.specs.declared.Lookup.{Lookup}
+use Rattle.rules.specs.declared.Lookup.the-variants.{Stands, Absent}
 use Rattle.reading.specs.Levels.{levelOf}
 use Rattle.rules.proofs.Loops.{foldFrom, fold-whole, within, fold-within}
 use Rattle.rules.proofs.Walks.{first-next, first-end, among-first}
-use Rattle.rules.specs.Copies.{isBefore, isCopy, slotsFor}
+use Rattle.rules.specs.Copies.{isBefore, inOrder, sameSlot}
 use Rattle.scanning.specs.declared.copies.Scan.{Scan}
-use Rattle.scanning.specs.declared.copies.Scan.the-variants.{Clear, Spoilt}
-use Rattle.scanning.specs.Scans.{metOf, copyMet, itemMet, slotMet, scanOf}
+use Rattle.scanning.specs.declared.copies.Scan.the-variants.{Clear, Pair, Spoilt}
+use Rattle.scanning.specs.Scans.{metOf, itemMet, slotMet, scanOf}
 
 -- ---- "by top, bottom, interim, then bucket and slot ascending"
 
@@ -38,30 +40,24 @@ module _ (x y : Slot) where
   unfolding isBefore
   by-slot e f = rw (le-ltb (x .level) (y .level) (omega arith), eq-eqb _ _ e, le-ltb (x .bucket) (y .bucket) (omega arith), eq-eqb _ _ f)
 
--- ---- a later copy
+-- ---- a pair
 
-module _ (t : Table) (h : Header) (key : ℕ) (x y : Slot) {word : ℕ} (w : word ≡ tokenOf t (y .bucket)) where
-  pub copy-free : isTaken h word (y .slot) ≡ false → false ≡ isCopy t h key x y
-  unfolding isCopy holds taken
-  copy-free e = rw (← w, e)
+module _ (x y : Slot) where
+  pub other-bucket : (x .bucket ≡ y .bucket → ⊥) → false ≡ sameSlot x y
+  unfolding sameSlot
+  other-bucket n = rw (ne-eqb _ _ n)
 
-  pub copy-other : isTaken h word (y .slot) ≡ true → (keyIn t y ≡ key → ⊥) → false ≡ isCopy t h key x y
-  unfolding isCopy holds taken
-  copy-other e n = rw (← w, e, ne-eqb _ _ n)
+  pub same-bucket : x .bucket ≡ y .bucket → eqb (x .slot) (y .slot) ≡ sameSlot x y
+  unfolding sameSlot
+  same-bucket e = rw (eq-eqb _ _ e)
 
-  pub copy-ordered : isTaken h word (y .slot) ≡ true → keyIn t y ≡ key → isBefore x y ≡ isCopy t h key x y
-  unfolding isCopy holds taken
-  copy-ordered e q = rw (← w, e, eq-eqb _ _ q)
+  pub pair-first : isBefore x y ≡ true → Pair x y ≡ metOf Clear (inOrder x y)
+  unfolding inOrder
+  pair-first e = rw e
 
--- slot y of a bucket, where it is a later copy and where it is not
-module _ (t : Table) (h : Header) (key : ℕ) (x y : Slot) (found : Scan) where
-  pub copy-yes : isCopy t h key x y ≡ true → copyMet t h key x found y ≡ metOf found x y
-  unfolding copyMet
-  copy-yes e = rw e
-
-  pub copy-no : isCopy t h key x y ≡ false → copyMet t h key x found y ≡ found
-  unfolding copyMet
-  copy-no e = rw e
+  pub pair-last : isBefore x y ≡ false → Pair y x ≡ metOf Clear (inOrder x y)
+  unfolding inOrder
+  pair-last e = rw e
 
 -- ---- the places of a key, an array of six of which the first n count
 
@@ -75,24 +71,22 @@ module _ (n : ℕ) (ps : List Place) (most : n ≤ 6) (six : length ps ≡ 6) (i
   pub place-end : n ≤ i → drop i (take n ps) ≡ []
   place-end l = first-end nowhere n ps (omega arith) i l
 
-  pub place-among : i < n → In (getD ps i nowhere) (take n ps)
-  place-among l = among-first nowhere n ps (omega arith) i l
-
 -- ---- a taken slot
 
-module _ (t : Table) (h : Header) (x : Slot) (found : Scan) {key : ℕ} (k : key ≡ keyIn t x) {y : Hashes} (e : y ≡ hashesOf h key) {ps : List Place} (q : ps ≡ probes (h .state) y) where
-  places : ps ≡ placesOf h (keyIn t x)
-  unfolding placesOf
-  places = rw (q, e, k)
-
-  -- "each taken slot in a place of its key"
-  pub item-misplaced : any (map (samePlace (placeOf x)) ps) ≡ false → Spoilt ≡ itemMet t h found x
+module _ (t : Table) (h : Header) (x : Slot) (found : Scan) {key : ℕ} (k : key ≡ keyIn t x) where
+  pub item-absent : {n : ℕ} {o : Lookup} → o ≡ lookup t h key → o ≡ Absent n → Spoilt ≡ itemMet t h found x
   unfolding itemMet
-  item-misplaced f = rw (← places, f)
+  item-absent e q = rw (← k, ← e, q)
 
-  pub item-placed : any (map (samePlace (placeOf x)) ps) ≡ true → foldl (copyMet t h key x) found (flatMap slotsIn ps) ≡ itemMet t h found x
-  unfolding itemMet slotsFor
-  item-placed f = rw (← places, f, ← k)
+  module _ {y : Slot} {n : ℕ} {o : Lookup} (e : o ≡ lookup t h key) (q : o ≡ Stands y n) where
+    pub item-itself : sameSlot x y ≡ true → found ≡ itemMet t h found x
+    unfolding itemMet
+    item-itself f = rw (← k, ← e, q, f)
+
+    pub item-copied : {a : Hashes} → a ≡ hashesOf h key → sameSlot x y ≡ false
+        → cond (any (map (samePlace (placeOf x)) (probes (h .state) a))) (metOf found (inOrder x y)) Spoilt ≡ itemMet t h found x
+    unfolding itemMet placesOf
+    item-copied g f = rw (← k, ← e, q, f, g)
 
 -- slot s of a bucket with this token word
 module _ (t : Table) (h : Header) (p : Place) (s : ℕ) (found : Scan) {word : ℕ} (w : word ≡ tokenOf t (p .bucket)) where

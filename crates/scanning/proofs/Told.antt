@@ -1,74 +1,97 @@
 -- What a scan tells: whether each taken slot is in a place of its key, and where they all are, the copies that were found.
 -- Assumes nothing.
+use Prim.Native.Nat.{ℕ}
 use mathlib.Core.Path.{_≡_, refl, sym, ap, _∙_}
 use mathlib.Core.Bool.{Bool, true, false, cond, _&&_}
-use mathlib.Core.List.{List, [], _∷_, map, flatMap, foldl, foldl-append, foldl-map}
+use mathlib.Core.List.{List, [], _∷_, map, flatMap, foldl, foldl-append, List·Memᴰ as In, List·Memᴰ·head as here, List·Memᴰ·tail as there}
 use mathlib.Core.Logic.{Iff·rfl}
+use lib.ListN.{length}
 use Rattle.rules.specs.Choice.{all}
-use Rattle.rules.specs.Words.{Table, headerOf, keyIn, taken, slotsInUse}
-use Rattle.rules.specs.Soundness.{takenSlots, inPlace}
+use Rattle.rules.specs.Words.{Table, GoodHeader, headerOf, keyIn, taken, slotsInUse}
+use Rattle.rules.specs.Places.{lookup}
+use Rattle.rules.specs.Soundness.{takenSlots, TakenSlot, inPlace}
+use Rattle.rules.specs.Copies.{inOrder, sameSlot, copyAt, copiesOf}
 use Rattle.rules.specs.declared.Slot.{Slot}
+use Rattle.rules.specs.declared.Lookup.{Lookup}
+use Rattle.rules.specs.declared.Lookup.the-variants.{Stands, Absent}
 use Rattle.rules.proofs.Lists.{never}
 use Rattle.rules.proofs.Tests.{tells-and}
 use Rattle.rules.proofs.Loops.{fold-select}
-use Rattle.rules.specs.Copies.{slotsFor, isCopy}
-use Rattle.rules.proofs.Copies.{laterCopies, copiesOf, copies}
+use Rattle.rules.proofs.PlacesInUse.{in-place}
+use Rattle.rules.proofs.Twins.{taken-in}
+use Rattle.rules.proofs.Lookups.{lookup-sees}
+use Rattle.rules.proofs.Copies.{copies, itself-in-place}
 use Rattle.scanning.specs.declared.copies.Scan.{Scan}
-use Rattle.scanning.specs.declared.copies.Scan.the-variants.{Clear, Spoilt}
-use Rattle.scanning.specs.Scans.{metOf, copyMet, itemMet, slotMet, scanOf, scanned}
+use Rattle.scanning.specs.declared.copies.Scan.the-variants.{Clear, Pair, Spoilt}
+use Rattle.scanning.specs.Scans.{metOf, endedAt, itemMet, slotMet, scanOf, scanned}
 
 -- ---- pairs, one after the other
 
-pairMet : Scan → Slot × Slot → Scan
-pairMet found u = metOf found (u .0) (u .1)
-
 -- what is spoilt stays so
-pairs-spoilt : (l : List (Slot × Slot)) → foldl pairMet Spoilt l ≡ Spoilt
-unfolding pairMet
+pairs-spoilt : (l : List (Slot × Slot)) → foldl metOf Spoilt l ≡ Spoilt
 pairs-spoilt [] = refl
 pairs-spoilt (u ∷ us) = pairs-spoilt us
 
-pairs-scanned : (l : List (Slot × Slot)) → foldl pairMet Clear l ≡ scanned l
-unfolding pairMet
+pairs-scanned : (l : List (Slot × Slot)) → foldl metOf Clear l ≡ scanned l
 pairs-scanned [] = refl
 pairs-scanned (u ∷ []) = refl
 pairs-scanned (u ∷ (v ∷ us)) = pairs-spoilt us
 
 -- ---- items, one after the other
 
-module _ (t : Table) where
-  item-by-pairs : (found : Scan) (x : Slot) → itemMet t (headerOf t) found x ≡ cond (inPlace t x) (foldl pairMet found (copiesOf t (headerOf t) x)) Spoilt
-  unfolding itemMet inPlace copyMet copiesOf laterCopies pairMet
-  item-by-pairs found x =
-      ap (λ z. cond (inPlace t x) z Spoilt)
-      (fold-select (isCopy t (headerOf t) (keyIn t x) x) (λ (a : Scan) (y : Slot). metOf a x y) found (slotsFor (headerOf t) (keyIn t x))
-      ∙ sym (foldl-map (λ (y : Slot). (x, y)) pairMet (laterCopies t (headerOf t) x) found))
+module _ (t : Table) (g : GoodHeader (length t) (headerOf t)) where
+  -- a taken slot that is "in a place of its key": its copy, if it has one
+  item-in : (found : Scan) (x : Slot) → TakenSlot t x → inPlace t x ≡ true → itemMet t (headerOf t) found x ≡ foldl metOf found (copiesOf t (headerOf t) x)
+  unfolding itemMet copiesOf inPlace
+  item-in found x u e = rw e (go (lookup t (headerOf t) (keyIn t x)) refl)
+    where
+      one : (y : Slot) (b : Bool) → cond b found (metOf found (inOrder x y)) ≡ foldl metOf found (cond b [] (inOrder x y ∷ []))
+      one y true = refl
+      one y false = refl
 
-  item-in : (found : Scan) (x : Slot) → inPlace t x ≡ true → itemMet t (headerOf t) found x ≡ foldl pairMet found (copiesOf t (headerOf t) x)
-  item-in found x e = rw (item-by-pairs found x, e)
+      go : (o : Lookup) → lookup t (headerOf t) (keyIn t x) ≡ o → endedAt found x true o ≡ foldl metOf found (copyAt x o)
+      go (Stands y n) q = one y (sameSlot x y)
+      go (Absent n) q = absurd (lookup-sees t x u (in-place (headerOf t .c) t (g .state) x (u .used) e) n q)
 
+  -- and one that is not
   item-out : (found : Scan) (x : Slot) → inPlace t x ≡ false → itemMet t (headerOf t) found x ≡ Spoilt
-  item-out found x e = rw (item-by-pairs found x, e)
+  unfolding itemMet inPlace
+  item-out found x e = rw e (go (lookup t (headerOf t) (keyIn t x)) refl)
+    where
+      one : (y : Slot) (n : ℕ) → lookup t (headerOf t) (keyIn t x) ≡ Stands y n → (b : Bool) → sameSlot x y ≡ b → cond b found Spoilt ≡ Spoilt
+      one y n q true s = never (itself-in-place t x y n q s) e
+      one y n q false s = refl
+
+      go : (o : Lookup) → lookup t (headerOf t) (keyIn t x) ≡ o → endedAt found x false o ≡ Spoilt
+      go (Stands y n) q = one y n q (sameSlot x y) refl
+      go (Absent n) q = refl
 
   -- after one item the others
   after : {a b : Scan} (l : List Slot) → a ≡ b → foldl (itemMet t (headerOf t)) a l ≡ foldl (itemMet t (headerOf t)) b l
   after l e = ap (λ z. foldl (itemMet t (headerOf t)) z l) e
 
   items-spoilt : (l : List Slot) → foldl (itemMet t (headerOf t)) Spoilt l ≡ Spoilt
+  unfolding itemMet inPlace
   items-spoilt [] = refl
-  items-spoilt (x ∷ xs) = after xs (go (inPlace t x) refl) ∙ items-spoilt xs
+  items-spoilt (x ∷ xs) = after xs (go (inPlace t x) (lookup t (headerOf t) (keyIn t x))) ∙ items-spoilt xs
     where
-      go : (b : Bool) → inPlace t x ≡ b → itemMet t (headerOf t) Spoilt x ≡ Spoilt
-      go true e = item-in Spoilt x e ∙ pairs-spoilt (copiesOf t (headerOf t) x)
-      go false e = item-out Spoilt x e
+      two : (p q : Bool) → cond p Spoilt (cond q Spoilt Spoilt) ≡ Spoilt
+      two true q = refl
+      two false true = refl
+      two false false = refl
 
-  items-placed : (found : Scan) (l : List Slot) → all (map (inPlace t) l) ≡ true → foldl (itemMet t (headerOf t)) found l ≡ foldl pairMet found (flatMap (copiesOf t (headerOf t)) l)
+      go : (b : Bool) (o : Lookup) → endedAt Spoilt x b o ≡ Spoilt
+      go b (Stands y n) = two (sameSlot x y) b
+      go b (Absent n) = refl
+
+  items-placed : (found : Scan) (l : List Slot) → ((x : Slot) → In x l → TakenSlot t x) → all (map (inPlace t) l) ≡ true
+      → foldl (itemMet t (headerOf t)) found l ≡ foldl metOf found (flatMap (copiesOf t (headerOf t)) l)
   unfolding flatMap
-  items-placed found [] e = refl
-  items-placed found (x ∷ xs) e =
+  items-placed found [] k e = refl
+  items-placed found (x ∷ xs) k e =
       let r = tells-and (inPlace t x) (all (map (inPlace t) xs)) Iff·rfl Iff·rfl .0 e in
-      after xs (item-in found x (r .0)) ∙ items-placed (foldl pairMet found (copiesOf t (headerOf t) x)) xs (r .1)
-      ∙ sym (foldl-append pairMet found (copiesOf t (headerOf t) x) (flatMap (copiesOf t (headerOf t)) xs))
+      after xs (item-in found x (k x (here refl)) (r .0)) ∙ items-placed (foldl metOf found (copiesOf t (headerOf t) x)) xs (λ y i. k y (there i)) (r .1)
+      ∙ sym (foldl-append metOf found (copiesOf t (headerOf t) x) (flatMap (copiesOf t (headerOf t)) xs))
 
   items-misplaced : (found : Scan) (l : List Slot) → all (map (inPlace t) l) ≡ false → foldl (itemMet t (headerOf t)) found l ≡ Spoilt
   items-misplaced found [] e = never refl e
@@ -89,4 +112,4 @@ module _ (t : Table) where
 
   pub scan-placed : all (map (inPlace t) (takenSlots t)) ≡ true → scanOf t (headerOf t) ≡ scanned (copies t)
   unfolding copies
-  scan-placed e = scan-items ∙ items-placed Clear (takenSlots t) e ∙ pairs-scanned (copies t)
+  scan-placed e = scan-items ∙ items-placed Clear (takenSlots t) (taken-in t) e ∙ pairs-scanned (copies t)

@@ -1,34 +1,32 @@
--- A scan of the taken slots as the code makes it: slot by slot, each with the later copies of its key among the slots of the
--- key's places.
+-- A scan of the taken slots as the code makes it: slot by slot, each with where the lookup of its key ends.
 -- Assumes nothing.
-use Prim.Native.Nat.{ℕ}
-use mathlib.Core.Bool.{cond}
+use mathlib.Core.Bool.{Bool, cond}
 use mathlib.Core.List.{List, [], _∷_, map, foldl}
 use Rattle.rules.specs.Choice.{any}
 use Rattle.rules.specs.Words.{Table, slotsInUse, placeOf, keyIn, taken}
-use Rattle.rules.specs.Places.{samePlace, placesOf}
+use Rattle.rules.specs.Places.{samePlace, placesOf, lookup}
+use Rattle.rules.specs.Copies.{inOrder, sameSlot}
 use Rattle.rules.specs.declared.Header.{Header}
 use Rattle.rules.specs.declared.Slot.{Slot}
-use Rattle.rules.specs.Copies.{isCopy, slotsFor}
+use Rattle.rules.specs.declared.Lookup.{Lookup}
+use Rattle.rules.specs.declared.Lookup.the-variants.{Stands, Absent}
 use Rattle.scanning.specs.declared.copies.Scan.{Scan}
 use Rattle.scanning.specs.declared.copies.Scan.the-variants.{Clear, Pair, Spoilt}
 
 -- one pair more
-abbrev pub metOf : Scan → Slot → Slot → Scan
-metOf Clear x y = Pair x y
-metOf (Pair a b) x y = Spoilt
-metOf Spoilt x y = Spoilt
+abbrev pub metOf : Scan → Slot × Slot → Scan
+metOf Clear u = Pair (u .0) (u .1)
+metOf (Pair a b) u = Spoilt
+metOf Spoilt u = Spoilt
 
--- slot y, where it is a later copy of the key of slot x
-unfoldable pub copyMet : Table → Header → ℕ → Slot → Scan → Slot → Scan
-copyMet t h key x found y = cond (isCopy t h key x y) (metOf found x y) found
+-- slot x, whether it is "in a place of its key", and where the lookup of its key ends: there, or at another slot, its copy
+abbrev pub endedAt : Scan → Slot → Bool → Lookup → Scan
+endedAt found x placed (Stands y n) = cond (sameSlot x y) found (cond placed (metOf found (inOrder x y)) Spoilt)
+endedAt found x placed (Absent n) = Spoilt
 
--- "each taken slot in a place of its key", and then its later copies
 unfoldable pub itemMet : Table → Header → Scan → Slot → Scan
 itemMet t h found x =
-    cond (any (map (samePlace (placeOf x)) (placesOf h (keyIn t x))))
-    (foldl (copyMet t h (keyIn t x) x) found (slotsFor h (keyIn t x)))
-    Spoilt
+    endedAt found x (any (map (samePlace (placeOf x)) (placesOf h (keyIn t x)))) (lookup t h (keyIn t x))
 
 unfoldable pub slotMet : Table → Header → Scan → Slot → Scan
 slotMet t h found x = cond (taken t h x) (itemMet t h found x) found

@@ -1,25 +1,35 @@
-// The taken slots, "by top, bottom, interim, then bucket and slot ascending": each key is hashed once.
+// The taken slots, "by top, bottom, interim, then bucket and slot ascending". Where the lookup of its key ends at the slot itself,
+// the slot is in a place of its key and no other that comes before it there has the key; so a table in which every one does has no
+// key twice.
 use super::copies::Scan;
-use super::copies::copies;
+use super::copies::is_same;
+use super::copies::met;
+use querying::lookup::lookup_by;
 use reading::places::hashes;
 use reading::places::probed;
 use reading::slots::key_at;
 use reading::slots::token;
 use reading::tokens::is_taken;
+use rules::Hashes;
 use rules::Header;
+use rules::Lookup;
 use rules::Place;
 use rules::Slot;
+use rules::State;
 use words::power;
 ghost use mathlib.Core.Path.{_≡_};
+ghost use mathlib.Core.Bool.{cond};
 ghost use mathlib.Core.List.{map, foldl};
-ghost use Prim.Native.Nat.{_≤_};
+ghost use Prim.Native.Nat.{_+_, _≤_};
 ghost use lib.ListN.{length, take};
 ghost use Rattle.rules.specs.Choice.{any};
 ghost use Rattle.rules.specs.Words.{GoodHeader, placeOf, slotsIn, slotsOf};
-ghost use Rattle.rules.specs.Places.{samePlace};
+ghost use Rattle.rules.specs.Places.{samePlace, probes};
+ghost use Rattle.rules.specs.Copies.{inOrder};
 ghost use Rattle.reading.specs.Levels.{levelOf};
 ghost use Rattle.reading.specs.Within.{BucketWithin, SlotWithin};
-ghost use Rattle.scanning.specs.Scans.{itemMet, slotMet, scanOf};
+ghost use Rattle.scanning.specs.declared.copies.Scan.the-variants.{Spoilt};
+ghost use Rattle.scanning.specs.Scans.{metOf, itemMet, slotMet, scanOf};
 
 // "each taken slot in a place of its key"
 fn stands(x: Slot, places: [Place; 6], n: usize) -> bool
@@ -35,18 +45,35 @@ fn stands(x: Slot, places: [Place; 6], n: usize) -> bool
     false
 }
 
+// Slot x, when the lookup of its key, with these hashes, ends at slot y.
+fn copied(s: State, hash: Hashes, x: Slot, y: Slot, found: Scan) -> Scan
+    requires { ⌜ (s .phase + 1 ≤ s .k) × (s .k ≤ 20) ⌝ }
+    ensures { λ r. ⌜ r ≡ cond (any (map (samePlace (placeOf x)) (probes s hash))) (metOf found (inOrder x y)) Spoilt ⌝ }
+{
+    let p = probed(s, hash);
+    let list = p.list;
+    if !stands(x, list, p.n) {
+        return Scan::Spoilt;
+    }
+    met(found, x, y)
+}
+
 fn item(t: &[u64], h: Header, x: Slot, found: Scan) -> Scan
     requires { ⌜ GoodHeader (length (now t)) h × SlotWithin (now t) x ⌝ }
     ensures { λ r. ⌜ r ≡ itemMet (now (t .entry)) h found x ⌝ }
 {
     let key = key_at(t, x);
-    let p = probed(h.state, hashes(h, key));
-    let list = p.list;
-    let n = p.n;
-    if !stands(x, list, n) {
-        return Scan::Spoilt;
+    let hash = hashes(h, key);
+    let end = lookup_by(t, h, key, hash);
+    match end {
+        Lookup::Stands(y, _) => {
+            if is_same(x, y) {
+                return found;
+            }
+            copied(h.state, hash, x, y, found)
+        }
+        Lookup::Absent(_) => Scan::Spoilt,
     }
-    copies(t, h, key, x, list, n, found)
 }
 
 fn scan_bucket(t: &[u64], h: Header, p: Place, found: Scan) -> Scan

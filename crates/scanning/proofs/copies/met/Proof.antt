@@ -7,6 +7,9 @@ use Rattle.scanning.proofs.copies.met.Tie as tie
 enum-told : tie.Need-enum-told
 enum-told c = search needs
 
+pair-requires : tie.Need-pair-requires
+pair-requires c κs = search needs
+
 enum-told-2 : tie.Need-enum-told-2
 enum-told-2 c = search needs
 
@@ -14,7 +17,7 @@ enum-told-3 : tie.Need-enum-told-3
 enum-told-3 c = search needs
 
 returns : tie.Need-returns
-returns c = rw (c .enum-told .given .1)
+returns c = rw (c .before .enum-told .given .1) (c .pair .ensures)
 
 returns-2 : tie.Need-returns-2
 returns-2 c = search needs
@@ -23,4 +26,6 @@ returns-3 : tie.Need-returns-3
 returns-3 c = search needs
 
 pub met-spec : {M : Type 1} → statement M
-met-spec = tie.close (tie.spec enum-told enum-told-2 enum-told-3 returns returns-2 returns-3)
+met-spec =
+    tie.close
+    (tie.spec enum-told pair-requires enum-told-2 enum-told-3 returns returns-2 returns-3)

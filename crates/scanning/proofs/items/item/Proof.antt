@@ -2,11 +2,9 @@
 -- Assumes nothing.
 use mathlib.Core.Path.{sym, _∙_}
 use native.Mathlib.Omega.{arith}
-use borrow.Author.Tests.{not-true, not-false}
 use borrow.Author.Needs.{needs}
 use Rattle.rules.proofs.Headers.{sizes}
-use Rattle.rules.proofs.PlacesWithin.{places-within}
-use Rattle.scanning.proofs.Meeting.{item-misplaced, item-placed}
+use Rattle.scanning.proofs.Meeting.{item-absent, item-itself, item-copied}
 use Rattle.scanning.proofs.items.item.Statement.{statement}
 use Rattle.scanning.proofs.items.item.Tie as tie
 
@@ -16,27 +14,37 @@ key-at-requires c κs = search needs
 hashes-requires : tie.Need-hashes-requires
 hashes-requires c κs = search needs
 
-probed-requires : tie.Need-probed-requires
-probed-requires c κs = omega (arith, sizes _ _ (c .before .before .before .pre .0))
+lookup-by-requires : tie.Need-lookup-by-requires
+lookup-by-requires c κs = search needs
 
-stands-requires : tie.Need-stands-requires
-stands-requires c κs = search needs
+enum-known-end : tie.Need-enum-known-end
+enum-known-end c = search needs
+
+is-same-requires : tie.Need-is-same-requires
+is-same-requires c κs = search needs
 
 returns : tie.Need-returns
 returns c =
-    let d = c .before .before .before in
-    item-misplaced _ _ _ _ (d .before .before .key-at .ensures) (d .before .hashes .ensures) (d .probed .ensures .0) (sym (c .before .stands .ensures) ∙ not-true _ (c .if1 .taken))
+    let l = c .before .before .before .before .before in
+    item-itself _ _ _ _ (l .before .before .key-at .ensures) (l .lookup-by .ensures .0) (c .before .before .before .end .given .1) (sym (c .before .is-same .ensures) ∙ c .if1 .taken)
 
-copies-requires : tie.Need-copies-requires
-copies-requires c κs =
-    let d = c .before .before .before in
-    (d .probed .ensures .1, λ p i. places-within _ _ (d .before .before .before .before .pre .0) _ p (rw (d .probed .ensures .0) at i))
+copied-requires : tie.Need-copied-requires
+copied-requires c κs = omega (arith, sizes _ _ (c .before .before .before .before .before .before .before .before .before .pre .0))
+
+enum-told : tie.Need-enum-told
+enum-told c = search needs
 
 returns-2 : tie.Need-returns-2
 returns-2 c =
-    let d = c .before .before .before .before in
-    c .copies .ensures
-    ∙ item-placed _ _ _ _ (d .before .before .key-at .ensures) (d .before .hashes .ensures) (d .probed .ensures .0) (sym (c .before .before .stands .ensures) ∙ not-false _ (c .before .if1 .left))
+    let d = c .before in
+    let l = d .before .before .before .before .before in
+    c .copied .ensures
+    ∙ item-copied _ _ _ _ (l .before .before .key-at .ensures) (l .lookup-by .ensures .0) (d .before .before .before .end .given .1) (l .before .hashes .ensures) (sym (d .before .is-same .ensures) ∙ d .if1 .left)
+
+returns-3 : tie.Need-returns-3
+returns-3 c =
+    let l = c .before .before in
+    item-absent _ _ _ _ (l .before .before .key-at .ensures) (l .lookup-by .ensures .0) (c .enum-told .given .1)
 
 pub item-spec : {M : Type 1} → statement M
 item-spec =
@@ -44,8 +52,11 @@ item-spec =
     (tie.spec
     key-at-requires
     hashes-requires
-    probed-requires
-    stands-requires
+    lookup-by-requires
+    enum-known-end
+    is-same-requires
     returns
-    copies-requires
-    returns-2)
+    copied-requires
+    enum-told
+    returns-2
+    returns-3)

@@ -1,0 +1,28 @@
+-- `scanning::items::copied` meets its contract.
+-- Assumes nothing.
+use mathlib.Core.Path.{sym, _∙_}
+use borrow.Author.Tests.{not-true, not-false}
+use borrow.Author.Needs.{needs}
+use Rattle.scanning.proofs.items.copied.Statement.{statement}
+use Rattle.scanning.proofs.items.copied.Tie as tie
+
+probed-requires : tie.Need-probed-requires
+probed-requires c κs = search needs
+
+stands-requires : tie.Need-stands-requires
+stands-requires c κs = search needs
+
+returns : tie.Need-returns
+returns c = rw (← (c .before .before .before .probed .ensures .0), sym (c .before .stands .ensures) ∙ not-true _ (c .if1 .taken))
+
+met-requires : tie.Need-met-requires
+met-requires c κs = search needs
+
+returns-2 : tie.Need-returns-2
+returns-2 c =
+    let d = c .before in
+    rw (← (d .before .before .before .probed .ensures .0), sym (d .before .stands .ensures) ∙ not-false _ (d .if1 .left)) (c .met .ensures)
+
+pub copied-spec : {M : Type 1} → statement M
+copied-spec =
+    tie.close (tie.spec probed-requires stands-requires returns met-requires returns-2)
