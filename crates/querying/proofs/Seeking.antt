@@ -28,15 +28,17 @@ module _ (t : Table) (h : Header) (key : ℕ) where
     unfolding inSlots
     slots-over s l = rw (slots-end p s l)
 
-    module _ {word : ℕ} (w : word ≡ tokenOf t (p .bucket)) (s : ℕ) (l : s < 4) where
-      pub slot-free : isTaken h word s ≡ false → inSlots p s ≡ inSlots p (s + 1)
-      unfolding inSlots holds taken slotAt
-      slot-free e = rw (slots-next p s l, ← w, e)
-
+    module _ (s : ℕ) (l : s < 4) where
       pub slot-other : (keyIn t (slotAt p s) ≡ key → ⊥) → inSlots p s ≡ inSlots p (s + 1)
-      unfolding inSlots holds taken slotAt
-      slot-other k = rw (slots-next p s l, ← w, ne-eqb _ _ k, and-false (isTaken h word s))
+      unfolding inSlots holds slotAt
+      slot-other k = rw (slots-next p s l, ne-eqb _ _ k, and-false)
 
-      pub slot-hit : isTaken h word s ≡ true → keyIn t (slotAt p s) ≡ key → inSlots p s ≡ some (slotAt p s)
-      unfolding inSlots holds taken slotAt
-      slot-hit e k = rw (slots-next p s l, ← w, e, eq-eqb _ _ k)
+      -- by the token word of the bucket
+      module _ {word : ℕ} (w : word ≡ tokenOf t (p .bucket)) where
+        pub slot-free : isTaken h word s ≡ false → inSlots p s ≡ inSlots p (s + 1)
+        unfolding inSlots holds taken slotAt
+        slot-free e = rw (slots-next p s l, ← w, e)
+
+        pub slot-hit : isTaken h word s ≡ true → keyIn t (slotAt p s) ≡ key → inSlots p s ≡ some (slotAt p s)
+        unfolding inSlots holds taken slotAt
+        slot-hit e k = rw (slots-next p s l, ← w, e, eq-eqb _ _ k)

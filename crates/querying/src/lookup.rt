@@ -32,7 +32,6 @@ fn find(t: &[u64], h: Header, key: u64, x: Hashes) -> Lookup
         if is_fresh(i, p.bucket, last) {
             looked += 1;
             answer = Lookup::Absent(looked);
-            let word = token(t, p.bucket);
             for s in 0..4 {
                 let at = Slot {
                     level: p.level,
@@ -40,7 +39,7 @@ fn find(t: &[u64], h: Header, key: u64, x: Hashes) -> Lookup
                     slot: s,
                 };
                 if key_at(t, at) == key {
-                    if is_taken(h, word, s) {
+                    if is_taken(h, token(t, p.bucket), s) {
                         answer = Lookup::Stands(at, looked);
                         break 'search;
                     }

@@ -19,10 +19,10 @@ use Rattle.querying.proofs.lookup.find.Statement.{statement}
 use Rattle.querying.proofs.lookup.find.Tie as tie
 
 abbrev Inv-loop : tie.InvT-loop
-Inv-loop t h key x state n answer₀ looked last i p word s₀ answer s = (answer ≡ Absent looked) × (hitIn t h key p ≡ inSlots t h key p s)
+Inv-loop t h key x state n answer₀ looked last i p s₀ answer s = (answer ≡ Absent looked) × (hitIn t h key p ≡ inSlots t h key p s)
 
 abbrev μ-loop : tie.MeasureT-loop
-μ-loop t h key x state n answer₀ looked last i p word s₀ answer s = 4 - s
+μ-loop t h key x state n answer₀ looked last i p s₀ answer s = 4 - s
 
 abbrev Inv-search : tie.InvT-search
 Inv-search t h key x state n answer₀ looked₀ last₀ i₀ answer looked last i = (answer ≡ Absent looked) × (looked ≤ i) × ((i ≡ 0 → ⊥) → last ≡ nthPlace (h .state) x (i - 1) .bucket) × (seek (hitIn t h key) 0 (probes (h .state) x) ≡ inTurns t h key (h .state) x i looked)
@@ -62,14 +62,14 @@ is-fresh-requires c κs = search needs
 add-looked : tie.Need-add-looked Inv-loop μ-loop Inv-search μ-search
 add-looked c = let s = c .before .before .before in let f = turn-fits s in omega (arith, f .0, s .before .search .inv .1)
 
-token-requires : tie.Need-token-requires Inv-loop μ-loop Inv-search μ-search
-token-requires c κs = within (c .before .before)
-
 loop-holds : tie.Need-loop-holds Inv-loop μ-loop Inv-search μ-search
 loop-holds c = (refl, slots-all _ _ _ _)
 
 key-at-requires : tie.Need-key-at-requires Inv-loop μ-loop Inv-search μ-search
-key-at-requires c κs = (within (c .before .before .before .before .before), c .loop-test .taken)
+key-at-requires c κs = (within (c .before .before .before .before), c .loop-test .taken)
+
+token-requires : tie.Need-token-requires Inv-loop μ-loop Inv-search μ-search
+token-requires c κs = within (c .before .before .before .before .before .before)
 
 is-taken-requires : tie.Need-is-taken-requires Inv-loop μ-loop Inv-search μ-search
 is-taken-requires c κs = search needs
@@ -85,13 +85,12 @@ unfolding slotAt
 loop-again c =
     let q = c .before .before in
     let v = q .before .loop .inv in
-    let w = q .before .before .token .ensures in
     let e = c .before .key-at .ensures in
     let l = q .loop-test .taken in (
       v .0,
       v .1
-          ∙ ⊎-elim (λ u. slot-free _ _ _ _ w _ l (sym (u .1 .ensures) ∙ u .2 .left))
-          (λ u. slot-other _ _ _ _ w _ l (λ k. u .left (e ∙ k))) (c .if2 .came),
+          ∙ ⊎-elim (λ u. slot-free _ _ _ _ _ l (u .1 .ensures) (sym (u .2 .ensures) ∙ u .3 .left))
+          (λ u. slot-other _ _ _ _ _ l (λ k. u .left (e ∙ k))) (c .if2 .came),
     )
 
 add-i : tie.Need-add-i Inv-loop μ-loop Inv-search μ-search
@@ -112,8 +111,8 @@ search-again c =
     let e = sym (f .is-fresh .ensures) in
     ⊎-elim
     (λ w.
-    rw (w .4, w .5)
-    (w .2 .inv .0, omega (arith, v .1), last-next _ _ _ q, v .3 ∙ turn-pass _ _ _ _ _ _ _ _ l (v .2) q (e ∙ w .0 .taken) (w .2 .inv .1 ∙ slots-over _ _ _ _ _ (w .3 .left))))
+    rw (w .3, w .4)
+    (w .1 .inv .0, omega (arith, v .1), last-next _ _ _ q, v .3 ∙ turn-pass _ _ _ _ _ _ _ _ l (v .2) q (e ∙ w .0 .taken) (w .1 .inv .1 ∙ slots-over _ _ _ _ _ (w .2 .left))))
     (λ w. rw (w .1, w .2) (v .0, omega (arith, v .1), last-next _ _ _ q, v .3 ∙ turn-skip _ _ _ _ _ _ _ _ l (v .2) q (e ∙ w .0 .left)))
     (c .if1 .came)
 
@@ -123,18 +122,18 @@ returns c = let v = c .before .search .inv in v .0 ∙ sym (v .3 ∙ turns-over 
 returns-2 : tie.Need-returns-2 Inv-loop μ-loop Inv-search μ-search
 unfolding slotAt
 returns-2 c =
-    let k = c .before .before .before .before in
-    let w = k .before .before in
-    let f = w .before .before in
+    let b = c .before .before in
+    let k = b .before .before .before in
+    let f = k .before .before .before in
     let p = f .before in
     let d = p .before in
     let s = d .before in
     let l = rw (s .before .place-count .ensures .0) at (d .search-test .taken) in
     sym
     (s .search .inv .3
-    ∙ turn-hit _ _ _ _ _ _ _ _ l (s .search .inv .2) (p .nth-place .ensures .0) (sym (f .is-fresh .ensures) ∙ w .before .if1 .taken)
+    ∙ turn-hit _ _ _ _ _ _ _ _ l (s .search .inv .2) (p .nth-place .ensures .0) (sym (f .is-fresh .ensures) ∙ k .before .before .if1 .taken)
     (k .before .loop .inv .1
-    ∙ slot-hit _ _ _ _ (w .token .ensures) _ (k .loop-test .taken) (sym (c .before .is-taken .ensures) ∙ c .if3 .taken) (sym (c .before .before .before .key-at .ensures) ∙ c .before .before .if2 .taken)))
+    ∙ slot-hit _ _ _ _ _ (k .loop-test .taken) (b .token .ensures) (sym (c .before .is-taken .ensures) ∙ c .if3 .taken) (sym (b .before .before .key-at .ensures) ∙ b .before .if2 .taken)))
 
 pub find-spec : {M : Type 1} → statement M
 find-spec =
@@ -149,9 +148,9 @@ find-spec =
     nth-place-requires
     is-fresh-requires
     add-looked
-    token-requires
     loop-holds
     key-at-requires
+    token-requires
     is-taken-requires
     add-s
     loop-less
