@@ -1,6 +1,7 @@
 // The item that a growth step takes: "the first taken interim slot (bucket, then slot ascending)".
 use reading::slots::token;
 use reading::tokens::is_taken;
+use reading::tokens::tidy;
 use rules::Header;
 use rules::Slot;
 use words::power;
@@ -16,9 +17,13 @@ pub enum Item {
     Empty,
 }
 
+// Late in a growth most interim buckets are empty, which one test tells.
 fn lowest_taken(h: Header, word: u64) -> usize
     ensures { λ r. ⌜ r ≡ lowestTaken h word ⌝ }
 {
+    if tidy(h, word) == 0 {
+        return 4;
+    }
     for s in 0..4 {
         if is_taken(h, word, s) {
             return s;

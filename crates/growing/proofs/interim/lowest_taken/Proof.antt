@@ -3,6 +3,7 @@
 use Prim.Native.Nat.{_-_}
 use mathlib.Core.Path.{_≡_, sym, _∙_}
 use native.Mathlib.Omega.{arith}
+use borrow.Author.Needs.{needs}
 use Rattle.growing.specs.Interim.{lowestTaken}
 use Rattle.rules.specs.Words.{isTaken}
 use Rattle.rules.proofs.Lowest.{lowestFrom, lowest-all, lowest-here, lowest-next, lowest-over}
@@ -15,6 +16,13 @@ Inv-loop h word s₀ s = lowestTaken h word ≡ lowestFrom (isTaken h word) s
 abbrev μ-loop : tie.MeasureT-loop
 μ-loop h word s₀ s = 4 - s
 
+tidy-requires : tie.Need-tidy-requires Inv-loop μ-loop
+tidy-requires c κs = search needs
+
+returns : tie.Need-returns Inv-loop μ-loop
+unfolding lowestTaken isTaken
+returns c = rw (sym (c .before .tidy .ensures .0) ∙ c .if1 .taken)
+
 loop-holds : tie.Need-loop-holds Inv-loop μ-loop
 unfolding lowestTaken
 loop-holds c = lowest-all _
@@ -22,8 +30,8 @@ loop-holds c = lowest-all _
 is-taken-requires : tie.Need-is-taken-requires Inv-loop μ-loop
 is-taken-requires c κs = omega arith
 
-returns : tie.Need-returns Inv-loop μ-loop
-returns c = let d = c .before .before in sym (d .before .loop .inv ∙ lowest-here _ _ (d .loop-test .taken) (sym (c .before .is-taken .ensures) ∙ c .if1 .taken))
+returns-2 : tie.Need-returns-2 Inv-loop μ-loop
+returns-2 c = let d = c .before .before in sym (d .before .loop .inv ∙ lowest-here _ _ (d .loop-test .taken) (sym (c .before .is-taken .ensures) ∙ c .if2 .taken))
 
 add-s : tie.Need-add-s Inv-loop μ-loop
 add-s c = omega arith
@@ -32,10 +40,10 @@ loop-less : tie.Need-loop-less Inv-loop μ-loop
 loop-less c = omega arith
 
 loop-again : tie.Need-loop-again Inv-loop μ-loop
-loop-again c = let d = c .before .before in d .before .loop .inv ∙ lowest-next _ _ (d .loop-test .taken) (sym (c .before .is-taken .ensures) ∙ c .if1 .left)
+loop-again c = let d = c .before .before in d .before .loop .inv ∙ lowest-next _ _ (d .loop-test .taken) (sym (c .before .is-taken .ensures) ∙ c .if2 .left)
 
-returns-2 : tie.Need-returns-2 Inv-loop μ-loop
-returns-2 c = sym (c .before .loop .inv ∙ lowest-over _ _ (c .loop-test .left))
+returns-3 : tie.Need-returns-3 Inv-loop μ-loop
+returns-3 c = sym (c .before .loop .inv ∙ lowest-over _ _ (c .loop-test .left))
 
 pub lowest-taken-spec : {M : Type 1} → statement M
 lowest-taken-spec =
@@ -43,10 +51,12 @@ lowest-taken-spec =
     (tie.spec
     Inv-loop
     μ-loop
+    tidy-requires
+    returns
     loop-holds
     is-taken-requires
-    returns
+    returns-2
     add-s
     loop-less
     loop-again
-    returns-2)
+    returns-3)
