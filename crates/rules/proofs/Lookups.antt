@@ -77,7 +77,7 @@ module _ (hit : Place → Option Slot) where
 
 -- ---- a lookup
 
-pub holds-tells : (t : Table) (h : Header) (key : ℕ) (x : Slot) → Tells (holds t h key x) ((taken t h x ≡ true) × (keyIn t x ≡ key))
+holds-tells : (t : Table) (h : Header) (key : ℕ) (x : Slot) → Tells (holds t h key x) ((taken t h x ≡ true) × (keyIn t x ≡ key))
 unfolding holds
 holds-tells t h key x = tells-and _ _ Iff·rfl (tells-eq _ _)
 

@@ -24,7 +24,7 @@ Lower l m = l .name < m .name
 Under : Place → Place → Type 0
 Under p q = (p .level ≡ q .level) × (p .bucket < q .bucket)
 
-pub place-ascends : (p : Place) → Ascending Before (slotsIn p)
+place-ascends : (p : Place) → Ascending Before (slotsIn p)
 unfolding slotsIn slotAt
 place-ascends p = ascending-map _<_ Before (slotAt p) (0 ∷ 1 ∷ 2 ∷ 3 ∷ []) (ascending-from 0 4) (λ x y e. inr (refl, inr (refl, e)))
 

@@ -32,7 +32,7 @@ module _ (x y : Slot) where
   pub before-apart : Before x y → x ≡ y → ⊥
   before-apart b e = before-once b (rw e (rw e at b))
 
-pub slots-apart : (l : List Slot) → Ascending Before l → NoRepeat l
+slots-apart : (l : List Slot) → Ascending Before l → NoRepeat l
 slots-apart l a = ascending-weaken Before _ l a before-apart
 
 -- ---- the taken slots
@@ -58,19 +58,19 @@ module _ (t : Table) where
 
 -- ---- a slot paired with each of a list
 
-abbrev pub paired : Slot → List Slot → List (Slot × Slot)
+abbrev paired : Slot → List Slot → List (Slot × Slot)
 paired x l = map (λ (y : Slot). (x, y)) l
 
 module _ (x : Slot) (l : List Slot) where
-  pub paired-in : (u : Slot × Slot) → In u (paired x l) → (u .0 ≡ x) × In (u .1) l
+  paired-in : (u : Slot × Slot) → In u (paired x l) → (u .0 ≡ x) × In (u .1) l
   paired-in u i =
       let r = map-in (λ (y : Slot). (x, y)) l u i in
       (ap (λ (p : Slot × Slot). p .0) (r .2), Memᴰ·cast (ap (λ (p : Slot × Slot). p .1) (r .2)) (r .1))
 
-  pub in-paired : (u : Slot × Slot) → u .0 ≡ x → In (u .1) l → In u (paired x l)
+  in-paired : (u : Slot × Slot) → u .0 ≡ x → In (u .1) l → In u (paired x l)
   in-paired u e i = Memᴰ·cast {A = Slot × Slot} (λ j. (e j, u .1)) (in-map (λ (y : Slot). (x, y)) i)
 
-  pub paired-apart : NoRepeat l → NoRepeat (paired x l)
+  paired-apart : NoRepeat l → NoRepeat (paired x l)
   paired-apart a = ascending-map _ _ (λ (y : Slot). (x, y)) l a (λ y z d e. d (ap (λ (p : Slot × Slot). p .1) e))
 
 -- ---- the pairs

@@ -3,7 +3,7 @@
 use Prim.Native.Nat.{ℕ, _+_, _-_, _^_, _≤_, _<_}
 use mathlib.Core.Path.{_≡_, _∙_}
 use mathlib.Core.Bool.{true, false, cond, or-false}
-use mathlib.Core.List.{List, [], _∷_, map, flatMap, foldl, foldl-map, List·Memᴰ as In}
+use mathlib.Core.List.{List, [], _∷_, map, foldl, foldl-map}
 use lib.ListN.{length, getD, take, drop}
 use lib.Dec.{ltb, eqb}
 use borrow.Author.Tests.{le-ltb, eq-eqb, ne-eqb}
@@ -19,7 +19,7 @@ use Rattle.rules.specs.declared.Lookup.{Lookup}
 use Rattle.rules.specs.declared.Lookup.the-variants.{Stands, Absent}
 use Rattle.reading.specs.Levels.{levelOf}
 use Rattle.rules.proofs.Loops.{foldFrom, fold-whole, within, fold-within}
-use Rattle.rules.proofs.Walks.{first-next, first-end, among-first}
+use Rattle.rules.proofs.Walks.{first-next, first-end}
 use Rattle.rules.specs.Copies.{isBefore, inOrder, sameSlot}
 use Rattle.scanning.specs.declared.copies.Scan.{Scan}
 use Rattle.scanning.specs.declared.copies.Scan.the-variants.{Clear, Pair, Spoilt}

@@ -22,7 +22,7 @@ use Rattle.rules.proofs.Twins.{taken-in}
 use Rattle.rules.proofs.Lookups.{lookup-sees}
 use Rattle.rules.proofs.Copies.{copies, itself-in-place}
 use Rattle.scanning.specs.declared.copies.Scan.{Scan}
-use Rattle.scanning.specs.declared.copies.Scan.the-variants.{Clear, Pair, Spoilt}
+use Rattle.scanning.specs.declared.copies.Scan.the-variants.{Clear, Spoilt}
 use Rattle.scanning.specs.Scans.{metOf, endedAt, itemMet, slotMet, scanOf, scanned}
 
 -- ---- pairs, one after the other
