@@ -1,0 +1,146 @@
+/*
+ * Ragansils: a position table in lent 64-bit words. Code address and inlining depth lead to a function and a place.
+ *
+ * The ten functions of the static library `collector` (`rt staticlib collector` writes target/staticlib/libcollector.a), for C99 and
+ * C++ on x86-64. Each is proved to answer as below on every input, however damaged the words that it is lent; what each leaves in
+ * every buffer is part of that proof.
+ *
+ * A change goes in two parts. A changing call only reads the table: it lists its stores, in order, as pairs of a word's index and the
+ * new word. The stores are then made, by ragansils_make or by a loop of yours, and power may go after any of them: on the next start
+ * ragansils_recover lists at most three stores that bring back the map before the change or the map after it.
+ *
+ * What is asked of the caller, and C cannot check:
+ * - A pointer is aligned, and valid for as many words as the length beside it says; no pointer is NULL, with a length of 0 neither.
+ * - No two buffers of one call overlap.
+ * - Stores are made whole and in the order of the list, each once, before the next change is listed; no other store goes to the table.
+ * - From the listing of a change to its last store no other thread lists, stores or queries; queries alone may go side by side. The
+ *   functions keep nothing between calls.
+ *
+ * What is left to the caller: cache flush instructions and fences, which a platform needs so that stores reach its memory in order;
+ * locks; and creating again a table whose creation was cut, which no recovery mends.
+ */
+#ifndef RAGANSILS_H
+#define RAGANSILS_H
+
+#include <stdbool.h>
+#include <stddef.h>
+#include <stdint.h>
+
+#ifdef __cplusplus
+extern "C" {
+#endif
+
+/*
+ * What a function answers: 0, or why it refused. A refusal changes neither table nor list; it writes 0 to *stores, and to a query's
+ * answer what stands there.
+ */
+enum ragansils_refusal {
+    RAGANSILS_DONE = 0,
+    RAGANSILS_BAD_HEADER = 1,      /* length, form, c, multipliers or state bad: all but create and make */
+    RAGANSILS_SHORT_LIST = 2,      /* list shorter than 20 words: the changing calls and recover */
+    RAGANSILS_FLAG_SET = 3,        /* update flag not 0, so recover first: all but create, make and recover */
+    RAGANSILS_KEY_PRESENT = 4,     /* insert */
+    RAGANSILS_KEY_ABSENT = 5,      /* query, update, delete */
+    RAGANSILS_NO_PLACE = 6,        /* insert: grow, or go without; step: delete something, or try later */
+    RAGANSILS_ALREADY_GROWING = 7, /* begin */
+    RAGANSILS_NOT_GROWING = 8,     /* step, end */
+    RAGANSILS_AT_CAPACITY = 9,     /* k = c, the table cannot grow: begin */
+    RAGANSILS_INTERIM_TAKEN = 10,  /* interim not empty, so step first: end */
+    RAGANSILS_INTERIM_EMPTY = 11,  /* nothing left to move, so end: step */
+    RAGANSILS_NO_KIND = 12,        /* none of the three kinds of table that recovery accepts: recover */
+    RAGANSILS_BAD_CREATION = 13,   /* c, first k (1 to c), length or a multiplier bad: create */
+    RAGANSILS_BAD_MAKING = 14      /* n pairs are not in the list, or an index among them is outside the table: make */
+};
+/* Where several would hold: 1, 2, 3, then the rest; insert 4 before 6, begin 7 before 9, step and end 8 first. */
+
+/* The capacity exponent c is 1 to this. */
+#define RAGANSILS_LARGEST_CAPACITY 20
+
+/* The words of a table of capacity exponent c, 9 + 13 (2^(c+1) - 1); 0 where c is not 1 to 20. */
+#define RAGANSILS_WORDS(c)                                                                                                             \
+    ((c) >= 1 && (c) <= RAGANSILS_LARGEST_CAPACITY ? (size_t)9 + 13 * (((size_t)2 << (c)) - 1) : (size_t)0)
+
+/* The words of the shortest list that is taken: ten stores. */
+#define RAGANSILS_LIST_WORDS 20
+
+/* The words of a query's answer. */
+#define RAGANSILS_ANSWER_WORDS 3
+
+/*
+ * Makes the key address * 256 + depth, and answers whether there is one: an address of 2^56 or more, or a depth above 255, has none,
+ * and *key stays. The table itself takes any 64-bit key.
+ */
+static inline bool ragansils_key(uint64_t address, uint64_t depth, uint64_t *key)
+{
+    if (address >> 56 != 0 || depth > 255)
+        return false;
+    *key = address << 8 | depth;
+    return true;
+}
+
+/*
+ * Makes an empty table with a top level of 2^k buckets, which can grow to 2^c: zeroes all words and writes the header. Both multipliers
+ * are odd and may be equal; two random ones spread keys well. Refusal 13 changes no word. A cut in creation is not covered.
+ */
+uint64_t ragansils_create(uint64_t *table, size_t words, uint64_t c, uint64_t k, uint64_t mul1, uint64_t mul2);
+
+/*
+ * Looks a key up. answer[0] is its function, answer[1] its place, answer[2] the number of buckets looked at, at most four, or six while
+ * the table grows. With refusal 5 answer is 0, 0 and the number of all buckets where the key may stand; with 1 or 3 three zeros.
+ */
+uint64_t ragansils_query(const uint64_t *table, size_t words, uint64_t key, uint64_t answer[RAGANSILS_ANSWER_WORDS]);
+
+/*
+ * The seven functions below list stores. On success *stores is their number, at most ten, the first 2 * *stores words of the list hold
+ * them, each as its word's index in the table and the new word, and the rest of the list stays. On refusal *stores is 0 and the list
+ * stays. The table is only read.
+ */
+
+/* A key that is not in the table comes in with this record: 4 stores, or 9 where another item has to move first. Refusals 1 to 4, 6. */
+uint64_t ragansils_insert(const uint64_t *table, size_t words, uint64_t key, uint64_t function, uint64_t place, uint64_t *list,
+                          size_t list_words, uint64_t *stores);
+
+/*
+ * The key's record becomes this one: 4 stores where its bucket has a free slot, and 7, through words 5 to 8, where it is full. No cut
+ * leaves the old function beside the new place. Refusals 1 to 3, 5.
+ */
+uint64_t ragansils_update(const uint64_t *table, size_t words, uint64_t key, uint64_t function, uint64_t place, uint64_t *list,
+                          size_t list_words, uint64_t *stores);
+
+/* The key and its record go: 1 store. Refusals 1 to 3, 5. */
+uint64_t ragansils_delete(const uint64_t *table, size_t words, uint64_t key, uint64_t *list, size_t list_words, uint64_t *stores);
+
+/*
+ * Growth begins: a new top of twice the size; the old top becomes the bottom, the old bottom the interim level: 1 store. Refusals 1 to
+ * 3, 7, 9.
+ */
+uint64_t ragansils_begin(const uint64_t *table, size_t words, uint64_t *list, size_t list_words, uint64_t *stores);
+
+/*
+ * The first item of the interim level moves to top or bottom: 5 stores, or 10 where another item has to move first. The map stays.
+ * Every other call may come between two steps. Refusals 1 to 3, 6, 8, 11.
+ */
+uint64_t ragansils_step(const uint64_t *table, size_t words, uint64_t *list, size_t list_words, uint64_t *stores);
+
+/* Growth ends, once the interim level is empty: 1 store. Refusals 1 to 3, 8, 10. */
+uint64_t ragansils_end(const uint64_t *table, size_t words, uint64_t *list, size_t list_words, uint64_t *stores);
+
+/*
+ * What a start does first. 0 stores: the table is sound. 1 store: one key stands twice with equal records, and the later goes.
+ * 3 stores: an update was cut, and is made again from words 6 to 8. Making these stores gives a sound table; where power goes between
+ * them, recover again, as often as it happens. Refusals 1, 2, 12.
+ */
+uint64_t ragansils_recover(const uint64_t *table, size_t words, uint64_t *list, size_t list_words, uint64_t *stores);
+
+/*
+ * Makes the first n stores of a list, in order; refusal 14 makes none. The list is only read; the table's header is not looked at.
+ * In which order the stores leave the processor's cache is not said: where that matters, make them by a loop that flushes and fences
+ * after each, as examples/collector.c does.
+ */
+uint64_t ragansils_make(uint64_t *table, size_t words, const uint64_t *list, size_t list_words, uint64_t n);
+
+#ifdef __cplusplus
+}
+#endif
+
+#endif

@@ -1,0 +1,254 @@
+/*
+ * Calls each of the ten functions through include/ragansils.h, on document 01's marked examples, and meets each refusal number. The
+ * answers differ for any two arguments taken for each other. Says how many checks there were; exit status 0 only where all held.
+ */
+#include <inttypes.h>
+#include <stdio.h>
+#include <string.h>
+
+#include "ragansils.h"
+
+/* The table of the marked examples: c = 2, k = 1; for keys below 2^32 hash 1 is the key and hash 2 three times the key. */
+#define WORDS RAGANSILS_WORDS(2)
+#define MUL1 UINT64_C(4294967297)
+#define MUL2 UINT64_C(12884901889)
+
+/* More than a list needs, to see that what lies behind it stays. */
+#define LENT_LIST (RAGANSILS_LIST_WORDS + 4)
+#define UNTOUCHED UINT64_C(0x5a5a0bad0bada5a5)
+
+static uint64_t table[WORDS], list[LENT_LIST], stores;
+static unsigned checks, failures;
+
+static void check(bool held, const char *what)
+{
+    checks++;
+    if (held)
+        return;
+    failures++;
+    printf("not so: %s\n", what);
+}
+
+static void all_untouched(uint64_t *words, size_t from, size_t length, const char *what)
+{
+    bool untouched = true;
+    for (size_t i = from; i < length; i++)
+        untouched = untouched && words[i] == UNTOUCHED;
+    check(untouched, what);
+}
+
+static void untouch(uint64_t *words, size_t length)
+{
+    for (size_t i = 0; i < length; i++)
+        words[i] = UNTOUCHED;
+}
+
+/* ---- the seven calls that list stores, under one type ---- */
+
+struct change {
+    const char *name;
+    uint64_t (*call)(size_t words, size_t list_words, uint64_t key, uint64_t function, uint64_t place);
+};
+
+static uint64_t call_insert(size_t words, size_t list_words, uint64_t key, uint64_t function, uint64_t place)
+{
+    return ragansils_insert(table, words, key, function, place, list, list_words, &stores);
+}
+
+static uint64_t call_update(size_t words, size_t list_words, uint64_t key, uint64_t function, uint64_t place)
+{
+    return ragansils_update(table, words, key, function, place, list, list_words, &stores);
+}
+
+static uint64_t call_delete(size_t words, size_t list_words, uint64_t key, uint64_t function, uint64_t place)
+{
+    (void)function, (void)place;
+    return ragansils_delete(table, words, key, list, list_words, &stores);
+}
+
+#define WHOLE_TABLE_CALL(name)                                                                                                         \
+    static uint64_t call_##name(size_t words, size_t list_words, uint64_t key, uint64_t function, uint64_t place)                     \
+    {                                                                                                                                  \
+        (void)key, (void)function, (void)place;                                                                                       \
+        return ragansils_##name(table, words, list, list_words, &stores);                                                             \
+    }
+WHOLE_TABLE_CALL(begin)
+WHOLE_TABLE_CALL(step)
+WHOLE_TABLE_CALL(end)
+WHOLE_TABLE_CALL(recover)
+
+static const struct change INSERT = { "insert", call_insert }, UPDATE = { "update", call_update }, DELETE = { "delete", call_delete },
+                           BEGIN = { "begin", call_begin }, STEP = { "step", call_step }, END = { "end", call_end },
+                           RECOVER = { "recover", call_recover };
+
+/* Makes the call with a fresh list, and looks that it answers so, lists these words and leaves the rest. */
+static void listed(struct change change, uint64_t key, uint64_t function, uint64_t place, uint64_t number, uint64_t count,
+                   const uint64_t *expected)
+{
+    uint64_t before[WORDS];
+    memcpy(before, table, sizeof table);
+    untouch(list, LENT_LIST);
+    stores = UNTOUCHED;
+    check(change.call(WORDS, RAGANSILS_LIST_WORDS, key, function, place) == number, change.name);
+    check(stores == count, "the number of stores");
+    check(count == 0 || memcmp(list, expected, 2 * count * sizeof *list) == 0, "the listed stores");
+    all_untouched(list, 2 * count, LENT_LIST, "the rest of the list stays");
+    check(memcmp(before, table, sizeof table) == 0, "a listing call only reads the table");
+}
+
+static void refused(struct change change, uint64_t key, uint64_t number)
+{
+    listed(change, key, 0, 0, number, 0, NULL);
+}
+
+/* Makes the call and all its stores. */
+static void made(struct change change, uint64_t key, uint64_t function, uint64_t place)
+{
+    check(change.call(WORDS, RAGANSILS_LIST_WORDS, key, function, place) == RAGANSILS_DONE, change.name);
+    check(ragansils_make(table, WORDS, list, RAGANSILS_LIST_WORDS, stores) == RAGANSILS_DONE, "make");
+}
+
+static void fresh_table(void)
+{
+    untouch(table, WORDS);
+    check(ragansils_create(table, WORDS, 2, 1, MUL1, MUL2) == RAGANSILS_DONE, "create");
+}
+
+static void insert_keys(uint64_t first, uint64_t last, uint64_t apart)
+{
+    for (uint64_t key = first; key <= last; key += apart)
+        made(INSERT, key, 100 + key, 200 + key);
+}
+
+static void asked(uint64_t key, uint64_t number, uint64_t function, uint64_t place, uint64_t buckets)
+{
+    uint64_t answer[RAGANSILS_ANSWER_WORDS + 1] = { UNTOUCHED, UNTOUCHED, UNTOUCHED, UNTOUCHED };
+    check(ragansils_query(table, WORDS, key, answer) == number, "query");
+    check(answer[0] == function && answer[1] == place && answer[2] == buckets, "the query's answer");
+    all_untouched(answer, RAGANSILS_ANSWER_WORDS, RAGANSILS_ANSWER_WORDS + 1, "the word behind the answer stays");
+}
+
+/* ---- the checks ---- */
+
+static void sizes_and_keys(void)
+{
+    check(RAGANSILS_WORDS(1) == 48 && RAGANSILS_WORDS(2) == 100 && RAGANSILS_WORDS(8) == 6652, "the words of a table");
+    check(RAGANSILS_WORDS(0) == 0 && RAGANSILS_WORDS(21) == 0, "no words for a bad c");
+    uint64_t key = UNTOUCHED;
+    check(!ragansils_key(UINT64_C(1) << 56, 0, &key) && !ragansils_key(0, 256, &key), "a key that there is not");
+    check(key == UNTOUCHED, "no key, nothing written");
+    check(ragansils_key(16, 3, &key) && key == 16 * 256 + 3, "a key");
+    check(ragansils_key((UINT64_C(1) << 56) - 1, 255, &key) && key == UINT64_MAX, "the last key");
+}
+
+static void creation(void)
+{
+    const uint64_t header[] = { 1, 2, MUL1, MUL2, 1, 0, 0, 0, 0 };
+    fresh_table();
+    check(memcmp(table, header, sizeof header) == 0, "the header");
+    bool zero = true;
+    for (size_t i = 9; i < WORDS; i++)
+        zero = zero && table[i] == 0;
+    check(zero, "all else is zeroed");
+
+    untouch(table, WORDS);
+    check(ragansils_create(table, WORDS - 1, 2, 1, MUL1, MUL2) == RAGANSILS_BAD_CREATION, "create: length");
+    check(ragansils_create(table, WORDS, 3, 1, MUL1, MUL2) == RAGANSILS_BAD_CREATION, "create: c");
+    check(ragansils_create(table, WORDS, 2, 3, MUL1, MUL2) == RAGANSILS_BAD_CREATION, "create: k");
+    check(ragansils_create(table, WORDS, 2, 1, 2, MUL2) == RAGANSILS_BAD_CREATION, "create: multiplier 1");
+    check(ragansils_create(table, WORDS, 2, 1, MUL1, 2) == RAGANSILS_BAD_CREATION, "create: multiplier 2");
+    all_untouched(table, 0, WORDS, "a refused creation writes nothing");
+}
+
+/* E1 to E5, with make on a part of a list. */
+static void one_position(void)
+{
+    const uint64_t e1[] = { 36, 1, 37, 10, 38, 20, 35, 1 }, e4[] = { 35, 0 }, e5[] = { 39, 1, 40, 30, 41, 40, 35, 2 };
+    fresh_table();
+    listed(INSERT, 1, 10, 20, RAGANSILS_DONE, 4, e1);
+    check(ragansils_make(table, WORDS, list, LENT_LIST, 3) == RAGANSILS_DONE, "make of three stores");
+    asked(1, RAGANSILS_KEY_ABSENT, 0, 0, 2);
+    check(ragansils_make(table, WORDS, list, LENT_LIST, 4) == RAGANSILS_DONE, "make of four stores");
+    asked(1, RAGANSILS_DONE, 10, 20, 1);
+    asked(3, RAGANSILS_KEY_ABSENT, 0, 0, 2);
+    refused(INSERT, 1, RAGANSILS_KEY_PRESENT);
+    listed(DELETE, 1, 0, 0, RAGANSILS_DONE, 1, e4);
+    listed(UPDATE, 1, 30, 40, RAGANSILS_DONE, 4, e5);
+    refused(UPDATE, 3, RAGANSILS_KEY_ABSENT);
+    refused(DELETE, 3, RAGANSILS_KEY_ABSENT);
+}
+
+/* E6 and E7: an update of a full bucket, cut after five stores. */
+static void cut_update(void)
+{
+    const uint64_t e6[] = { 6, 36, 7, 30, 8, 40, 5, 1, 37, 30, 38, 40, 5, 0 }, e7[] = { 37, 30, 38, 40, 5, 0 };
+    fresh_table();
+    insert_keys(1, 7, 2);
+    listed(UPDATE, 1, 30, 40, RAGANSILS_DONE, 7, e6);
+    ragansils_make(table, WORDS, list, LENT_LIST, 5);
+    asked(1, RAGANSILS_FLAG_SET, 0, 0, 0);
+    const struct change flag_refuses[] = { INSERT, UPDATE, DELETE, BEGIN, STEP, END };
+    for (size_t i = 0; i < sizeof flag_refuses / sizeof *flag_refuses; i++)
+        refused(flag_refuses[i], 1, RAGANSILS_FLAG_SET);
+    listed(RECOVER, 0, 0, 0, RAGANSILS_DONE, 3, e7);
+    made(RECOVER, 0, 0, 0);
+    asked(1, RAGANSILS_DONE, 30, 40, 1);
+    refused(RECOVER, 0, RAGANSILS_DONE);
+    table[5] = 2;
+    refused(RECOVER, 0, RAGANSILS_NO_KIND);
+}
+
+/* E8 and E10: no place, then a growth from begin to end. */
+static void growth(void)
+{
+    const uint64_t begun[] = { 4, 258 }, moved[] = { 62, 9, 63, 109, 64, 209, 61, 1, 9, 14 }, ended[] = { 4, 2 };
+    fresh_table();
+    insert_keys(1, 15, 2);
+    refused(INSERT, 17, RAGANSILS_NO_PLACE);
+    refused(STEP, 0, RAGANSILS_NOT_GROWING);
+    refused(END, 0, RAGANSILS_NOT_GROWING);
+    listed(BEGIN, 0, 0, 0, RAGANSILS_DONE, 1, begun);
+    made(BEGIN, 0, 0, 0);
+    refused(BEGIN, 0, RAGANSILS_ALREADY_GROWING);
+    refused(END, 0, RAGANSILS_INTERIM_TAKEN);
+    listed(STEP, 0, 0, 0, RAGANSILS_DONE, 5, moved);
+    for (int items = 4; items > 0; items--)
+        made(STEP, 0, 0, 0);
+    refused(STEP, 0, RAGANSILS_INTERIM_EMPTY);
+    listed(END, 0, 0, 0, RAGANSILS_DONE, 1, ended);
+    made(END, 0, 0, 0);
+    refused(BEGIN, 0, RAGANSILS_AT_CAPACITY);
+    for (uint64_t key = 1; key <= 15; key += 2)
+        check(ragansils_query(table, WORDS, key, list) == RAGANSILS_DONE && list[0] == 100 + key && list[1] == 200 + key, "grown");
+}
+
+/* That each length is taken for the length of its own buffer. */
+static void lengths(void)
+{
+    const struct change all[] = { INSERT, UPDATE, DELETE, BEGIN, STEP, END, RECOVER };
+    uint64_t answer[RAGANSILS_ANSWER_WORDS], pair[] = { WORDS - 1, 7 };
+    fresh_table();
+    untouch(list, LENT_LIST);
+    for (size_t i = 0; i < sizeof all / sizeof *all; i++) {
+        check(all[i].call(WORDS - 1, LENT_LIST, 1, 2, 3) == RAGANSILS_BAD_HEADER && stores == 0, "a table that is too short");
+        check(all[i].call(WORDS, RAGANSILS_LIST_WORDS - 1, 1, 2, 3) == RAGANSILS_SHORT_LIST && stores == 0, "a list that is too short");
+    }
+    all_untouched(list, 0, LENT_LIST, "a refusal writes no list");
+    check(ragansils_query(table, WORDS - 1, 1, answer) == RAGANSILS_BAD_HEADER, "a query of a table that is too short");
+    check(ragansils_make(table, WORDS, pair, 2, 2) == RAGANSILS_BAD_MAKING, "make of more pairs than there are");
+    check(ragansils_make(table, WORDS - 1, pair, 2, 1) == RAGANSILS_BAD_MAKING, "make outside the table");
+    check(table[WORDS - 1] == 0, "a refused make stores nothing");
+    check(ragansils_make(table, WORDS, pair, 2, 1) == RAGANSILS_DONE && table[WORDS - 1] == 7, "make in the last word");
+}
+
+int main(void)
+{
+    sizes_and_keys();
+    creation();
+    one_position();
+    cut_update();
+    growth();
+    lengths();
+    printf("%u checks of the ten functions from C, %u failed\n", checks, failures);
+    return failures != 0;
+}
