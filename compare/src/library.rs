@@ -1,79 +1,10 @@
 //! The proved library behind its C interface. Every buffer stands between
 //! guard words, which are checked after each call.
 
+use ragansils::raw;
 use ragansils_model::Event;
 
 use crate::case::{Call, Case, Outcome};
-
-mod c {
-    extern "C" {
-        pub fn ragansils_create(table: *mut u64, words: usize, c: u64, k: u64, mul1: u64, mul2: u64) -> u64;
-        pub fn ragansils_query(table: *const u64, words: usize, key: u64, answer: *mut u64) -> u64;
-        pub fn ragansils_insert(
-            table: *const u64,
-            words: usize,
-            key: u64,
-            function: u64,
-            place: u64,
-            list: *mut u64,
-            list_words: usize,
-            stores: *mut u64,
-        ) -> u64;
-        pub fn ragansils_update(
-            table: *const u64,
-            words: usize,
-            key: u64,
-            function: u64,
-            place: u64,
-            list: *mut u64,
-            list_words: usize,
-            stores: *mut u64,
-        ) -> u64;
-        pub fn ragansils_delete(
-            table: *const u64,
-            words: usize,
-            key: u64,
-            list: *mut u64,
-            list_words: usize,
-            stores: *mut u64,
-        ) -> u64;
-        pub fn ragansils_begin(
-            table: *const u64,
-            words: usize,
-            list: *mut u64,
-            list_words: usize,
-            stores: *mut u64,
-        ) -> u64;
-        pub fn ragansils_step(
-            table: *const u64,
-            words: usize,
-            list: *mut u64,
-            list_words: usize,
-            stores: *mut u64,
-        ) -> u64;
-        pub fn ragansils_end(
-            table: *const u64,
-            words: usize,
-            list: *mut u64,
-            list_words: usize,
-            stores: *mut u64,
-        ) -> u64;
-        pub fn ragansils_recover(
-            table: *const u64,
-            words: usize,
-            list: *mut u64,
-            list_words: usize,
-            stores: *mut u64,
-        ) -> u64;
-        pub fn ragansils_make(
-            table: *mut u64,
-            words: usize,
-            list: *const u64,
-            list_words: usize,
-            n: u64,
-        ) -> u64;
-    }
-}
 
 const GUARD_WORDS: usize = 16;
 
@@ -155,21 +86,21 @@ fn call_library(call: Call, lent: &mut Lent) -> u64 {
     // the words the call writes, and no two of them overlap.
     unsafe {
         match call {
-            Call::Create { c, k, mul1, mul2 } => c::ragansils_create(table, words, c, k, mul1, mul2),
-            Call::Query { key } => c::ragansils_query(table, words, key, answer),
-            Call::Make { n } => c::ragansils_make(table, words, list, list_words, n),
+            Call::Create { c, k, mul1, mul2 } => raw::ragansils_create(table, words, c, k, mul1, mul2),
+            Call::Query { key } => raw::ragansils_query(table, words, key, answer.cast()),
+            Call::Make { n } => raw::ragansils_make(table, words, list, list_words, n),
             Call::Change(event) => match event {
                 Event::Insert { key, function, place } => {
-                    c::ragansils_insert(table, words, key, function, place, list, list_words, answer)
+                    raw::ragansils_insert(table, words, key, function, place, list, list_words, answer)
                 }
                 Event::Update { key, function, place } => {
-                    c::ragansils_update(table, words, key, function, place, list, list_words, answer)
+                    raw::ragansils_update(table, words, key, function, place, list, list_words, answer)
                 }
-                Event::Delete { key } => c::ragansils_delete(table, words, key, list, list_words, answer),
-                Event::Begin => c::ragansils_begin(table, words, list, list_words, answer),
-                Event::Step => c::ragansils_step(table, words, list, list_words, answer),
-                Event::End => c::ragansils_end(table, words, list, list_words, answer),
-                Event::Recover => c::ragansils_recover(table, words, list, list_words, answer),
+                Event::Delete { key } => raw::ragansils_delete(table, words, key, list, list_words, answer),
+                Event::Begin => raw::ragansils_begin(table, words, list, list_words, answer),
+                Event::Step => raw::ragansils_step(table, words, list, list_words, answer),
+                Event::End => raw::ragansils_end(table, words, list, list_words, answer),
+                Event::Recover => raw::ragansils_recover(table, words, list, list_words, answer),
             },
         }
     }

@@ -5,7 +5,7 @@ use std::path::{Path, PathBuf};
 
 fn main() {
     println!("cargo:rerun-if-env-changed=RAGANSILS_LIB");
-    let usual = Path::new(env!("CARGO_MANIFEST_DIR")).join("../target/staticlib");
+    let usual = Path::new(env!("CARGO_MANIFEST_DIR")).join("../../target/staticlib");
     let folder = std::env::var_os("RAGANSILS_LIB").map_or(usual, PathBuf::from);
     let library = folder.join("libcollector.a");
     // A relative path would be looked up from this crate's folder, which is seldom meant.

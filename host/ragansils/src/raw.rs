@@ -1,0 +1,67 @@
+//! The ten functions of the static library `collector`, as `include/ragansils.h` declares them.
+//!
+//! They are unsafe for what a compiler cannot see: a pointer must be aligned and valid for as many words as the length beside it says,
+//! and no two buffers of a call may overlap.
+#![allow(missing_docs)] // include/ragansils.h says what each answers and leaves
+
+extern "C" {
+    pub fn ragansils_create(table: *mut u64, words: usize, c: u64, k: u64, mul1: u64, mul2: u64) -> u64;
+    pub fn ragansils_query(table: *const u64, words: usize, key: u64, answer: *mut [u64; 3]) -> u64;
+    pub fn ragansils_insert(
+        table: *const u64,
+        words: usize,
+        key: u64,
+        function: u64,
+        place: u64,
+        list: *mut u64,
+        list_words: usize,
+        stores: *mut u64,
+    ) -> u64;
+    pub fn ragansils_update(
+        table: *const u64,
+        words: usize,
+        key: u64,
+        function: u64,
+        place: u64,
+        list: *mut u64,
+        list_words: usize,
+        stores: *mut u64,
+    ) -> u64;
+    pub fn ragansils_delete(
+        table: *const u64,
+        words: usize,
+        key: u64,
+        list: *mut u64,
+        list_words: usize,
+        stores: *mut u64,
+    ) -> u64;
+    pub fn ragansils_begin(
+        table: *const u64,
+        words: usize,
+        list: *mut u64,
+        list_words: usize,
+        stores: *mut u64,
+    ) -> u64;
+    pub fn ragansils_step(
+        table: *const u64,
+        words: usize,
+        list: *mut u64,
+        list_words: usize,
+        stores: *mut u64,
+    ) -> u64;
+    pub fn ragansils_end(
+        table: *const u64,
+        words: usize,
+        list: *mut u64,
+        list_words: usize,
+        stores: *mut u64,
+    ) -> u64;
+    pub fn ragansils_recover(
+        table: *const u64,
+        words: usize,
+        list: *mut u64,
+        list_words: usize,
+        stores: *mut u64,
+    ) -> u64;
+    pub fn ragansils_make(table: *mut u64, words: usize, list: *const u64, list_words: usize, n: u64) -> u64;
+}
