@@ -27,6 +27,11 @@ same() { # WHAT FILE FILE
     diff "$2" "$3" || fail "$1 differ: $2 <, $3 >"
 }
 
+# the refusals and their numbers, as the crate 'numbering' has them
+refusal_numbers() {
+    sed -n 's/^ *Refusal::\([A-Za-z]*\) => \([0-9]*\),$/\1 \2/p' crates/numbering/src/lib.rt
+}
+
 # proves and builds the library where it is missing or older than its sources, and lets cargo find it and keep its files in target/
 proved_library() {
     library=target/staticlib/libcollector.a

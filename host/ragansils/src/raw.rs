@@ -1,8 +1,8 @@
 //! The ten functions of the static library `collector`, as `include/ragansils.h` declares them.
 //!
 //! They are unsafe for what a compiler cannot see: a pointer must be aligned and valid for as many words as the length beside it says,
-//! and no two buffers of a call may overlap.
-#![allow(missing_docs)] // include/ragansils.h says what each answers and leaves
+//! and no two buffers of a call may overlap. [`calls`](crate::calls) has the same ten over slices.
+#![allow(missing_docs)] // include/ragansils.h says what each answers and leaves; `calls` says it for Rust
 
 extern "C" {
     pub fn ragansils_create(table: *mut u64, words: usize, c: u64, k: u64, mul1: u64, mul2: u64) -> u64;

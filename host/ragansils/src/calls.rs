@@ -1,0 +1,121 @@
+//! The ten functions over slices: each is one call of the library and nothing else.
+//!
+//! [`Table`](crate::Table) is the way to use them in a collector. Here a changing call is in two parts, as the library has it: the call
+//! only reads the table and lists its stores, and something else makes them.
+//!
+//! ```
+//! use ragansils::{calls, Creation, Key, Record, Refusal};
+//!
+//! let creation = Creation { capacity: 2, first_top: 1, multipliers: [4294967297, 12884901889] };
+//! let mut words = vec![0; creation.words().unwrap()];
+//! calls::create(&mut words, &creation)?;
+//!
+//! let list = calls::insert(&words, Key::from(1), Record { function: 10, place: 20 })?;
+//! assert_eq!(list.words(), [36, 1, 37, 10, 38, 20, 35, 1]);
+//!
+//! // Power goes before the token is stored: the key is not there.
+//! calls::make(&mut words, list.words(), 3)?;
+//! assert_eq!(calls::query(&words, Key::from(1))?.record, None);
+//! calls::make(&mut words, list.words(), list.count())?;
+//! assert_eq!(calls::query(&words, Key::from(1))?.record, Some(Record { function: 10, place: 20 }));
+//! # Ok::<(), Refusal>(())
+//! ```
+
+use crate::raw;
+use crate::stores::LIST_WORDS;
+use crate::{Creation, Key, Lookup, Record, Refusal, StoreList};
+
+/// Zeroes all words and writes the header of an empty table. Refusal: `BadCreation`.
+pub fn create(words: &mut [u64], creation: &Creation) -> Result<(), Refusal> {
+    let Creation { capacity, first_top, multipliers: [mul1, mul2] } = *creation;
+    let (table, length) = (words.as_mut_ptr(), words.len());
+    // SAFETY: the pointer is valid for the slice's length.
+    Refusal::check(unsafe { raw::ragansils_create(table, length, capacity, first_top, mul1, mul2) })
+}
+
+/// Looks a key up. An absent key is an answer; refusals: `BadHeader`, `FlagSet`.
+#[inline]
+pub fn query(words: &[u64], key: Key) -> Result<Lookup, Refusal> {
+    let mut answer = [0; 3];
+    // SAFETY: the pointer is valid for the slice's length, and the answer is a buffer of its own.
+    let number = unsafe { raw::ragansils_query(words.as_ptr(), words.len(), key.word(), &mut answer) };
+    let [function, place, buckets] = answer;
+    if number == Refusal::KeyAbsent.number() {
+        return Ok(Lookup { record: None, buckets });
+    }
+    Refusal::check(number)?;
+    Ok(Lookup { record: Some(Record { function, place }), buckets })
+}
+
+/// Lists the stores that bring a key in. Refusals: `BadHeader`, `FlagSet`, `KeyPresent`, `NoPlace`.
+pub fn insert(words: &[u64], key: Key, record: Record) -> Result<StoreList, Refusal> {
+    let Record { function, place } = record;
+    listed(words, |table, length, list, list_words, stores| unsafe {
+        raw::ragansils_insert(table, length, key.word(), function, place, list, list_words, stores)
+    })
+}
+
+/// Lists the stores that give a key another record. Refusals: `BadHeader`, `FlagSet`, `KeyAbsent`.
+pub fn update(words: &[u64], key: Key, record: Record) -> Result<StoreList, Refusal> {
+    let Record { function, place } = record;
+    listed(words, |table, length, list, list_words, stores| unsafe {
+        raw::ragansils_update(table, length, key.word(), function, place, list, list_words, stores)
+    })
+}
+
+/// Lists the store that takes a key out. Refusals: `BadHeader`, `FlagSet`, `KeyAbsent`.
+pub fn delete(words: &[u64], key: Key) -> Result<StoreList, Refusal> {
+    listed(words, |table, length, list, list_words, stores| unsafe {
+        raw::ragansils_delete(table, length, key.word(), list, list_words, stores)
+    })
+}
+
+/// Lists the store that begins a growth. Refusals: `BadHeader`, `FlagSet`, `AlreadyGrowing`, `AtCapacity`.
+pub fn begin(words: &[u64]) -> Result<StoreList, Refusal> {
+    whole_table(words, raw::ragansils_begin)
+}
+
+/// Lists the stores that move the first interim item. Refusals: `BadHeader`, `FlagSet`, `NotGrowing`, `InterimEmpty`, `NoPlace`.
+pub fn step(words: &[u64]) -> Result<StoreList, Refusal> {
+    whole_table(words, raw::ragansils_step)
+}
+
+/// Lists the store that ends a growth. Refusals: `BadHeader`, `FlagSet`, `NotGrowing`, `InterimTaken`.
+pub fn end(words: &[u64]) -> Result<StoreList, Refusal> {
+    whole_table(words, raw::ragansils_end)
+}
+
+/// Lists the stores that mend what a cut left: none on a sound table, else one or three. Refusals: `BadHeader`, `NoKind`.
+pub fn recover(words: &[u64]) -> Result<StoreList, Refusal> {
+    whole_table(words, raw::ragansils_recover)
+}
+
+/// Makes the first `n` stores of a list, or none of them. Refusal: `BadMaking`.
+///
+/// In which order they leave the processor's cache is not said; [`Table`](crate::Table) makes them one by one.
+pub fn make(words: &mut [u64], list: &[u64], n: u64) -> Result<(), Refusal> {
+    let (table, length) = (words.as_mut_ptr(), words.len());
+    // SAFETY: both pointers are valid for their slices' lengths, and the slices do not overlap.
+    Refusal::check(unsafe { raw::ragansils_make(table, length, list.as_ptr(), list.len(), n) })
+}
+
+/// A call that is lent a table and a list and told nothing more.
+type WholeTableCall = unsafe extern "C" fn(*const u64, usize, *mut u64, usize, *mut u64) -> u64;
+
+fn whole_table(words: &[u64], call: WholeTableCall) -> Result<StoreList, Refusal> {
+    listed(words, |table, length, list, list_words, stores| unsafe {
+        call(table, length, list, list_words, stores)
+    })
+}
+
+/// Lends a table and a fresh list to a call of the library: table and its words, list and its words, number of stores.
+///
+/// The callers' blocks are safe by this: each pointer is valid for the length beside it, and table, list and number lie apart.
+fn listed(
+    words: &[u64],
+    call: impl FnOnce(*const u64, usize, *mut u64, usize, *mut u64) -> u64,
+) -> Result<StoreList, Refusal> {
+    let mut list = StoreList { words: [0; LIST_WORDS], count: 0 };
+    let number = call(words.as_ptr(), words.len(), list.words.as_mut_ptr(), LIST_WORDS, &mut list.count);
+    Refusal::check(number).map(|()| list)
+}

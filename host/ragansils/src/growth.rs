@@ -1,0 +1,71 @@
+//! A growth in small parts.
+
+use crate::{calls, Platform, Refusal, Table};
+
+/// What one part of a growth did.
+#[derive(Clone, Copy, Debug, PartialEq, Eq)]
+pub enum Growth {
+    /// The table was at rest, and grows now: its top is twice as large.
+    Begun,
+    /// An item moved out of the interim level.
+    Moved,
+    /// The interim level was empty, and the table is at rest again.
+    Ended,
+}
+
+impl<W: AsRef<[u64]> + AsMut<[u64]>, P: Platform> Table<W, P> {
+    /// Does one part of a growth, at most ten stores: begins it, moves one item, or ends it, whichever is next.
+    ///
+    /// How far a growth is stands in the table, so that one that a cut or an end of the process broke off goes on. On a table at rest
+    /// this begins a growth, also where one has just ended. Every other call may come between two parts; but inserts fill the new top,
+    /// so a collector does a part or more of a growth with each insert.
+    ///
+    /// Refusals: `AtCapacity` where the table cannot grow any more; `NoPlace` where the next item has no place now. Then queries,
+    /// updates, deletes and inserts still work, and the growth goes on once a delete has made room.
+    pub fn grow_on(&mut self) -> Result<Growth, Refusal> {
+        match self.step() {
+            Ok(_) => Ok(Growth::Moved),
+            Err(Refusal::NotGrowing) => self.begin().map(|_| Growth::Begun),
+            Err(Refusal::InterimEmpty) => self.end().map(|_| Growth::Ended),
+            Err(refusal) => Err(refusal),
+        }
+    }
+
+    /// Does at most so many parts of one growth ([`grow_on`](Table::grow_on)), and answers whether it has ended.
+    ///
+    /// ```
+    /// use ragansils::{Creation, Key, OrdinaryMemory, Record, Refusal, Table};
+    ///
+    /// let creation = Creation { capacity: 5, first_top: 1, multipliers: [0x9e37_79b9_7f4a_7c15, 0xc2b2_ae3d_27d4_eb4f] };
+    /// let mut table = Table::create(vec![0; creation.words().unwrap()], &creation, OrdinaryMemory)?;
+    /// for line in 0..100 {
+    ///     let key = Key::new(0x5555_0000_1000 + 4 * line, 0).unwrap();
+    ///     let record = Record { function: 7, place: line };
+    ///     while table.insert(key, record) == Err(Refusal::NoPlace) {
+    ///         table.grow_on()?;
+    ///     }
+    ///     // The caller sets the pace: two parts with each insert, until the growth has ended.
+    ///     if table.is_growing()? {
+    ///         table.grow(2)?;
+    ///     }
+    /// }
+    /// # Ok::<(), Refusal>(())
+    /// ```
+    pub fn grow(&mut self, most: u64) -> Result<bool, Refusal> {
+        for _ in 0..most {
+            if self.grow_on()? == Growth::Ended {
+                return Ok(true);
+            }
+        }
+        Ok(false)
+    }
+
+    /// Whether a growth is under way. Refusals: `BadHeader`, `FlagSet`.
+    pub fn is_growing(&self) -> Result<bool, Refusal> {
+        match calls::end(self.words()) {
+            Ok(_) | Err(Refusal::InterimTaken) => Ok(true),
+            Err(Refusal::NotGrowing) => Ok(false),
+            Err(refusal) => Err(refusal),
+        }
+    }
+}

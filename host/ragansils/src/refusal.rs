@@ -1,0 +1,128 @@
+//! Why a call refused.
+
+use std::error::Error;
+use std::fmt;
+
+/// A call's refusal, by the number of the C interface; 0, which is success, is none of them.
+///
+/// A refused call changes nothing.
+///
+/// ```
+/// use ragansils::Refusal;
+///
+/// assert_eq!(Refusal::NoPlace.number(), 6);
+/// assert_eq!(Refusal::try_from(6), Ok(Refusal::NoPlace));
+/// assert!(Refusal::try_from(0).is_err());
+/// assert_eq!(Refusal::KeyAbsent.to_string(), "the key is absent (refusal 5)");
+/// ```
+#[derive(Clone, Copy, Debug, PartialEq, Eq, Hash)]
+#[non_exhaustive]
+pub enum Refusal {
+    /// Length, form, capacity exponent, multipliers or state are bad: these words are no table.
+    BadHeader = 1,
+    /// The lent list is shorter than 20 words.
+    ShortList = 2,
+    /// The update flag is not 0: an update was cut, and recovery comes first.
+    FlagSet = 3,
+    /// Insert: the key is present.
+    KeyPresent = 4,
+    /// Update and delete: the key is absent.
+    KeyAbsent = 5,
+    /// Insert and growth step: there is no place. The table may grow, something may be deleted, or the step may be tried later.
+    NoPlace = 6,
+    /// Begin: the table is growing already.
+    AlreadyGrowing = 7,
+    /// Step and end: the table is not growing.
+    NotGrowing = 8,
+    /// Begin: the table is as large as its words allow.
+    AtCapacity = 9,
+    /// End: there are items in the interim level, which steps move.
+    InterimTaken = 10,
+    /// Step: the interim level is empty, so growth can end.
+    InterimEmpty = 11,
+    /// Recovery: the table is none of the three kinds that a cut leaves.
+    NoKind = 12,
+    /// Creation: capacity exponent, first top, length or a multiplier are bad.
+    BadCreation = 13,
+    /// Making: the stores are not in the list, or one is outside the table.
+    BadMaking = 14,
+}
+
+/// A number that is no refusal's.
+#[derive(Clone, Copy, Debug, PartialEq, Eq)]
+pub struct UnknownNumber(pub u64);
+
+impl Refusal {
+    /// Every refusal, by its number.
+    pub const ALL: [Refusal; 14] = [
+        Refusal::BadHeader,
+        Refusal::ShortList,
+        Refusal::FlagSet,
+        Refusal::KeyPresent,
+        Refusal::KeyAbsent,
+        Refusal::NoPlace,
+        Refusal::AlreadyGrowing,
+        Refusal::NotGrowing,
+        Refusal::AtCapacity,
+        Refusal::InterimTaken,
+        Refusal::InterimEmpty,
+        Refusal::NoKind,
+        Refusal::BadCreation,
+        Refusal::BadMaking,
+    ];
+
+    /// The number of the C interface.
+    pub fn number(self) -> u64 {
+        self as u64
+    }
+
+    /// What a number of the library means.
+    pub(crate) fn check(number: u64) -> Result<(), Refusal> {
+        match number {
+            0 => Ok(()),
+            _ => Err(Refusal::try_from(number).expect("the library answers 0 or the number of a refusal")),
+        }
+    }
+
+    fn words(self) -> &'static str {
+        match self {
+            Refusal::BadHeader => "length, form, capacity exponent, multipliers or state are bad",
+            Refusal::ShortList => "the list is shorter than 20 words",
+            Refusal::FlagSet => "the update flag is not 0, so recovery comes first",
+            Refusal::KeyPresent => "the key is present",
+            Refusal::KeyAbsent => "the key is absent",
+            Refusal::NoPlace => "there is no place for the item",
+            Refusal::AlreadyGrowing => "the table is growing already",
+            Refusal::NotGrowing => "the table is not growing",
+            Refusal::AtCapacity => "the table is as large as its words allow",
+            Refusal::InterimTaken => "the interim level is not empty",
+            Refusal::InterimEmpty => "the interim level is empty",
+            Refusal::NoKind => "the table is none of the kinds that recovery accepts",
+            Refusal::BadCreation => "capacity exponent, first top, length or a multiplier are bad",
+            Refusal::BadMaking => "the stores are not in the list, or one is outside the table",
+        }
+    }
+}
+
+impl TryFrom<u64> for Refusal {
+    type Error = UnknownNumber;
+
+    fn try_from(number: u64) -> Result<Refusal, UnknownNumber> {
+        Refusal::ALL.into_iter().find(|refusal| refusal.number() == number).ok_or(UnknownNumber(number))
+    }
+}
+
+impl fmt::Display for Refusal {
+    fn fmt(&self, f: &mut fmt::Formatter) -> fmt::Result {
+        write!(f, "{} (refusal {})", self.words(), self.number())
+    }
+}
+
+impl fmt::Display for UnknownNumber {
+    fn fmt(&self, f: &mut fmt::Formatter) -> fmt::Result {
+        write!(f, "{} is not the number of a refusal", self.0)
+    }
+}
+
+impl Error for Refusal {}
+impl Error for UnknownNumber {}

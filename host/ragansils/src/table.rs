@@ -1,0 +1,115 @@
+//! A table that makes its own stores.
+
+use crate::stores::make_in_order;
+use crate::{calls, Creation, Key, Lookup, Platform, Record, Refusal, StoreList};
+
+/// A position table over words that it is lent: a `&mut [u64]` or a `Vec<u64>`.
+///
+/// A change asks the library for its stores and makes them one by one, in order, each followed by the
+/// [`Platform`]'s own act. The process may end, or power go, after any of them: the next [`open`](Table::open) brings back the map
+/// before the change or the map after it. A change that is refused leaves everything as it was.
+///
+/// ```
+/// use ragansils::{Creation, Key, OrdinaryMemory, Record, Refusal, Table};
+///
+/// let creation = Creation { capacity: 4, first_top: 1, multipliers: [0x9e37_79b9_7f4a_7c15, 0xc2b2_ae3d_27d4_eb4f] };
+/// let mut words = vec![0; creation.words().unwrap()];
+/// let mut table = Table::create(words.as_mut_slice(), &creation, OrdinaryMemory)?;
+///
+/// let key = Key::new(0x5555_0000_1040, 0).unwrap();
+/// table.insert(key, Record { function: 7, place: 120 })?;
+/// assert_eq!(table.insert(key, Record { function: 8, place: 0 }), Err(Refusal::KeyPresent));
+/// table.update(key, Record { function: 7, place: 123 })?;
+/// assert_eq!(table.query(key)?.record, Some(Record { function: 7, place: 123 }));
+/// table.delete(key)?;
+/// assert_eq!(table.query(key)?.record, None);
+/// # Ok::<(), Refusal>(())
+/// ```
+#[derive(Debug)]
+pub struct Table<W, P> {
+    words: W,
+    platform: P,
+}
+
+impl<W: AsRef<[u64]> + AsMut<[u64]>, P: Platform> Table<W, P> {
+    /// Makes an empty table in words of exactly the right number ([`Creation::words`]), whatever they held.
+    ///
+    /// A cut in creation is not covered, and the platform is not told of its stores: make the words lasting before anything relies on
+    /// them. Refusal: `BadCreation`.
+    pub fn create(mut words: W, creation: &Creation, platform: P) -> Result<Table<W, P>, Refusal> {
+        calls::create(words.as_mut(), creation)?;
+        Ok(Table { words, platform })
+    }
+
+    /// Takes up a table where an earlier process left it: looks at the whole table, and mends what a cut left, by at most three
+    /// stores. Where that is cut too, the next open does it again.
+    ///
+    /// Refusals: `BadHeader` where the words are no table, `NoKind` where they are damaged otherwise than by a cut. Either leaves the
+    /// words as they are.
+    pub fn open(words: W, platform: P) -> Result<Table<W, P>, Refusal> {
+        let mut table = Table { words, platform };
+        table.recover()?;
+        Ok(table)
+    }
+
+    /// Looks a key up. Refusals: `BadHeader`, `FlagSet`; neither comes on a table that was opened or created.
+    #[inline]
+    pub fn query(&self, key: Key) -> Result<Lookup, Refusal> {
+        calls::query(self.words(), key)
+    }
+
+    /// Brings a key in that is absent, by 4 stores or 9, and answers their number. Refusals: `KeyPresent`, and `NoPlace`, where
+    /// [`grow`](Table::grow) makes room.
+    pub fn insert(&mut self, key: Key, record: Record) -> Result<u64, Refusal> {
+        self.change(|words| calls::insert(words, key, record))
+    }
+
+    /// Gives a key another record, by 4 stores or 7, and answers their number. No cut leaves the old function beside the new place.
+    /// Refusal: `KeyAbsent`.
+    pub fn update(&mut self, key: Key, record: Record) -> Result<u64, Refusal> {
+        self.change(|words| calls::update(words, key, record))
+    }
+
+    /// Takes a key out, by 1 store. Refusal: `KeyAbsent`.
+    pub fn delete(&mut self, key: Key) -> Result<u64, Refusal> {
+        self.change(|words| calls::delete(words, key))
+    }
+
+    /// Begins a growth, by 1 store: the top becomes twice as large. Refusals: `AlreadyGrowing`, `AtCapacity`.
+    pub fn begin(&mut self) -> Result<u64, Refusal> {
+        self.change(calls::begin)
+    }
+
+    /// Moves the first item of the interim level, by 5 stores or 10, and answers their number. Refusals: `NotGrowing`, `InterimEmpty`,
+    /// `NoPlace`.
+    pub fn step(&mut self) -> Result<u64, Refusal> {
+        self.change(calls::step)
+    }
+
+    /// Ends a growth, by 1 store. Refusals: `NotGrowing`, `InterimTaken`.
+    pub fn end(&mut self) -> Result<u64, Refusal> {
+        self.change(calls::end)
+    }
+
+    /// Mends what a cut left, by no store, 1 or 3, and answers their number. [`open`](Table::open) has done so; it is needed again
+    /// only where a platform's act panicked in the middle of a change. Refusals: `BadHeader`, `NoKind`.
+    pub fn recover(&mut self) -> Result<u64, Refusal> {
+        self.change(calls::recover)
+    }
+
+    /// The table's words.
+    pub fn words(&self) -> &[u64] {
+        self.words.as_ref()
+    }
+
+    /// Gives back what was lent.
+    pub fn into_parts(self) -> (W, P) {
+        (self.words, self.platform)
+    }
+
+    fn change(&mut self, list: impl FnOnce(&[u64]) -> Result<StoreList, Refusal>) -> Result<u64, Refusal> {
+        let list = list(self.words())?;
+        make_in_order(self.words.as_mut(), &list, &mut self.platform);
+        Ok(list.count())
+    }
+}

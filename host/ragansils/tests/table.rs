@@ -1,0 +1,247 @@
+//! A table over lent words: its stores, its refusals, its growth.
+
+use std::panic::{catch_unwind, AssertUnwindSafe};
+
+use ragansils::{calls, Creation, Growth, Key, OrdinaryMemory, Record, Refusal, Store, StoreList, Table};
+
+/// The table of document 01's marked examples.
+const MARKED: Creation = Creation { capacity: 2, first_top: 1, multipliers: [4294967297, 12884901889] };
+const NEW: Record = Record { function: 30, place: 40 };
+
+fn empty_words() -> Vec<u64> {
+    let mut words = vec![0; MARKED.words().unwrap()];
+    calls::create(&mut words, &MARKED).unwrap();
+    words
+}
+
+fn record_of(key: u64) -> Record {
+    Record { function: 100 + key, place: 200 + key }
+}
+
+/// Keys that are odd and below 8 fill one bucket of the top; the next ones go to the bottom.
+fn filled_with(keys: impl IntoIterator<Item = u64>) -> Vec<u64> {
+    let mut table = Table::open(empty_words(), OrdinaryMemory).unwrap();
+    for key in keys {
+        table.insert(key.into(), record_of(key)).unwrap();
+    }
+    table.into_parts().0
+}
+
+fn after(mut words: Vec<u64>, list: Lister, kept: Option<u64>) -> Vec<u64> {
+    let list = list(&words).unwrap();
+    calls::make(&mut words, list.words(), kept.unwrap_or(list.count())).unwrap();
+    words
+}
+
+type Lister = fn(&[u64]) -> Result<StoreList, Refusal>;
+type Hook<'a> = &'a mut dyn FnMut(&u64);
+type Change = fn(&mut Table<&mut [u64], Hook>) -> Result<u64, Refusal>;
+
+/// A method that changes a table, beside the call whose stores it should make.
+struct Row {
+    words: Vec<u64>,
+    list: Lister,
+    change: Change,
+}
+
+/// Every change, on a sound table where it lists some stores.
+fn every_change() -> Vec<Row> {
+    let growing = after(filled_with([1, 3, 5, 7, 9]), calls::begin, None);
+    let moved = after(growing.clone(), calls::step, None);
+    let row = |words, list, change| Row { words, list, change };
+    vec![
+        row(empty_words(), |words| calls::insert(words, 1.into(), NEW), |table| table.insert(1.into(), NEW)),
+        row(
+            filled_with([1]),
+            |words| calls::update(words, 1.into(), NEW),
+            |table| table.update(1.into(), NEW),
+        ),
+        row(filled_with([1, 3, 5, 7]), updated_3, |table| table.update(3.into(), NEW)),
+        row(filled_with([1, 3]), |words| calls::delete(words, 3.into()), |table| table.delete(3.into())),
+        row(filled_with([1, 3]), calls::begin, |table| table.begin()),
+        row(growing, calls::step, |table| table.step()),
+        row(moved, calls::end, |table| table.end()),
+    ]
+}
+
+fn updated_3(words: &[u64]) -> Result<StoreList, Refusal> {
+    calls::update(words, 3.into(), NEW)
+}
+
+/// The records of all keys that these tests use.
+fn map_of(words: &[u64]) -> Vec<Option<Record>> {
+    (0..20).map(|key| calls::query(words, Key::from(key)).unwrap().record).collect()
+}
+
+#[test]
+fn a_change_makes_the_listed_stores_in_order() {
+    for Row { mut words, list, change } in every_change() {
+        let list = list(&words).unwrap();
+        let mut made = words.clone();
+        calls::make(&mut made, list.words(), list.count()).unwrap();
+
+        let first = words.as_ptr();
+        let mut seen = vec![];
+        // SAFETY: both point into the same words.
+        let index = |word: &u64| unsafe { (word as *const u64).offset_from(first) } as usize;
+        let mut hook = |word: &u64| seen.push(Store { index: index(word), value: *word });
+        let mut table = Table::open(words.as_mut_slice(), &mut hook as Hook).unwrap();
+        assert_eq!(change(&mut table), Ok(list.count()));
+        assert_eq!(seen, list.stores().collect::<Vec<_>>());
+        assert_eq!(words, made);
+    }
+}
+
+/// Opens words with a hook that panics after so many stores; answers whether it did.
+fn cut(words: &mut [u64], kept: u64, change: impl FnOnce(&mut Table<&mut [u64], Hook>)) -> bool {
+    let mut made = 0;
+    let mut hook = |_: &u64| {
+        made += 1;
+        if made == kept {
+            // No message, unlike panic!: this one is meant.
+            std::panic::resume_unwind(Box::new("cut"));
+        }
+    };
+    let run = || change(&mut Table::open(words, &mut hook as Hook).unwrap());
+    catch_unwind(AssertUnwindSafe(run)).is_err()
+}
+
+#[test]
+fn a_change_cut_after_any_store_is_mended_by_open() {
+    for Row { words, list, change } in every_change() {
+        let count = list(&words).unwrap().count();
+        let maps = [map_of(&words), map_of(&after(words.clone(), list, None))];
+        for kept in 1..=count {
+            let mut words = words.clone();
+            assert!(cut(&mut words, kept, |table| assert!(change(table).is_ok())));
+            let table = Table::open(words, OrdinaryMemory).unwrap();
+            assert!(maps.contains(&map_of(table.words())), "cut after {kept} of {count} stores");
+        }
+    }
+}
+
+#[test]
+fn open_mends_and_may_be_cut_too() {
+    let half_updated = after(filled_with([1, 3, 5, 7]), updated_3, Some(5));
+    for kept in 1..=3 {
+        let mut words = half_updated.clone();
+        assert!(cut(&mut words, kept, |_| ()));
+        let table = Table::open(words.as_mut_slice(), OrdinaryMemory).unwrap();
+        assert_eq!(table.query(3.into()).unwrap().record, Some(NEW));
+        assert_eq!(calls::recover(&words).unwrap().count(), 0);
+    }
+    assert!(!cut(&mut half_updated.clone(), 4, |_| ()));
+}
+
+#[test]
+fn a_refused_change_leaves_everything() {
+    let words = filled_with((1..16).step_by(2));
+    let mut table = Table::open(words.clone(), |_: &u64| panic!("a refused change has no stores")).unwrap();
+    assert_eq!(table.insert(1.into(), NEW), Err(Refusal::KeyPresent));
+    assert_eq!(table.insert(17.into(), NEW), Err(Refusal::NoPlace));
+    assert_eq!(table.update(2.into(), NEW), Err(Refusal::KeyAbsent));
+    assert_eq!(table.delete(2.into()), Err(Refusal::KeyAbsent));
+    assert_eq!(table.step(), Err(Refusal::NotGrowing));
+    assert_eq!(table.end(), Err(Refusal::NotGrowing));
+    assert_eq!(table.words(), words);
+}
+
+#[test]
+fn words_that_are_no_table_are_refused_and_left() {
+    let mut damaged = filled_with([1]);
+    damaged[5] = 2;
+    let mut other_form = empty_words();
+    other_form[0] = 2;
+    let short = empty_words()[1..].to_vec();
+    let rows = [
+        (damaged, Refusal::NoKind),
+        (other_form, Refusal::BadHeader),
+        (short, Refusal::BadHeader),
+        (vec![], Refusal::BadHeader),
+    ];
+    for (words, refusal) in rows {
+        let mut lent = words.clone();
+        assert_eq!(Table::open(lent.as_mut_slice(), OrdinaryMemory).map(drop), Err(refusal));
+        assert_eq!(lent, words);
+    }
+}
+
+#[test]
+fn a_creation_that_is_not_allowed_is_refused_and_leaves_the_words() {
+    let words = vec![7; MARKED.words().unwrap()];
+    let bad = [
+        Creation { capacity: 0, ..MARKED },
+        Creation { capacity: 3, ..MARKED },
+        Creation { first_top: 3, ..MARKED },
+        Creation { multipliers: [1, 2], ..MARKED },
+    ];
+    for creation in bad {
+        let mut lent = words.clone();
+        let created = Table::create(lent.as_mut_slice(), &creation, OrdinaryMemory);
+        assert_eq!(created.map(drop), Err(Refusal::BadCreation));
+        assert_eq!(lent, words);
+    }
+    assert_eq!(Creation { capacity: 0, ..MARKED }.words(), None);
+    assert_eq!(Creation { capacity: 21, ..MARKED }.words(), None);
+}
+
+#[test]
+fn a_growth_goes_part_by_part_and_keeps_the_map() {
+    let mut table = Table::open(filled_with([1, 3, 5, 7, 9, 11]), OrdinaryMemory).unwrap();
+    let map = map_of(table.words());
+    let mut parts = vec![];
+    while parts.last() != Some(&Growth::Ended) {
+        parts.push(table.grow_on().unwrap());
+        assert_eq!(table.is_growing(), Ok(parts.last() != Some(&Growth::Ended)));
+        assert_eq!(map_of(table.words()), map);
+    }
+    assert_eq!(parts, [Growth::Begun, Growth::Moved, Growth::Moved, Growth::Ended]);
+    assert_eq!(table.grow_on(), Err(Refusal::AtCapacity));
+}
+
+#[test]
+fn a_growth_is_paced_and_goes_on_after_open() {
+    let words = filled_with([1, 3, 5, 7, 9, 11]);
+    let mut table = Table::open(words, OrdinaryMemory).unwrap();
+    assert_eq!(table.grow(0), Ok(false));
+    assert_eq!(table.is_growing(), Ok(false));
+    assert_eq!(table.grow(2), Ok(false));
+    let mut table = Table::open(table.into_parts().0, OrdinaryMemory).unwrap();
+    assert_eq!(table.is_growing(), Ok(true));
+    assert_eq!(table.grow(u64::MAX), Ok(true));
+    assert_eq!(table.is_growing(), Ok(false));
+}
+
+/// Document 01's E11: the first interim item has no place.
+#[test]
+fn a_growth_without_a_place_goes_on_once_there_is_one() {
+    let creation = Creation { multipliers: [MARKED.multipliers[0]; 2], ..MARKED };
+    let words = vec![0; creation.words().unwrap()];
+    let mut table = Table::create(words, &creation, OrdinaryMemory).unwrap();
+    for key in (0..32).step_by(4) {
+        table.insert(key.into(), NEW).unwrap();
+    }
+    assert_eq!(table.grow_on(), Ok(Growth::Begun));
+    for key in (32..48).step_by(4) {
+        table.insert(key.into(), NEW).unwrap();
+    }
+    assert_eq!(table.grow(10), Err(Refusal::NoPlace));
+    assert_eq!(table.query(0.into()).unwrap().record, Some(NEW));
+    table.delete(32.into()).unwrap();
+    assert_eq!(table.grow_on(), Ok(Growth::Moved));
+}
+
+#[test]
+fn refusals_have_the_numbers_1_to_14() {
+    let numbers = Refusal::ALL.map(Refusal::number);
+    assert_eq!(numbers.to_vec(), (1..=14).collect::<Vec<u64>>());
+    assert!([0, 15, u64::MAX].into_iter().all(|number| Refusal::try_from(number).is_err()));
+}
+
+#[test]
+fn keys_hold_56_bits_of_an_address() {
+    let last = (1 << 56) - 1;
+    assert_eq!(Key::new(last, 255).map(Key::word), Some(u64::MAX));
+    assert_eq!(Key::new(last + 1, 0), None);
+    assert_eq!(Key::new(u64::MAX, 0), None);
+}
