@@ -23,6 +23,11 @@ impl Creation {
     }
 }
 
+/// Whether a table can have so many words.
+pub fn is_table_length(words: usize) -> bool {
+    lengths().any(|(_, length)| length == words)
+}
+
 /// Each capacity exponent and its table's words: a header of 9, and 13 for each of 2^(c+1) - 1 buckets.
 fn lengths() -> impl Iterator<Item = (u64, usize)> {
     (1..=20).map(|capacity| (capacity, 9 + 13 * ((2 << capacity) - 1)))

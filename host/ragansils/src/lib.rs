@@ -1,6 +1,7 @@
 //! A position table for a sampling profiler's collector: code address and inlining depth lead to a function and a place.
 //!
-//! The table stands in 64-bit words that are lent to it, and is made for memory that keeps its words when power goes. Every change is an ordered list of at most ten word stores, and power may go after any of them.
+//! The table stands in 64-bit words that are lent to it, in ordinary memory or in a mapped file, and is made for memory that keeps its
+//! words when power goes. Every change is an ordered list of at most ten word stores, and power may go after any of them.
 //!
 //! The work is done by the static library `collector`, written in Rattle and proved to answer as its rules say on every input; this
 //! crate is thin over its ten functions and has no other dependency. What is proved ends at the library: that stores are made in order
@@ -11,20 +12,47 @@
 //! - [`calls`]: the same over slices, safe;
 //! - [`Key`], [`Record`], [`Lookup`], [`Creation`], [`Refusal`]: what goes in and comes out;
 //! - [`StoreList`], [`Platform`]: stores, and what a platform does after each;
-//! - [`Table`]: a table that makes its own stores, and grows in small parts ([`Growth`]).
+//! - [`Table`]: a table that makes its own stores, and grows in small parts ([`Growth`]);
+//! - [`MappedFile`]: words in a file, with [`words_of`] and [`bytes_of`] for a file that is only read.
+//!
+//! ```
+//! use ragansils::{Creation, Key, MappedFile, OrdinaryMemory, Record, Table};
+//!
+//! # let folder = std::env::temp_dir().join(format!("ragansils-doc-{}", std::process::id()));
+//! # std::fs::create_dir_all(&folder)?;
+//! # let path = folder.join("positions.table");
+//! // Once:
+//! let creation = Creation { capacity: 8, first_top: 1, multipliers: [0x9e37_79b9_7f4a_7c15, 0xc2b2_ae3d_27d4_eb4f] };
+//! MappedFile::create(&path, &creation)?;
+//!
+//! // At each start of the collector; what a cut left is mended here:
+//! let mut table = Table::open(MappedFile::open(&path)?, OrdinaryMemory)?;
+//! let key = Key::new(0x5555_0000_1040, 1).ok_or("no key")?;
+//! table.insert(key, Record { function: 7, place: 120 })?;
+//! assert_eq!(table.query(key)?.record, Some(Record { function: 7, place: 120 }));
+//! # drop(table);
+//! # std::fs::remove_dir_all(&folder)?;
+//! # Ok::<(), Box<dyn std::error::Error>>(())
+//! ```
 #![deny(missing_docs)]
 
+mod bytes;
 pub mod calls;
 mod creation;
 mod growth;
+#[cfg(all(target_os = "linux", target_pointer_width = "64"))]
+mod mapped;
 mod position;
 pub mod raw;
 mod refusal;
 mod stores;
 mod table;
 
+pub use bytes::{bytes_of, words_of};
 pub use creation::Creation;
 pub use growth::Growth;
+#[cfg(all(target_os = "linux", target_pointer_width = "64"))]
+pub use mapped::{FileError, MappedFile};
 pub use position::{Key, Lookup, Record};
 pub use refusal::{Refusal, UnknownNumber};
 pub use stores::{OrdinaryMemory, Platform, Store, StoreList};

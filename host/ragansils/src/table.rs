@@ -3,11 +3,11 @@
 use crate::stores::make_in_order;
 use crate::{calls, Creation, Key, Lookup, Platform, Record, Refusal, StoreList};
 
-/// A position table over words that it is lent: a `&mut [u64]` or a `Vec<u64>`.
+/// A position table over words that it is lent: a `&mut [u64]`, a `Vec<u64>`, or a [`MappedFile`](crate::MappedFile).
 ///
-/// A change asks the library for its stores and makes them one by one, in order, each followed by the
-/// [`Platform`]'s own act. The process may end, or power go, after any of them: the next [`open`](Table::open) brings back the map
-/// before the change or the map after it. A change that is refused leaves everything as it was.
+/// A change asks the library for its stores and makes them one by one, in order, each followed by the [`Platform`]'s own act. The
+/// process may end, or power go, after any of them: the next [`open`](Table::open) brings back the map before the change or the map
+/// after it. A change that is refused leaves everything as it was.
 ///
 /// ```
 /// use ragansils::{Creation, Key, OrdinaryMemory, Record, Refusal, Table};
@@ -45,7 +45,7 @@ impl<W: AsRef<[u64]> + AsMut<[u64]>, P: Platform> Table<W, P> {
     /// stores. Where that is cut too, the next open does it again.
     ///
     /// Refusals: `BadHeader` where the words are no table, `NoKind` where they are damaged otherwise than by a cut. Either leaves the
-    /// words as they are.
+    /// words as they are; the program `ragansils-inspect` says what is wrong.
     pub fn open(words: W, platform: P) -> Result<Table<W, P>, Refusal> {
         let mut table = Table { words, platform };
         table.recover()?;
