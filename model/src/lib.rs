@@ -5,7 +5,7 @@
 //! - `refusal`: the refusal numbers;
 //! - `table`: reading a table whose header is good;
 //! - `placing`: where a new item would go;
-//! - `recovery`: which of the three kinds a table is;
+//! - `recovery`: which of the three kinds a table is, and what is unsound;
 //! - `calls`: the ten calls, over raw words;
 //! - `event`: the changing calls and recovery, as values;
 //! - `script_lines`: reading the lines of a script;
@@ -28,7 +28,8 @@ mod table;
 pub use calls::{begin, create, delete, end, insert, make, query, recover, step, update};
 pub use event::Event;
 pub use layout::{table_words, word, Level, Slot, LEAST_LIST_WORDS, SLOTS_PER_BUCKET};
+pub use recovery::{keys_in_several_slots, misplaced_items, untidy_buckets, update_target};
 pub use refusal::{Refusal, SUCCESS};
 pub use script::{run as run_script, LARGEST_PROGRAM_CAPACITY};
 pub use script_lines::LONGEST_LINE;
-pub use table::{State, Table};
+pub use table::{State, Table, PHASE_UNIT};

@@ -2,7 +2,7 @@
 
 use std::collections::BTreeMap;
 
-use crate::layout::{word, Slot};
+use crate::layout::{word, Level, Slot};
 use crate::table::Table;
 
 #[derive(Clone, Copy, Debug, PartialEq, Eq)]
@@ -15,7 +15,7 @@ pub enum Kind {
 }
 
 pub fn judge(table: &Table) -> Option<Kind> {
-    if !tokens_good(table) || !items_in_their_places(table) {
+    if !untidy_buckets(table).is_empty() || !misplaced_items(table).is_empty() {
         return None;
     }
     let doubled = keys_in_several_slots(table);
@@ -27,24 +27,27 @@ pub fn judge(table: &Table) -> Option<Kind> {
     }
 }
 
-/// Every token word at most 15, and 0 in levels not in use.
-fn tokens_good(table: &Table) -> bool {
+/// The buckets whose token word is above 15, or not 0 in a level not in use.
+pub fn untidy_buckets(table: &Table) -> Vec<usize> {
     let in_use = table.levels_in_use();
-    table.all_levels().into_iter().all(|level| {
+    let untidy = |level: Level| {
         let largest = if in_use.contains(&level) { 15 } else { 0 };
-        level.buckets().all(|bucket| table.raw_token(bucket) <= largest)
-    })
+        level.buckets().filter(move |&bucket| table.raw_token(bucket) > largest)
+    };
+    table.all_levels().into_iter().flat_map(untidy).collect()
 }
 
-fn items_in_their_places(table: &Table) -> bool {
-    table.levels_in_use().into_iter().all(|level| {
-        let items = table.taken_slots(&[level]);
-        items.into_iter().all(|slot| table.places(table.key(slot), level).contains(&slot.bucket))
-    })
+/// The taken slots that are in no place of their key.
+pub fn misplaced_items(table: &Table) -> Vec<Slot> {
+    let misplaced = |level: Level| {
+        let items = table.taken_slots(&[level]).into_iter();
+        items.filter(move |&slot| !table.places(table.key(slot), level).contains(&slot.bucket))
+    };
+    table.levels_in_use().into_iter().flat_map(misplaced).collect()
 }
 
 /// The slots of each key that stands in more than one, in the order of clearing.
-fn keys_in_several_slots(table: &Table) -> Vec<Vec<Slot>> {
+pub fn keys_in_several_slots(table: &Table) -> Vec<Vec<Slot>> {
     let mut slots_by_key: BTreeMap<u64, Vec<Slot>> = BTreeMap::new();
     for slot in table.taken_slots(&table.levels_in_use()) {
         slots_by_key.entry(table.key(slot)).or_default().push(slot);
@@ -61,7 +64,7 @@ fn equal_pair(table: &Table, slots: &[Slot]) -> Option<Slot> {
 }
 
 /// The taken slot in a level in use whose key word the update target names.
-fn update_target(table: &Table) -> Option<Slot> {
+pub fn update_target(table: &Table) -> Option<Slot> {
     let target = table.word(word::UPDATE_TARGET);
     let items = table.taken_slots(&table.levels_in_use());
     items.into_iter().find(|slot| slot.key_word() as u64 == target)

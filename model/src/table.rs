@@ -6,7 +6,8 @@ use crate::refusal::Refusal;
 
 /// Token words are read modulo this.
 const TOKEN_MODULUS: u64 = 16;
-const PHASE_UNIT: u64 = 256;
+/// The state word is k and so many times the phase.
+pub const PHASE_UNIT: u64 = 256;
 
 /// The state of a table: its top level has 2^k buckets.
 #[derive(Clone, Copy, Debug, PartialEq, Eq)]
