@@ -71,7 +71,8 @@ pub fn read_case(text: &str) -> Result<(Check, Case), String> {
     Ok((check, Case { call, table: words("table")?, list: words("list")? }))
 }
 
-fn read_call(op: &str, number: impl Fn(&str) -> Result<u64, String>) -> Result<Call, String> {
+/// The call of a name, with a function from the names of its arguments to their values.
+pub fn read_call(op: &str, number: impl Fn(&str) -> Result<u64, String>) -> Result<Call, String> {
     let event = match op {
         "create" => {
             let (c, k) = (number("cap")?, number("top")?);
