@@ -1,0 +1,271 @@
+//! What the program tells of sound, cut and damaged tables, and of files that are none.
+
+use std::fs;
+use std::path::{Path, PathBuf};
+use std::process::{Command, Output};
+
+use ragansils::{bytes_of, calls, Creation, Record, Refusal};
+use ragansils_compare::damage::damage;
+use ragansils_compare::random::Random;
+
+const MARKED: Creation = Creation { capacity: 2, first_top: 1, multipliers: [4294967297, 12884901889] };
+
+/// A file of its own for each test.
+fn path(name: &str) -> PathBuf {
+    Path::new(env!("CARGO_TARGET_TMPDIR")).join(name)
+}
+
+fn run(arguments: &[&str]) -> Output {
+    Command::new(env!("CARGO_BIN_EXE_ragansils-inspect")).args(arguments).output().unwrap()
+}
+
+/// What is told of a file of these bytes, and the exit status.
+fn told_of_bytes(name: &str, bytes: &[u8]) -> (String, i32) {
+    let path = path(name);
+    fs::write(&path, bytes).unwrap();
+    let output = run(&[path.to_str().unwrap()]);
+    assert!(output.stderr.is_empty(), "{}", String::from_utf8_lossy(&output.stderr));
+    assert_eq!(fs::read(&path).unwrap(), bytes, "the file is only read");
+    (String::from_utf8(output.stdout).unwrap(), output.status.code().unwrap())
+}
+
+fn told_of(name: &str, words: &[u64]) -> (String, i32) {
+    told_of_bytes(name, &bytes_of(words))
+}
+
+fn has(told: (String, i32), status: i32, lines: &[&str]) {
+    assert_eq!(told.1, status, "{}", told.0);
+    for line in lines {
+        assert!(told.0.lines().any(|told| told.trim() == *line), "no line '{line}' in\n{}", told.0);
+    }
+}
+
+fn empty(creation: &Creation) -> Vec<u64> {
+    let mut words = vec![0; creation.words().unwrap()];
+    calls::create(&mut words, creation).unwrap();
+    words
+}
+
+/// A table with these keys, each with a record of its own.
+fn table(keys: impl IntoIterator<Item = u64>) -> Vec<u64> {
+    let mut words = empty(&MARKED);
+    for key in keys {
+        let list =
+            calls::insert(&words, key.into(), Record { function: 100 + key, place: 200 + key }).unwrap();
+        calls::make(&mut words, list.words(), list.count()).unwrap();
+    }
+    words
+}
+
+/// The same with some words changed.
+fn with(mut words: Vec<u64>, changes: &[(usize, u64)]) -> Vec<u64> {
+    for &(index, value) in changes {
+        words[index] = value;
+    }
+    words
+}
+
+#[test]
+fn a_sound_table_is_drawn() {
+    has(
+        told_of("sound", &table([1, 3, 5, 7, 9])),
+        0,
+        &[
+            "state        1: k = 1, at rest",
+            "top             2 buckets,        4 of        8 slots taken,  50.0 % [##########..........]",
+            "bottom          1 buckets,        1 of        4 slots taken,  25.0 % [#####...............]",
+            "in all          3 buckets,        5 of       12 slots taken,  41.7 % [########............]",
+            "top      |.4|",
+            "bottom   |1|",
+            "sound",
+            "would do nothing",
+        ],
+    );
+}
+
+#[test]
+fn a_large_level_is_drawn_with_several_buckets_to_a_digit() {
+    let mut words = empty(&Creation { capacity: 8, first_top: 8, ..MARKED });
+    // Slots 0 and 1 of the first top bucket, and slot 0 of the last.
+    words[9 + 13 * 255] = 3;
+    words[9 + 13 * 255 + 4] = 256;
+    words[9 + 13 * 510] = 1;
+    words[9 + 13 * 510 + 1] = 255;
+    let dots = ".".repeat(62);
+    has(
+        told_of("large", &words),
+        0,
+        &[
+            "buckets, each by its taken slots (up to 4 together, rounded up):",
+            &format!("top      |1{dots}1|"),
+        ],
+    );
+}
+
+#[test]
+fn an_update_that_was_cut_would_be_made_again() {
+    let cut = with(table([1, 3, 5, 7]), &[(6, 36), (7, 30), (8, 40), (5, 1), (37, 30)]);
+    has(
+        told_of("flagged", &cut),
+        1,
+        &[
+            "update log   target 36, function 30, place 40",
+            "- the update flag is 1: an update of key 1 (address 0x0, depth 1) was cut",
+            "would write function 30 and place 40 of key 1 (address 0x0, depth 1) again, in slot 0 of top bucket 2, and clear the update flag",
+            "word 37 becomes 30",
+            "word 38 becomes 40",
+            "word 5 becomes 0",
+        ],
+    );
+}
+
+#[test]
+fn the_later_of_two_copies_would_go() {
+    // Key 3 in the bottom bucket too.
+    let doubled = with(table([3]), &[(9, 1), (10, 3), (11, 103), (12, 203)]);
+    has(
+        told_of("doubled", &doubled),
+        1,
+        &[
+            "- key 3 (address 0x0, depth 3) stands in 2 slots with equal records: slot 0 of top bucket 2, slot 0 of bottom bucket 0",
+            "would clear the later of two equal copies of key 3 (address 0x0, depth 3): slot 0 of bottom bucket 0",
+            "word 9 becomes 0",
+        ],
+    );
+}
+
+#[test]
+fn what_is_damaged_is_named() {
+    let double = [(9, 1), (10, 3), (11, 103), (12, 999)];
+    let rows: [(&str, Vec<u64>, &str); 7] = [
+        ("flag", with(table([1]), &[(5, 2)]), "the update flag is 2, which is neither 0 nor 1"),
+        (
+            "target",
+            with(table([1]), &[(5, 1), (6, 39)]),
+            "the update flag is 1, and the update target 39 is no taken slot's key word",
+        ),
+        ("token", with(table([1]), &[(35, 17)]), "the token word of bucket 2 is 17, which is above 15"),
+        (
+            "unused",
+            with(table([1]), &[(48, 1)]),
+            "the token word of bucket 3 is 1, and its level is not in use",
+        ),
+        (
+            "misplaced",
+            with(table([1]), &[(36, 2)]),
+            "key 2 (address 0x0, depth 2) stands in slot 0 of top bucket 2, which is none of its places",
+        ),
+        (
+            "unequal",
+            with(table([3]), &double),
+            "key 3 (address 0x0, depth 3) stands in 2 slots with records that differ: slot 0 of top bucket 2, slot 0 of bottom bucket 0",
+        ),
+        ("both", with(table([1]), &[(5, 7), (35, 16)]), "the token word of bucket 2 is 16, which is above 15"),
+    ];
+    for (name, words, fault) in rows {
+        let refusal = Refusal::NoKind;
+        let refused = format!("would refuse and change nothing: {refusal}");
+        has(told_of(name, &words), 2, &[&format!("- {fault}"), "damaged, and not by a cut alone:", &refused]);
+    }
+}
+
+#[test]
+fn many_faults_of_a_kind_are_counted() {
+    let tokens: Vec<(usize, u64)> = (0..20).map(|bucket| (9 + 13 * bucket, 16)).collect();
+    let words = with(empty(&Creation { capacity: 4, ..MARKED }), &tokens);
+    has(told_of("many", &words), 2, &["- and 12 more of this kind"]);
+}
+
+#[test]
+fn a_bad_header_is_named() {
+    let good = table([1]);
+    let rows: [(&str, Vec<u64>, &str); 10] = [
+        ("length", good[..47].to_vec(), "the length 376 bytes is no table's length; a table of c = 1 has 384"),
+        ("tiny", good[..3].to_vec(), "the file is too short for a header of 9 words"),
+        ("form", with(good.clone(), &[(0, 2)]), "form 2 is not known; known is 1"),
+        (
+            "order",
+            with(good.clone(), &[(0, 1 << 56)]),
+            "form 72057594037927936 is 1 in the other byte order: the table was made on another kind of machine",
+        ),
+        ("capacity", with(good.clone(), &[(1, 21)]), "the capacity exponent 21 is not 1 to 20"),
+        ("other", with(good.clone(), &[(1, 3)]), "a table of c = 3 has 1632 bytes, and the file has 800"),
+        ("even", with(good.clone(), &[(3, 4)]), "the second multiplier 4 is even"),
+        ("k", with(good.clone(), &[(4, 3)]), "the state 3 has k = 3, which is not 1 to c = 2"),
+        ("phase", with(good.clone(), &[(4, 513)]), "the state 513 has phase 2; known are 0, at rest, and 1, growing"),
+        (
+            "zeros",
+            vec![0; good.len()],
+            "all words are 0: this table was never created, or its creation was cut; create it again",
+        ),
+    ];
+    for (name, words, fault) in rows {
+        let refused = format!("would refuse and change nothing: {}", Refusal::BadHeader);
+        has(
+            told_of(&format!("header-{name}"), &words),
+            2,
+            &[&format!("- {fault}"), "this is no table:", &refused],
+        );
+    }
+}
+
+#[test]
+fn bytes_that_are_no_words_are_told() {
+    has(
+        told_of_bytes("empty", b""),
+        2,
+        &["- the length 0 bytes is no table's length; a table of c = 1 has 384"],
+    );
+    let too_short = ["capacity     missing", "- the file is too short for a header of 9 words"];
+    has(told_of_bytes("letter", b"a letter"), 2, &too_short);
+    let mut odd = bytes_of(&table([1]));
+    odd.push(0);
+    has(
+        told_of_bytes("odd", &odd),
+        2,
+        &["- the length 801 bytes is no table's length; a table of c = 2 has 800"],
+    );
+}
+
+#[test]
+fn usage_and_missing_files_are_told() {
+    for arguments in [&[][..], &["one", "two"], &["--unknown"]] {
+        let output = run(arguments);
+        assert_eq!(output.status.code(), Some(3));
+        assert!(String::from_utf8(output.stderr).unwrap().starts_with("usage: "));
+    }
+    let missing = path("missing-file");
+    for name in [missing.to_str().unwrap(), env!("CARGO_TARGET_TMPDIR"), "/dev/null"] {
+        let output = run(&[name]);
+        assert_eq!(output.status.code(), Some(3));
+        assert!(String::from_utf8(output.stderr).unwrap().contains(name));
+    }
+    let help = run(&["--help"]);
+    assert_eq!(help.status.code(), Some(0));
+    assert!(String::from_utf8(help.stdout).unwrap().contains("exit status"));
+}
+
+/// Whatever the words, the program answers as recovery does, and a refused table has its reason told.
+#[test]
+fn random_damage_is_explained() {
+    let mut random = Random::new(1);
+    let mut seen = [0; 3];
+    for round in 0..400 {
+        let mut words = table((1..16).step_by(2).take(round % 9));
+        damage(&mut random, &mut words);
+        if random.one_in(10) {
+            let length = random.index(120);
+            words = random.words(length);
+        }
+        let (told, status) = told_of("damaged", &words);
+        let expected = match calls::recover(&words) {
+            Ok(list) if list.count() == 0 => 0,
+            Ok(_) => 1,
+            Err(_) => 2,
+        };
+        assert_eq!(status, expected, "{told}");
+        assert_eq!(told.lines().any(|line| line.starts_with("  - ")), status != 0, "{told}");
+        seen[expected as usize] += 1;
+    }
+    assert!(seen.iter().all(|&count| count > 5), "{seen:?}");
+}
