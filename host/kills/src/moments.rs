@@ -1,0 +1,85 @@
+//! Kills at random moments, of collector after collector on one file.
+
+use std::path::Path;
+use std::time::Duration;
+
+use ragansils::{Creation, MappedFile};
+use ragansils_compare::plain_map::PlainMap;
+use ragansils_compare::random::Random;
+
+use crate::collector::Task;
+use crate::judge::{maps_after, read_words, recovered, which_map};
+use crate::process::Collector;
+use crate::said::Said;
+use crate::tables::small_setting;
+
+/// How many collectors are killed on one file before another is made.
+const KILLS_PER_FILE: u64 = 50;
+const LONGEST_LIFE: u64 = 2500;
+
+#[derive(Default)]
+pub struct Moments {
+    pub kills: u64,
+    pub changes: u64,
+    pub in_a_change: u64,
+    pub to_mend: u64,
+}
+
+impl Moments {
+    pub fn print(&self) {
+        println!(
+            "kills at random moments: {}, of which {} in the middle of a change and {} with something to mend; changes acknowledged: {}",
+            self.kills, self.in_a_change, self.to_mend, self.changes
+        );
+    }
+
+    /// Kills so many collectors.
+    pub fn run(&mut self, random: &mut Random, path: &Path, kills: u64) -> Result<(), String> {
+        while self.kills < kills {
+            let most = KILLS_PER_FILE.min(kills - self.kills);
+            self.one_file(random, path, most)?;
+        }
+        Ok(())
+    }
+
+    fn one_file(&mut self, random: &mut Random, path: &Path, kills: u64) -> Result<(), String> {
+        let setting = small_setting(random);
+        let creation =
+            Creation { capacity: setting.c, first_top: setting.k, multipliers: [setting.mul1, setting.mul2] };
+        // There is none before the first file.
+        let _ = std::fs::remove_file(path);
+        drop(MappedFile::create(path, &creation).map_err(|error| error.to_string())?);
+        let keys_seed = random.word();
+        let mut map = PlainMap::new();
+        for _ in 0..kills {
+            map = self.one_life(random, path, keys_seed, map)?;
+        }
+        Collector::start(path, None, Task::Open)?.finish()?;
+        which_map(&read_words(path)?, &[map]).map(drop)
+    }
+
+    /// A collector lives for a while and is killed; answers the map that its file has then.
+    fn one_life(
+        &mut self,
+        random: &mut Random,
+        path: &Path,
+        keys_seed: u64,
+        map: PlainMap,
+    ) -> Result<PlainMap, String> {
+        let task = Task::Live { seed: random.word(), keys_seed };
+        let mut collector = Collector::start(path, None, task)?;
+        let mut said: Vec<Said> = collector.hear()?.into_iter().collect();
+        std::thread::sleep(Duration::from_micros(random.below(LONGEST_LIFE)));
+        said.extend(collector.kill()?);
+
+        let words = read_words(path)?;
+        let maps = maps_after(&map, &said)?;
+        let recovered = recovered(&words)?;
+        let which = which_map(&recovered, &maps)?;
+        self.kills += 1;
+        self.changes += said.iter().filter(|one| matches!(one, Said::Done(0))).count() as u64;
+        self.in_a_change += u64::from(matches!(said.last(), Some(Said::About(_))));
+        self.to_mend += u64::from(recovered != words);
+        Ok(maps.into_iter().nth(which).unwrap_or_default())
+    }
+}

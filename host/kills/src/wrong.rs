@@ -1,0 +1,70 @@
+//! Collectors with a mistake. The comparison must catch each of them, or it would show nothing of the right one.
+
+use ragansils::Platform;
+use ragansils_model::{word, Event, LEAST_LIST_WORDS};
+
+use crate::collector::{say, Gate};
+use crate::said::Said;
+
+#[derive(Clone, Copy, Debug, PartialEq, Eq)]
+pub enum Wrong {
+    /// Makes the stores of a list from its end.
+    Backwards,
+    /// Makes the last store of a list first: of an insert the token before the record.
+    LastFirst,
+    /// Updates a full bucket's two words without the log.
+    WithoutLog,
+    /// Says that a change is done before it is.
+    DoneTooSoon,
+    /// Does not recover when it opens the table.
+    WithoutRecovery,
+}
+
+impl Wrong {
+    pub const ALL: [Wrong; 5] =
+        [Wrong::Backwards, Wrong::LastFirst, Wrong::WithoutLog, Wrong::DoneTooSoon, Wrong::WithoutRecovery];
+
+    pub fn name(self) -> &'static str {
+        match self {
+            Wrong::Backwards => "backwards",
+            Wrong::LastFirst => "last-first",
+            Wrong::WithoutLog => "without-log",
+            Wrong::DoneTooSoon => "done-too-soon",
+            Wrong::WithoutRecovery => "without-recovery",
+        }
+    }
+
+    /// The words by which it must be caught, where they do not hang on what the slot held before.
+    pub fn sign(self) -> &'static str {
+        match self {
+            Wrong::Backwards | Wrong::LastFirst => "",
+            Wrong::WithoutLog => "half new",
+            Wrong::DoneTooSoon => "neither map",
+            Wrong::WithoutRecovery => "recovery has something to mend",
+        }
+    }
+
+    pub fn read(name: &str) -> Option<Wrong> {
+        Wrong::ALL.into_iter().find(|wrong| wrong.name() == name)
+    }
+}
+
+/// Lists a change's stores as it should, and makes them as it should not.
+pub fn change(words: &mut [u64], event: Event, wrong: Wrong, gate: &mut Gate) {
+    let mut list = [0; LEAST_LIST_WORDS];
+    let (_, count) = event.list_stores(words, &mut list);
+    let mut stores: Vec<[u64; 2]> =
+        list.chunks_exact(2).take(count as usize).map(|pair| [pair[0], pair[1]]).collect();
+    match wrong {
+        Wrong::Backwards => stores.reverse(),
+        Wrong::LastFirst => stores.rotate_right(1),
+        Wrong::WithoutLog => stores.retain(|&[index, _]| index > word::UPDATE_PLACE as u64),
+        Wrong::DoneTooSoon => say(Said::Done(0)),
+        Wrong::WithoutRecovery => {}
+    }
+    for [index, value] in stores {
+        let word = &mut words[index as usize];
+        *word = value;
+        gate.stored(word);
+    }
+}
