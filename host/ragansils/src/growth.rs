@@ -62,9 +62,10 @@ impl<W: AsRef<[u64]> + AsMut<[u64]>, P: Platform> Table<W, P> {
 
     /// Whether a growth is under way. Refusals: `BadHeader`, `FlagSet`.
     pub fn is_growing(&self) -> Result<bool, Refusal> {
-        match calls::end(self.words()) {
-            Ok(_) | Err(Refusal::InterimTaken) => Ok(true),
-            Err(Refusal::NotGrowing) => Ok(false),
+        // Of all calls begin tells it soonest: end would first look for an item in the whole interim level.
+        match calls::begin(self.words()) {
+            Err(Refusal::AlreadyGrowing) => Ok(true),
+            Ok(_) | Err(Refusal::AtCapacity) => Ok(false),
             Err(refusal) => Err(refusal),
         }
     }
