@@ -102,15 +102,18 @@ module _ (t : Table) (h : Header) (p : Place) {word s : ℕ} (w : word ≡ token
   pub place-free : {x : Slot} → s ≤ 4 → (s ≡ 4 → ⊥) → x ≡ slotAt p s → some (Free x) ≡ Option·map Free (freeSlot t h p)
   place-free l n g = rw (free-in t h p, ← w, one-free h word e (omega arith), g)
 
-module _ (t : Table) (h : Header) (x : Hashes) (l : Level) {f s : Place} (p : f ≡ placeIn l (x .first)) (q : s ≡ placeIn l (x .second))
-    {v w m n : ℕ} (a : v ≡ tokenOf t (f .bucket)) (b : m ≡ takenOf h v) (c : w ≡ tokenOf t (s .bucket)) (d : n ≡ takenOf h w) where
+module _ (t : Table) (h : Header) (f s : Place) {v w m n : ℕ} (a : v ≡ tokenOf t (f .bucket)) (b : m ≡ takenOf h v) (c : w ≡ tokenOf t (s .bucket)) (d : n ≡ takenOf h w) where
   counted : (r : Place) {z k : ℕ} → z ≡ tokenOf t (r .bucket) → k ≡ takenOf h z → takenIn t h r ≡ k
   counted r e g = taken-in t h r ∙ rw (← e, ← g)
 
-  pub second-emptier : n < m → freeSlot t h s ≡ roomIn t h x l
-  unfolding roomIn emptier fewer firstPlace secondPlace
-  second-emptier g = rw (← p, ← q, counted s c d, counted f a b, lt-ltb _ _ g)
+  pub second-emptier : n < m → s ≡ emptier t h f s
+  unfolding emptier fewer
+  second-emptier g = rw (counted s c d, counted f a b, lt-ltb _ _ g)
 
-  pub first-emptier : m ≤ n → freeSlot t h f ≡ roomIn t h x l
-  unfolding roomIn emptier fewer firstPlace secondPlace
-  first-emptier g = rw (← p, ← q, counted s c d, counted f a b, le-ltb _ _ g)
+  pub first-emptier : m ≤ n → f ≡ emptier t h f s
+  unfolding emptier fewer
+  first-emptier g = rw (counted s c d, counted f a b, le-ltb _ _ g)
+
+pub room-chosen : (t : Table) (h : Header) (x : Hashes) (l : Level) {f s r : Place} → f ≡ placeIn l (x .first) → s ≡ placeIn l (x .second) → r ≡ emptier t h f s → freeSlot t h r ≡ roomIn t h x l
+unfolding roomIn firstPlace secondPlace
+room-chosen t h x l p q e = rw (e, p, q)

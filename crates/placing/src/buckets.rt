@@ -46,16 +46,19 @@ pub fn bucket(t: &[u64], p: Place) -> [[u64; 3]; 4]
     ]
 }
 
-// The "lowest free slot" of a bucket with that token word: its number, or 4, one past the last record, where there is none.
+// The "lowest free slot" of a bucket with that token word: its number, or 4, one past the last record, where there is none. Every
+// bit is asked, from the highest down, and none ends the loop: which slot is free first is not to be foreseen.
 pub fn lowest_free(h: Header, word: u64, items: [[u64; 3]; 4]) -> usize
     ensures { λ r. ⌜ (r ≡ lowestFree h word) × (r ≤ 4) ⌝ }
 {
-    for s in 0..items.len() {
+    let mut lowest = items.len();
+    for i in 0..items.len() {
+        let s = items.len() - 1 - i;
         if !is_taken(h, word, s) {
-            return s;
+            lowest = s;
         }
     }
-    items.len()
+    lowest
 }
 
 // How many slots a token word says are taken.

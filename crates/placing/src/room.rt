@@ -11,7 +11,7 @@ use rules::Place;
 use rules::Placing;
 ghost use mathlib.Core.Path.{_≡_};
 ghost use mathlib.Core.Option.{Option·map};
-ghost use Rattle.rules.specs.Placing.{freeSlot, roomIn};
+ghost use Rattle.rules.specs.Placing.{freeSlot, emptier as emptierOf, roomIn};
 ghost use Rattle.rules.specs.declared.Placing.the-variants.{Free as free};
 ghost use Rattle.reading.specs.Levels.{levelOf};
 ghost use Rattle.reading.specs.Within.{BucketWithin, PlacingWithin};
@@ -32,17 +32,25 @@ pub fn free_slot(t: &[u64], h: Header, p: Place) -> Placing
     Placing::Free(slot_of(p, s))
 }
 
-// The same of the emptier of a key's two places in the level of that name with 2^e buckets. Where they coincide they tie.
+// "the place with fewer taken slots (tie: first place)". Where they coincide they tie.
+fn emptier(t: &[u64], h: Header, first: Place, second: Place) -> Place
+    requires { ⌜ BucketWithin (now t) (first .bucket) × BucketWithin (now t) (second .bucket) ⌝ }
+    ensures { λ r. ⌜ (r ≡ emptierOf (now (t .entry)) h first second) × BucketWithin (now (t .entry)) (r .bucket) ⌝ }
+{
+    let in_first = taken_count(h, token(t, first.bucket));
+    let in_second = taken_count(h, token(t, second.bucket));
+    if in_second < in_first {
+        return second;
+    }
+    first
+}
+
+// The same of the emptier of a key's two places in the level of that name with 2^e buckets.
 pub fn room(t: &[u64], h: Header, x: Hashes, name: u64, e: u64) -> Placing
     requires { ⌜ LevelWithin (now t) e ⌝ }
     ensures { λ r. ⌜ (optional r ≡ Option·map free (roomIn (now (t .entry)) h x (levelOf name e))) × PlacingWithin (now (t .entry)) r ⌝ }
 {
     let first = place(x.first, name, e);
     let second = place(x.second, name, e);
-    let in_first = taken_count(h, token(t, first.bucket));
-    let in_second = taken_count(h, token(t, second.bucket));
-    if in_second < in_first {
-        return free_slot(t, h, second);
-    }
-    free_slot(t, h, first)
+    free_slot(t, h, emptier(t, h, first, second))
 }

@@ -1,8 +1,9 @@
--- `placing::buckets::lowest_free` meets its contract: the lowest free slot of all is the lowest from s on.
+-- `placing::buckets::lowest_free` meets its contract: from the highest slot down, what is found is the lowest free slot from there on.
 -- Assumes nothing.
 use mathlib.Core.Path.{_≡_, sym, ap, _∙_}
+use mathlib.Core.Logic.{⊎-elim}
 use mathlib.Core.Bool.{not}
-use Prim.Native.Nat.{_-_}
+use Prim.Native.Nat.{_+_, _-_, _≤_, _<_}
 use native.Mathlib.Omega.{arith}
 use Rattle.placing.specs.Buckets.{freeIn, lowestFree}
 use Rattle.rules.specs.Words.{isTaken}
@@ -11,25 +12,25 @@ use Rattle.placing.proofs.buckets.lowest_free.Statement.{statement}
 use Rattle.placing.proofs.buckets.lowest_free.Tie as tie
 
 abbrev Inv-loop : tie.InvT-loop
-Inv-loop h word items s₀ s = lowestFree h word ≡ lowestFrom (λ z. not (isTaken h word z)) s
+Inv-loop h word items lowest₀ i₀ lowest i = (lowest ≡ lowestFrom (λ z. not (isTaken h word z)) (4 - i)) × (lowest ≤ 4)
 
 abbrev μ-loop : tie.MeasureT-loop
-μ-loop h word items s₀ s = 4 - s
+μ-loop h word items lowest₀ i₀ lowest i = 4 - i
 
 loop-holds : tie.Need-loop-holds Inv-loop μ-loop
-unfolding lowestFree freeIn
-loop-holds c = lowest-all _
+loop-holds c = (sym (lowest-over _ _ (omega arith)), omega arith)
+
+sub-s : tie.Need-sub-s Inv-loop μ-loop
+sub-s c = omega arith
+
+sub-s-2 : tie.Need-sub-s-2 Inv-loop μ-loop
+sub-s-2 c = omega arith
 
 is-taken-requires : tie.Need-is-taken-requires Inv-loop μ-loop
 is-taken-requires c κs = omega arith
 
-returns : tie.Need-returns Inv-loop μ-loop
-returns c =
-    let d = c .before .before in
-    (sym (d .before .loop .inv ∙ lowest-here _ _ (d .loop-test .taken) (ap not (sym (c .before .is-taken .ensures)) ∙ c .if1 .taken)), omega arith)
-
-add-s : tie.Need-add-s Inv-loop μ-loop
-add-s c = omega arith
+add-i : tie.Need-add-i Inv-loop μ-loop
+add-i c = omega arith
 
 loop-less : tie.Need-loop-less Inv-loop μ-loop
 loop-less c = omega arith
@@ -37,10 +38,24 @@ loop-less c = omega arith
 loop-again : tie.Need-loop-again Inv-loop μ-loop
 loop-again c =
     let d = c .before .before in
-    d .before .loop .inv ∙ lowest-next _ _ (d .loop-test .taken) (ap not (sym (c .before .is-taken .ensures)) ∙ c .if1 .left)
+    let v = d .before .loop .inv in
+    let i = d .before .loop .i in
+    let l = d .loop-test .taken in
+    let s : 4 - (i + 1) ≡ 4 - 1 - i = omega arith in
+    let next : 4 - 1 - i + 1 ≡ 4 - i = omega (arith, l) in
+    let below : 4 - 1 - i < 4 = omega arith in
+    let free = ap not (sym (c .before .is-taken .ensures)) in
+    ⊎-elim
+    (λ w. rw (w .1, s) (sym (lowest-here _ _ below (free ∙ w .0 .taken)), omega arith))
+    (λ w. rw (w .1, s) (v .0 ∙ sym (lowest-next _ _ below (free ∙ w .0 .left) ∙ ap (lowestFrom _) next), v .1))
+    (c .if1 .came)
 
-returns-2 : tie.Need-returns-2 Inv-loop μ-loop
-returns-2 c = (sym (c .before .loop .inv ∙ lowest-over _ _ (c .loop-test .left)), omega arith)
+returns : tie.Need-returns Inv-loop μ-loop
+unfolding lowestFree freeIn
+returns c =
+    let v = c .before .loop .inv in
+    let over : 4 - c .before .loop .i ≡ 0 = omega (arith, c .loop-test .left) in
+    (rw over at (v .0) ∙ sym (lowest-all _), v .1)
 
 pub lowest-free-spec : {M : Type 1} → statement M
 lowest-free-spec =
@@ -49,9 +64,10 @@ lowest-free-spec =
     Inv-loop
     μ-loop
     loop-holds
+    sub-s
+    sub-s-2
     is-taken-requires
-    returns
-    add-s
+    add-i
     loop-less
     loop-again
-    returns-2)
+    returns)
