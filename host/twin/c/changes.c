@@ -1,0 +1,93 @@
+/* Create, query, insert, update and delete. */
+#include <string.h>
+
+#include "lookup.h"
+#include "placing.h"
+#include "table.h"
+#include "twin.h"
+
+uint64_t twin_create(uint64_t *table, size_t words, uint64_t c, uint64_t k, uint64_t mul1, uint64_t mul2)
+{
+    if (words == 0 || words != RAGANSILS_WORDS(c) || k < 1 || k > c || !both_odd(mul1, mul2))
+        return RAGANSILS_BAD_CREATION;
+    memset(table, 0, words * sizeof *table);
+    struct table *t = (struct table *)table;
+    t->form = 1;
+    t->c = c;
+    t->mul1 = mul1;
+    t->mul2 = mul2;
+    t->state = k;
+    return RAGANSILS_DONE;
+}
+
+uint64_t twin_query(const uint64_t *table, size_t words, uint64_t key, uint64_t answer[3])
+{
+    const struct table *t = (const struct table *)table;
+    answer[0] = answer[1] = answer[2] = 0;
+    enum ragansils_refusal refusal = first_tests(t, words);
+    if (refusal != RAGANSILS_DONE)
+        return refusal;
+    struct found found = find(t, key, hashes_of(t, key));
+    answer[2] = found.probes;
+    if (found.bucket == NULL)
+        return RAGANSILS_KEY_ABSENT;
+    answer[0] = found.bucket->slots[found.slot].function;
+    answer[1] = found.bucket->slots[found.slot].place;
+    return RAGANSILS_DONE;
+}
+
+uint64_t twin_insert(uint64_t *table, size_t words, uint64_t key, uint64_t function, uint64_t place)
+{
+    struct table *t = (struct table *)table;
+    enum ragansils_refusal refusal = first_tests(t, words);
+    if (refusal != RAGANSILS_DONE)
+        return refusal;
+    struct hashes x = hashes_of(t, key);
+    if (find(t, key, x).bucket != NULL)
+        return RAGANSILS_KEY_PRESENT;
+    return place_item(t, (struct slot){key, function, place}, x) ? RAGANSILS_DONE : RAGANSILS_NO_PLACE;
+}
+
+/* A full bucket has no second slot: the new record is kept in the header while the slot's is written. */
+static void update_logged(struct table *t, struct slot *old, uint64_t function, uint64_t place)
+{
+    t->target = &old->key - &t->form;
+    t->function = function;
+    t->place = place;
+    t->flag = 1;
+    old->function = function;
+    old->place = place;
+    t->flag = 0;
+}
+
+uint64_t twin_update(uint64_t *table, size_t words, uint64_t key, uint64_t function, uint64_t place)
+{
+    struct table *t = (struct table *)table;
+    enum ragansils_refusal refusal = first_tests(t, words);
+    if (refusal != RAGANSILS_DONE)
+        return refusal;
+    struct found found = find(t, key, hashes_of(t, key));
+    if (found.bucket == NULL)
+        return RAGANSILS_KEY_ABSENT;
+    struct bucket *b = (struct bucket *)found.bucket;
+    if (is_full(b)) {
+        update_logged(t, &b->slots[found.slot], function, place);
+    } else {
+        fill_slot(b, lowest_free(b), (struct slot){key, function, place});
+        clear_slot(b, found.slot);
+    }
+    return RAGANSILS_DONE;
+}
+
+uint64_t twin_delete(uint64_t *table, size_t words, uint64_t key)
+{
+    struct table *t = (struct table *)table;
+    enum ragansils_refusal refusal = first_tests(t, words);
+    if (refusal != RAGANSILS_DONE)
+        return refusal;
+    struct found found = find(t, key, hashes_of(t, key));
+    if (found.bucket == NULL)
+        return RAGANSILS_KEY_ABSENT;
+    clear_slot((struct bucket *)found.bucket, found.slot);
+    return RAGANSILS_DONE;
+}

@@ -1,0 +1,42 @@
+/* The search for a key, in document 01's probe order. */
+#ifndef RAGANSILS_TWIN_LOOKUP_H
+#define RAGANSILS_TWIN_LOOKUP_H
+
+#include "table.h"
+
+/* What a search found: the slot with the key, or no bucket; and the number of buckets looked at. */
+struct found {
+    const struct bucket *bucket;
+    unsigned slot, probes;
+};
+
+/* The taken slot of a bucket with the key, or SLOTS. */
+static inline unsigned slot_with(const struct bucket *b, uint64_t key)
+{
+    for (unsigned s = 0; s < SLOTS; s++)
+        if (b->slots[s].key == key && is_taken(b, s))
+            return s;
+    return SLOTS;
+}
+
+static inline struct found find(const struct table *t, uint64_t key, struct hashes x)
+{
+    unsigned probes = 0, k = top_exponent(t), levels = levels_in_use(t);
+    for (unsigned level = 0; level < levels; level++) {
+        const struct bucket *first = &t->buckets[place_of(x.first, k - level)];
+        const struct bucket *second = &t->buckets[place_of(x.second, k - level)];
+        probes++;
+        unsigned s = slot_with(first, key);
+        if (s < SLOTS)
+            return (struct found){first, s, probes};
+        if (second == first)
+            continue;
+        probes++;
+        s = slot_with(second, key);
+        if (s < SLOTS)
+            return (struct found){second, s, probes};
+    }
+    return (struct found){NULL, 0, probes};
+}
+
+#endif

@@ -1,0 +1,11 @@
+/* Where a new item goes, by document 01's "Placing"; used by insert and by the growth step. */
+#ifndef RAGANSILS_TWIN_PLACING_H
+#define RAGANSILS_TWIN_PLACING_H
+
+#include "table.h"
+
+/* Puts an item that stands nowhere in top or bottom into one of its places there, perhaps after one move of another.
+ * Answers false, and changes nothing, where there is no place. */
+bool place_item(struct table *t, struct slot item, struct hashes x);
+
+#endif

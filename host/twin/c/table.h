@@ -1,0 +1,134 @@
+/* The table's words as a C programmer sees them: header, buckets, levels, and the places of a key. */
+#ifndef RAGANSILS_TWIN_TABLE_H
+#define RAGANSILS_TWIN_TABLE_H
+
+#include <stdbool.h>
+#include <stddef.h>
+#include <stdint.h>
+
+#include "ragansils.h"
+
+enum { SLOTS = 4, ALL_TAKEN = 15, PHASE_UNIT = 256 };
+
+struct slot {
+    uint64_t key, function, place;
+};
+
+struct bucket {
+    uint64_t token;
+    struct slot slots[SLOTS];
+};
+
+struct table {
+    uint64_t form, c, mul1, mul2, state;
+    uint64_t flag, target, function, place;
+    struct bucket buckets[];
+};
+
+enum {
+    HEADER_WORDS = sizeof(struct table) / sizeof(uint64_t),
+    BUCKET_WORDS = sizeof(struct bucket) / sizeof(uint64_t),
+    SLOT_WORDS = sizeof(struct slot) / sizeof(uint64_t)
+};
+
+_Static_assert(HEADER_WORDS == 9 && BUCKET_WORDS == 13 && SLOT_WORDS == 3, "the words of document 01");
+
+/* A slot of the table; no bucket where there is none. */
+struct spot {
+    struct bucket *bucket;
+    unsigned slot;
+};
+
+struct hashes {
+    uint64_t first, second;
+};
+
+static inline bool both_odd(uint64_t a, uint64_t b)
+{
+    return (a & b & 1) != 0;
+}
+
+/* The top level has 2^k buckets. */
+static inline unsigned top_exponent(const struct table *t)
+{
+    return t->state % PHASE_UNIT;
+}
+
+static inline bool is_growing(const struct table *t)
+{
+    return t->state >= PHASE_UNIT;
+}
+
+/* Top and bottom, and the interim level while growing. */
+static inline unsigned levels_in_use(const struct table *t)
+{
+    return is_growing(t) ? 3 : 2;
+}
+
+static inline bool header_good(const struct table *t, size_t words)
+{
+    if (words < HEADER_WORDS || words != RAGANSILS_WORDS(t->c) || t->form != 1 || !both_odd(t->mul1, t->mul2))
+        return false;
+    uint64_t k = t->state % PHASE_UNIT, phase = t->state / PHASE_UNIT;
+    return phase <= 1 && k > phase && k <= t->c;
+}
+
+/* The tests that come before all others: 1, then 3. */
+static inline enum ragansils_refusal first_tests(const struct table *t, size_t words)
+{
+    if (!header_good(t, words))
+        return RAGANSILS_BAD_HEADER;
+    return t->flag == 0 ? RAGANSILS_DONE : RAGANSILS_FLAG_SET;
+}
+
+static inline struct hashes hashes_of(const struct table *t, uint64_t key)
+{
+    return (struct hashes){key * t->mul1 >> 32, key * t->mul2 >> 32};
+}
+
+/* The place of a hash in the level of 2^e buckets, which are buckets 2^e - 1 to 2^(e + 1) - 2. */
+static inline size_t place_of(uint64_t hash, unsigned e)
+{
+    size_t mask = ((size_t)1 << e) - 1;
+    return mask + (hash & mask);
+}
+
+static inline struct bucket *bucket_for(struct table *t, uint64_t hash, unsigned e)
+{
+    return &t->buckets[place_of(hash, e)];
+}
+
+/* Which slots are taken: token words are read modulo 16. */
+static inline unsigned taken_in(const struct bucket *b)
+{
+    return b->token & ALL_TAKEN;
+}
+
+static inline bool is_taken(const struct bucket *b, unsigned s)
+{
+    return b->token >> s & 1;
+}
+
+static inline bool is_full(const struct bucket *b)
+{
+    return taken_in(b) == ALL_TAKEN;
+}
+
+/* Of a bucket that is not full. */
+static inline unsigned lowest_free(const struct bucket *b)
+{
+    return __builtin_ctz(~taken_in(b));
+}
+
+static inline void fill_slot(struct bucket *b, unsigned s, struct slot item)
+{
+    b->slots[s] = item;
+    b->token = taken_in(b) | 1u << s;
+}
+
+static inline void clear_slot(struct bucket *b, unsigned s)
+{
+    b->token = taken_in(b) & ~(1u << s);
+}
+
+#endif

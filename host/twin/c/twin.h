@@ -1,0 +1,30 @@
+/*
+ * The twin: a plain level table in the words of document 01, with the layout, the answers and the refusals of the proved library
+ * `collector`, but no proof and no list: a changing call writes the table itself, and leaves the words that making the library's list
+ * would leave. It is there to be measured beside, and is no table to be used: a compiler may turn its stores round.
+ *
+ * Every call answers document 01's refusal number (enum ragansils_refusal), 0 for success. Without a list there is no refusal 2 or 14.
+ * A pointer must be valid for the words handed over with it.
+ */
+#ifndef RAGANSILS_TWIN_H
+#define RAGANSILS_TWIN_H
+
+#include <stddef.h>
+#include <stdint.h>
+
+uint64_t twin_create(uint64_t *table, size_t words, uint64_t c, uint64_t k, uint64_t mul1, uint64_t mul2);
+
+/* answer: function, place and the number of buckets looked at. */
+uint64_t twin_query(const uint64_t *table, size_t words, uint64_t key, uint64_t answer[3]);
+
+uint64_t twin_insert(uint64_t *table, size_t words, uint64_t key, uint64_t function, uint64_t place);
+uint64_t twin_update(uint64_t *table, size_t words, uint64_t key, uint64_t function, uint64_t place);
+uint64_t twin_delete(uint64_t *table, size_t words, uint64_t key);
+
+uint64_t twin_begin(uint64_t *table, size_t words);
+uint64_t twin_step(uint64_t *table, size_t words);
+uint64_t twin_end(uint64_t *table, size_t words);
+
+uint64_t twin_recover(uint64_t *table, size_t words);
+
+#endif
