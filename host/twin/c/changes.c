@@ -20,19 +20,26 @@ uint64_t twin_create(uint64_t *table, size_t words, uint64_t c, uint64_t k, uint
     return RAGANSILS_DONE;
 }
 
+/* A query's answer where there is no record. */
+static uint64_t unknown(uint64_t answer[3], uint64_t probes, enum ragansils_refusal refusal)
+{
+    answer[0] = answer[1] = 0;
+    answer[2] = probes;
+    return refusal;
+}
+
 uint64_t twin_query(const uint64_t *table, size_t words, uint64_t key, uint64_t answer[3])
 {
     const struct table *t = (const struct table *)table;
-    answer[0] = answer[1] = answer[2] = 0;
     enum ragansils_refusal refusal = first_tests(t, words);
     if (refusal != RAGANSILS_DONE)
-        return refusal;
+        return unknown(answer, 0, refusal);
     struct found found = find(t, key, hashes_of(t, key));
-    answer[2] = found.probes;
     if (found.bucket == NULL)
-        return RAGANSILS_KEY_ABSENT;
+        return unknown(answer, found.probes, RAGANSILS_KEY_ABSENT);
     answer[0] = found.bucket->slots[found.slot].function;
     answer[1] = found.bucket->slots[found.slot].place;
+    answer[2] = found.probes;
     return RAGANSILS_DONE;
 }
 

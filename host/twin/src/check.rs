@@ -1,0 +1,177 @@
+//! Random histories through the proved library and the twin: the same answers, and the same words after each event.
+
+use std::collections::BTreeSet;
+
+use ragansils_compare::damage::damage;
+use ragansils_compare::history::{next_event, Keys, Mood, Setting};
+use ragansils_compare::random::Random;
+use ragansils_model::{table_words, Event, SUCCESS};
+use ragansils_twin::{Proved, Side, Twin};
+
+/// What a run has met.
+#[derive(Default)]
+pub struct Seen {
+    pub calls: u64,
+    /// Every answer, 0 among them.
+    pub numbers: BTreeSet<u64>,
+    /// Recoveries that mended a table: by one store, and by three.
+    pub doubled: u64,
+    pub flagged: u64,
+}
+
+/// Makes at least so many calls of each side, or says where they differ.
+pub fn run(seed: u64, calls: u64) -> Result<Seen, String> {
+    let mut random = Random::new(seed);
+    let mut seen = Seen::default();
+    while seen.calls < calls {
+        let mut history = History::start(&mut random, &mut seen)?;
+        history.play(&mut seen, calls)?;
+    }
+    Ok(seen)
+}
+
+/// A sound table in the middle of its life.
+struct History {
+    random: Random,
+    setting: Setting,
+    keys: Keys,
+    mood: Mood,
+    table: Vec<u64>,
+    last_number: u64,
+}
+
+impl History {
+    fn start(random: &mut Random, seen: &mut Seen) -> Result<History, String> {
+        let setting = Setting::random(random);
+        let garbage = random.words(table_words(setting.c).unwrap_or(0));
+        let bad = Setting { k: setting.c + 1, ..setting };
+        both_create(seen, bad, &garbage)?;
+        let table = both_create(seen, setting, &garbage)?;
+        let keys = Keys::random(random, setting);
+        let mut own_random = Random::new(random.word());
+        let mood = Mood::random(&mut own_random);
+        Ok(History { random: own_random, setting, keys, mood, table, last_number: 0 })
+    }
+
+    fn play(&mut self, seen: &mut Seen, enough_calls: u64) -> Result<(), String> {
+        let events = 10 + self.random.below(40 << self.setting.c);
+        for _ in 0..events {
+            if seen.calls >= enough_calls {
+                break;
+            }
+            let event = next_event(&mut self.random, &self.table, &self.keys, self.mood, self.last_number);
+            self.some_cut(seen, event)?;
+            let (number, table) = both_change(seen, &self.table, event)?;
+            (self.last_number, self.table) = (number, table);
+            self.query(seen, &self.table.clone())?;
+            if self.random.one_in(4) {
+                self.damaged(seen)?;
+            }
+            if self.random.one_in(50) {
+                self.mood = Mood::random(&mut self.random);
+            }
+        }
+        Ok(())
+    }
+
+    fn query(&mut self, seen: &mut Seen, table: &[u64]) -> Result<(), String> {
+        let key = self.keys.pick_likely(&mut self.random, table);
+        both_query(seen, table, key)
+    }
+
+    /// The table that some cut of an event leaves, through both recoveries.
+    fn some_cut(&mut self, seen: &mut Seen, event: Event) -> Result<(), String> {
+        let mut library = Proved::default();
+        if library.list_stores(&self.table, event) != SUCCESS {
+            return Ok(());
+        }
+        let mut cut = self.table.clone();
+        library.make(&mut cut, self.random.below(library.stores() + 1));
+        both_change(seen, &cut, Event::Recover)?;
+        self.query(seen, &cut)
+    }
+
+    /// Every call on a damaged copy of the table.
+    fn damaged(&mut self, seen: &mut Seen) -> Result<(), String> {
+        let mut table = self.table.clone();
+        damage(&mut self.random, &mut table);
+        let key = self.keys.pick_likely(&mut self.random, &table);
+        let (function, place) = (self.random.any_word(), self.random.any_word());
+        let events = [
+            Event::Recover,
+            Event::Insert { key, function, place },
+            Event::Insert { key: self.random.word(), function, place },
+            Event::Update { key, function, place },
+            Event::Delete { key },
+            Event::Begin,
+            Event::Step,
+            Event::End,
+        ];
+        for event in events {
+            both_change(seen, &table, event)?;
+        }
+        both_query(seen, &table, key)
+    }
+}
+
+fn both_create(seen: &mut Seen, setting: Setting, garbage: &[u64]) -> Result<Vec<u64>, String> {
+    let Setting { c, k, mul1, mul2 } = setting;
+    let what = || format!("create c={c} k={k} mul1={mul1} mul2={mul2}");
+    let (mut by_library, mut by_twin) = (garbage.to_vec(), garbage.to_vec());
+    let number = Proved::default().create(&mut by_library, c, k, mul1, mul2);
+    let twin_number = Twin.create(&mut by_twin, c, k, mul1, mul2);
+    seen.note(number);
+    same(what, garbage, (number, by_library), (twin_number, by_twin)).map(|(_, table)| table)
+}
+
+fn both_query(seen: &mut Seen, table: &[u64], key: u64) -> Result<(), String> {
+    let (number, answer) = Proved::default().query(table, key);
+    let (twin_number, twin_answer) = Twin.query(table, key);
+    seen.note(number);
+    let what = || format!("query key={key}");
+    same(what, table, (number, answer.to_vec()), (twin_number, twin_answer.to_vec())).map(|_| ())
+}
+
+fn both_change(seen: &mut Seen, table: &[u64], event: Event) -> Result<(u64, Vec<u64>), String> {
+    let (mut by_library, mut by_twin) = (table.to_vec(), table.to_vec());
+    let mut library = Proved::default();
+    let number = library.change(&mut by_library, event);
+    let twin_number = Twin.change(&mut by_twin, event);
+    seen.note(number);
+    match (event, library.stores()) {
+        (Event::Recover, 1) => seen.doubled += 1,
+        (Event::Recover, 3) => seen.flagged += 1,
+        _ => {}
+    }
+    same(|| format!("{event:?}"), table, (number, by_library), (twin_number, by_twin))
+}
+
+type Answer = (u64, Vec<u64>);
+
+/// The answer that both gave, or what differs.
+fn same(call: impl Fn() -> String, before: &[u64], library: Answer, twin: Answer) -> Result<Answer, String> {
+    if library.0 != twin.0 {
+        return Err(format!(
+            "{}: the library answers {}, the twin {}; table before: {before:?}",
+            call(),
+            library.0,
+            twin.0
+        ));
+    }
+    match library.1.iter().zip(&twin.1).position(|(a, b)| a != b) {
+        None => Ok(library),
+        Some(at) => Err(format!(
+            "{}: word {at} is {} by the library, {} by the twin; table before: {before:?}",
+            call(),
+            library.1[at],
+            twin.1[at]
+        )),
+    }
+}
+
+impl Seen {
+    fn note(&mut self, number: u64) {
+        self.calls += 1;
+        self.numbers.insert(number);
+    }
+}

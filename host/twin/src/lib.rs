@@ -1,0 +1,27 @@
+//! The proved library and its twin, behind one trait, so that one program can check that they do the same and another can
+//! measure what each takes for it.
+//!
+//! - `proved`: the static library `collector`; a change is listed, and its list made;
+//! - `twin`: the plain table in C of `c/`; a change is written at once.
+
+mod proved;
+mod twin;
+
+pub use proved::Proved;
+pub use twin::Twin;
+
+use ragansils_model::Event;
+
+/// The compiler of the twin, with its options.
+pub const TWIN_COMPILER: &str = env!("RAGANSILS_TWIN_CC");
+
+/// A side of the comparison. Every answer is document 01's number, 0 for success.
+pub trait Side {
+    fn create(&mut self, table: &mut [u64], c: u64, k: u64, mul1: u64, mul2: u64) -> u64;
+
+    /// The number, then function, place and the number of buckets looked at.
+    fn query(&self, table: &[u64], key: u64) -> (u64, [u64; 3]);
+
+    /// Brings the table to what it is after the whole event.
+    fn change(&mut self, table: &mut [u64], event: Event) -> u64;
+}

@@ -1,0 +1,47 @@
+//! `twin-check SEED CALLS`: the twin answers and writes as the proved library does.
+
+mod check;
+
+use std::process::ExitCode;
+
+use ragansils_twin::TWIN_COMPILER;
+
+/// From so many calls on, an answer that never came fails the run: it would have compared too little.
+const TELLING_CALLS: u64 = 100_000;
+
+fn main() -> ExitCode {
+    let arguments: Vec<String> = std::env::args().skip(1).collect();
+    match run(&arguments) {
+        Ok(report) => {
+            println!("{report}");
+            ExitCode::SUCCESS
+        }
+        Err(message) => {
+            println!("FAILED: {message}");
+            ExitCode::FAILURE
+        }
+    }
+}
+
+fn run(arguments: &[String]) -> Result<String, String> {
+    let numbers: Result<Vec<u64>, _> = arguments.iter().map(|argument| argument.parse()).collect();
+    let (seed, calls) = match numbers.as_deref() {
+        Ok(&[seed, calls]) => (seed, calls),
+        _ => return Err("usage: twin-check SEED CALLS".to_string()),
+    };
+    let seen = check::run(seed, calls).map_err(|what| format!("seed {seed}: {what}"))?;
+    let missing: Vec<u64> = possible_answers().filter(|number| !seen.numbers.contains(number)).collect();
+    if calls >= TELLING_CALLS && (!missing.is_empty() || seen.doubled == 0 || seen.flagged == 0) {
+        return Err(format!("seed {seed}: never met: answers {missing:?}, or a kind of recovery"));
+    }
+    Ok(format!(
+        "{} calls of the twin ({TWIN_COMPILER}) and of the proved library: the same answers and words; seed {seed}; \
+         {} doubled and {} flagged tables recovered",
+        seen.calls, seen.doubled, seen.flagged
+    ))
+}
+
+/// All but 2 and 14, which need a list.
+fn possible_answers() -> impl Iterator<Item = u64> {
+    (0..=13).filter(|&number| number != 2)
+}

@@ -1,0 +1,74 @@
+//! The proved library's side.
+
+use ragansils::raw;
+use ragansils_model::{Event, LEAST_LIST_WORDS, SUCCESS};
+
+use crate::Side;
+
+/// With the list that is lent to its calls.
+#[derive(Default)]
+pub struct Proved {
+    list: [u64; LEAST_LIST_WORDS],
+    stores: u64,
+}
+
+impl Proved {
+    /// Lists an event's stores and answers its number.
+    #[inline(always)]
+    pub fn list_stores(&mut self, table: &[u64], event: Event) -> u64 {
+        let (words, length) = (table.as_ptr(), table.len());
+        let (list, list_length, stores) = (self.list.as_mut_ptr(), self.list.len(), &mut self.stores);
+        // SAFETY: each pointer is valid for the length beside it, and no two buffers overlap.
+        unsafe {
+            match event {
+                Event::Insert { key, function, place } => {
+                    raw::ragansils_insert(words, length, key, function, place, list, list_length, stores)
+                }
+                Event::Update { key, function, place } => {
+                    raw::ragansils_update(words, length, key, function, place, list, list_length, stores)
+                }
+                Event::Delete { key } => raw::ragansils_delete(words, length, key, list, list_length, stores),
+                Event::Begin => raw::ragansils_begin(words, length, list, list_length, stores),
+                Event::Step => raw::ragansils_step(words, length, list, list_length, stores),
+                Event::End => raw::ragansils_end(words, length, list, list_length, stores),
+                Event::Recover => raw::ragansils_recover(words, length, list, list_length, stores),
+            }
+        }
+    }
+
+    /// The number of stores that the last event listed.
+    pub fn stores(&self) -> u64 {
+        self.stores
+    }
+
+    /// Makes the first `n` of the stores listed last.
+    #[inline(always)]
+    pub fn make(&self, table: &mut [u64], n: u64) -> u64 {
+        let (list, list_length) = (self.list.as_ptr(), self.list.len());
+        // SAFETY: each pointer is valid for the length beside it, and the buffers do not overlap.
+        unsafe { raw::ragansils_make(table.as_mut_ptr(), table.len(), list, list_length, n) }
+    }
+}
+
+impl Side for Proved {
+    fn create(&mut self, table: &mut [u64], c: u64, k: u64, mul1: u64, mul2: u64) -> u64 {
+        // SAFETY: the pointer is valid for the length beside it.
+        unsafe { raw::ragansils_create(table.as_mut_ptr(), table.len(), c, k, mul1, mul2) }
+    }
+
+    #[inline(always)]
+    fn query(&self, table: &[u64], key: u64) -> (u64, [u64; 3]) {
+        let mut answer = [0; 3];
+        // SAFETY: the table's pointer is valid for the length beside it, and the answer has three words.
+        let number = unsafe { raw::ragansils_query(table.as_ptr(), table.len(), key, &mut answer) };
+        (number, answer)
+    }
+
+    #[inline(always)]
+    fn change(&mut self, table: &mut [u64], event: Event) -> u64 {
+        match self.list_stores(table, event) {
+            SUCCESS => self.make(table, self.stores),
+            number => number,
+        }
+    }
+}

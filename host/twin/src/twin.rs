@@ -1,0 +1,58 @@
+//! The twin's side.
+
+use ragansils_model::Event;
+
+use crate::Side;
+
+/// As `c/twin.h` has them.
+mod raw {
+    extern "C" {
+        pub fn twin_create(table: *mut u64, words: usize, c: u64, k: u64, mul1: u64, mul2: u64) -> u64;
+        pub fn twin_query(table: *const u64, words: usize, key: u64, answer: *mut u64) -> u64;
+        pub fn twin_insert(table: *mut u64, words: usize, key: u64, function: u64, place: u64) -> u64;
+        pub fn twin_update(table: *mut u64, words: usize, key: u64, function: u64, place: u64) -> u64;
+        pub fn twin_delete(table: *mut u64, words: usize, key: u64) -> u64;
+        pub fn twin_begin(table: *mut u64, words: usize) -> u64;
+        pub fn twin_step(table: *mut u64, words: usize) -> u64;
+        pub fn twin_end(table: *mut u64, words: usize) -> u64;
+        pub fn twin_recover(table: *mut u64, words: usize) -> u64;
+    }
+}
+
+pub struct Twin;
+
+impl Side for Twin {
+    fn create(&mut self, table: &mut [u64], c: u64, k: u64, mul1: u64, mul2: u64) -> u64 {
+        // SAFETY: the pointer is valid for the length beside it.
+        unsafe { raw::twin_create(table.as_mut_ptr(), table.len(), c, k, mul1, mul2) }
+    }
+
+    #[inline(always)]
+    fn query(&self, table: &[u64], key: u64) -> (u64, [u64; 3]) {
+        let mut answer = [0; 3];
+        // SAFETY: the table's pointer is valid for the length beside it, and the answer has three words.
+        let number = unsafe { raw::twin_query(table.as_ptr(), table.len(), key, answer.as_mut_ptr()) };
+        (number, answer)
+    }
+
+    #[inline(always)]
+    fn change(&mut self, table: &mut [u64], event: Event) -> u64 {
+        let (words, length) = (table.as_mut_ptr(), table.len());
+        // SAFETY: the pointer is valid for the length beside it.
+        unsafe {
+            match event {
+                Event::Insert { key, function, place } => {
+                    raw::twin_insert(words, length, key, function, place)
+                }
+                Event::Update { key, function, place } => {
+                    raw::twin_update(words, length, key, function, place)
+                }
+                Event::Delete { key } => raw::twin_delete(words, length, key),
+                Event::Begin => raw::twin_begin(words, length),
+                Event::Step => raw::twin_step(words, length),
+                Event::End => raw::twin_end(words, length),
+                Event::Recover => raw::twin_recover(words, length),
+            }
+        }
+    }
+}
