@@ -7,15 +7,30 @@ fail() {
     exit 1
 }
 
-# looks for a command, and installs it where this runs as root on Debian
+# installs packages where this runs as root on Debian
+install_packages() { # PACKAGES WHAT-FOR
+    if [ "$(id -u)" = 0 ] && command -v apt-get >/dev/null 2>&1; then
+        echo "installing $1, for $2"
+        # shellcheck disable=SC2086 # several packages are several words
+        { apt-get update && apt-get install -y --no-install-recommends $1; } >/dev/null || fail "apt-get could not install $1"
+    fi
+}
+
+# looks for a command, and installs it
 need() { # COMMAND PACKAGES WHAT-IT-DOES
     command -v "$1" >/dev/null 2>&1 && return
-    if [ "$(id -u)" = 0 ] && command -v apt-get >/dev/null 2>&1; then
-        echo "installing $2, for a command that $3"
-        # shellcheck disable=SC2086 # several packages are several words
-        { apt-get update && apt-get install -y --no-install-recommends $2; } >/dev/null || fail "apt-get could not install $2"
-    fi
+    install_packages "$2" "a command that $3"
     command -v "$1" >/dev/null 2>&1 || fail "the command '$1' is not on the PATH. It $3; install Debian's $2, or the like from elsewhere."
+}
+
+# looks for a header of C or C++, and installs it
+need_header() { # HEADER PACKAGES WHAT-IT-IS-FOR
+    has_header "$1" && return
+    install_packages "$2" "$3"
+    has_header "$1" || fail "the C++ compiler finds no <$1>. It is for $3; install Debian's $2, or the like from elsewhere."
+}
+has_header() {
+    echo "#include <$1>" | c++ -std=c++17 -E -x c++ - >/dev/null 2>&1
 }
 
 # runs a command and shows what it writes only where it fails
