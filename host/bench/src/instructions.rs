@@ -1,0 +1,160 @@
+//! Instructions and mispredicted branches of a call, counted by callgrind: they are the same on every run, where times are not.
+//! The program runs itself under valgrind, one operation of one side at a time.
+
+use std::path::Path;
+use std::process::Command;
+
+use ragansils::Creation;
+use ragansils_compare::random::Random;
+use ragansils_model::table_words;
+
+use crate::counts::multipliers;
+use crate::keys::{Keys, Kind};
+use crate::operations::{split_by_update, Filled, Operation};
+use crate::peers::{items_at, two_sides, Peer, LIBRARY, TWIN};
+
+/// A table that fits no first-level cache, and that valgrind fills in a second.
+const USUAL_C: u64 = 12;
+/// The tables whose recovery is counted.
+const RECOVERED: [u64; 5] = [6, 8, 10, 12, 14];
+const LOAD: f64 = 0.8;
+const CALLS: usize = 2_000;
+const SEED: u64 = 7;
+
+/// Of one call; of a recovery, for one word of the table.
+pub struct Count {
+    pub instructions: f64,
+    pub mispredicted: f64,
+}
+
+pub struct Counted {
+    pub c: u64,
+    pub operation: Operation,
+    pub library: Count,
+    pub twin: Count,
+}
+
+pub fn about() -> String {
+    format!("c = {USUAL_C}, load {LOAD}")
+}
+
+/// Counts every operation of both sides, and recovery in tables of several capacities. Callgrind's files go to a folder.
+pub fn count_all(folder: &Path) -> Result<Vec<Counted>, String> {
+    let calls = Operation::ALL.into_iter().filter(|&operation| operation != Operation::Recovery);
+    let recoveries = RECOVERED.into_iter().map(|c| (Operation::Recovery, c));
+    let all = calls.map(|operation| (operation, USUAL_C)).chain(recoveries);
+    all.map(|(operation, c)| {
+        let count = |side| count(operation, side, c, folder);
+        Ok(Counted { c, operation, library: count(LIBRARY)?, twin: count(TWIN)? })
+    })
+    .collect()
+}
+
+fn count(operation: Operation, side: &str, c: u64, folder: &Path) -> Result<Count, String> {
+    let file = folder.join("callgrind.out");
+    let program = std::env::current_exe().map_err(|error| format!("no path to this program: {error}"))?;
+    let output = Command::new("valgrind")
+        .args(["--tool=callgrind", "--branch-sim=yes", "--toggle-collect=counted_calls"])
+        .arg(format!("--callgrind-out-file={}", file.display()))
+        .arg(program)
+        .args(["counted", operation.name(), side, &c.to_string()])
+        .output()
+        .map_err(|error| format!("valgrind could not be run: {error}"))?;
+    let written = String::from_utf8_lossy(&output.stdout).trim().to_string();
+    let calls: f64 = match written.parse() {
+        Ok(calls) if output.status.success() => calls,
+        _ => return Err(format!("valgrind: {}", String::from_utf8_lossy(&output.stderr))),
+    };
+    let text = std::fs::read_to_string(&file).map_err(|error| format!("{}: {error}", file.display()))?;
+    totals(&text, calls)
+}
+
+/// What callgrind's file says, for one of so many calls.
+fn totals(text: &str, calls: f64) -> Result<Count, String> {
+    let line = |name: &str| text.lines().find_map(|line| line.strip_prefix(name));
+    let (events, totals) = match (line("events:"), line("totals:")) {
+        (Some(events), Some(totals)) => (events, totals),
+        _ => return Err("callgrind wrote no totals".to_string()),
+    };
+    let of = |event: &str| {
+        let at = events.split_whitespace().position(|name| name == event)?;
+        totals.split_whitespace().nth(at)?.parse::<f64>().ok().map(|total| total / calls)
+    };
+    match (of("Ir"), of("Bcm"), of("Bim")) {
+        (Some(instructions), Some(direct), Some(indirect)) => {
+            Ok(Count { instructions, mispredicted: direct + indirect })
+        }
+        _ => Err(format!("callgrind counted other events: {events}")),
+    }
+}
+
+/// What `counted_calls` is handed.
+pub struct Lent<'a> {
+    peer: &'a mut dyn Peer,
+    operation: Operation,
+    keys: &'a [u64],
+    answers: u64,
+}
+
+/// What callgrind counts and nothing else, by its name.
+#[no_mangle]
+#[inline(never)]
+pub fn counted_calls(lent: &mut Lent) {
+    let Lent { peer, operation, keys, answers } = lent;
+    *answers = match operation {
+        Operation::PositiveQuery | Operation::NegativeQuery => peer.get_all(keys),
+        Operation::Insert => peer.insert_all(keys),
+        Operation::Delete => peer.remove_all(keys),
+        Operation::UpdateBeside | Operation::UpdateLogged => peer.update_all(keys),
+        Operation::Recovery => peer.recover().into(),
+    };
+}
+
+/// Runs one operation of one side, under valgrind, and answers how many calls it was, or words that it recovered.
+pub fn run_counted(name: &str, side: &str, c: u64) -> Result<usize, String> {
+    let operation = Operation::ALL.into_iter().find(|operation| operation.name() == name);
+    let operation = operation.ok_or_else(|| format!("no operation {name}"))?;
+    let mut random = Random::new(SEED);
+    let creation = Creation { capacity: c, first_top: c, multipliers: multipliers(&mut random) };
+    let items = items_at(creation, LOAD);
+    let keys = Keys::new(&mut random, Kind::Random, items + CALLS / 10, CALLS);
+    let mut filled = Filled { c, peers: two_sides(creation), keys: &keys, items: 0, when: String::new() };
+    filled.peers.retain(|peer| peer.name() == side);
+    filled.fill(items)?;
+    let peer = filled.peers.first_mut().ok_or_else(|| format!("no side {side}"))?;
+    let chosen = keys_for(operation, &mut random, &keys, items, peer.words().ok_or("no words")?);
+    let mut lent = Lent { peer: peer.as_mut(), operation, keys: &chosen, answers: 0 };
+    counted_calls(&mut lent);
+    match (lent.answers, operation) {
+        (0, _) => Err(format!("{name} by the {side} did nothing")),
+        (_, Operation::Recovery) => Ok(table_words(c).unwrap_or(0)),
+        _ => Ok(chosen.len()),
+    }
+}
+
+fn keys_for(operation: Operation, random: &mut Random, keys: &Keys, items: usize, words: &[u64]) -> Vec<u64> {
+    let present = keys.draw_present(random, items, CALLS);
+    match operation {
+        Operation::PositiveQuery => present,
+        Operation::NegativeQuery => keys.draw_absent(random, CALLS),
+        Operation::Insert => keys.present()[items..].to_vec(),
+        Operation::Delete => keys.present()[..CALLS].to_vec(),
+        Operation::UpdateBeside => split_by_update(words, &present).1,
+        Operation::UpdateLogged => split_by_update(words, &present).0,
+        Operation::Recovery => vec![],
+    }
+}
+
+#[cfg(test)]
+mod tests {
+    use super::*;
+
+    #[test]
+    fn callgrind_is_read() {
+        let text = "events: Ir Bc Bcm Bi Bim\nfn=counted\ntotals: 1000 90 20 5 10\n";
+        let count = totals(text, 10.0).unwrap();
+        assert_eq!([count.instructions, count.mispredicted], [100.0, 3.0]);
+        assert!(totals("events: Ir\ntotals: 5\n", 1.0).is_err());
+        assert!(totals("", 1.0).is_err());
+    }
+}

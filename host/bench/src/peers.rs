@@ -1,0 +1,100 @@
+//! What is measured: tables from a key to a record of two words, behind one trait.
+//!
+//! - `level`: the proved library and its twin, each over words of its own;
+//! - `foreign`: tables in C and C++ from Debian's packages;
+//! - `standard`: Rust's `HashMap`.
+
+mod foreign;
+mod level;
+mod standard;
+
+use std::path::Path;
+
+pub use level::{items_at, slots_of, swap_words, LevelTable};
+
+use ragansils::Creation;
+use ragansils_twin::{Proved, Twin};
+
+pub type Record = [u64; 2];
+
+/// Names of the two sides, which are always the first two peers.
+pub const LIBRARY: &str = "library";
+pub const TWIN: &str = "twin";
+
+/// The record that a key has before any update.
+pub fn record_of(key: u64) -> Record {
+    [key.wrapping_mul(3), key ^ (key >> 7)]
+}
+
+pub trait Peer {
+    fn name(&self) -> &'static str;
+    fn get(&self, key: u64) -> Option<Record>;
+    /// Whether the key came in.
+    fn insert(&mut self, key: u64, record: Record) -> bool;
+    /// Whether the key was there.
+    fn update(&mut self, key: u64, record: Record) -> bool;
+    fn remove(&mut self, key: u64) -> bool;
+
+    /// Whether there is such a thing as doubling the table's room at once.
+    fn grows(&self) -> bool {
+        false
+    }
+
+    /// Doubles the table's room with all its items in it; whether that was done.
+    fn grow(&mut self) -> bool {
+        false
+    }
+
+    /// Before and after `grow`, so that it can be done again.
+    fn before_growth(&mut self) {}
+    fn after_growth(&mut self) {}
+
+    /// A level table's recovery; whether it was accepted.
+    fn recover(&mut self) -> bool {
+        false
+    }
+
+    /// The words of a level table.
+    fn words(&mut self) -> Option<&mut Vec<u64>> {
+        None
+    }
+
+    // Runs of calls: one call through the trait object, the calls within it direct. Each answers a sum of all answers,
+    // so that no call can be left out, and so that peers which should do the same can be seen to.
+
+    fn get_all(&self, keys: &[u64]) -> u64 {
+        sum(keys.iter().map(|&key| self.get(key).map_or(1, |[function, place]| function ^ place)))
+    }
+
+    fn insert_all(&mut self, keys: &[u64]) -> u64 {
+        sum(keys.iter().map(|&key| self.insert(key, record_of(key)).into()))
+    }
+
+    fn update_all(&mut self, keys: &[u64]) -> u64 {
+        sum(keys.iter().enumerate().map(|(at, &key)| self.update(key, [at as u64, key]).into()))
+    }
+
+    fn remove_all(&mut self, keys: &[u64]) -> u64 {
+        sum(keys.iter().map(|&key| self.remove(key).into()))
+    }
+}
+
+fn sum(answers: impl Iterator<Item = u64>) -> u64 {
+    answers.fold(0, u64::wrapping_add)
+}
+
+/// The library and the twin alone, empty.
+pub fn two_sides(creation: Creation) -> Vec<Box<dyn Peer>> {
+    vec![
+        Box::new(LevelTable::new(LIBRARY, Proved::default(), creation)),
+        Box::new(LevelTable::new(TWIN, Twin, creation)),
+    ]
+}
+
+/// All peers, empty, with room for so many items.
+pub fn all(creation: Creation, items: usize, folder: &Path) -> Vec<Box<dyn Peer>> {
+    let mut peers = two_sides(creation);
+    peers.extend(foreign::all(items, folder));
+    peers.extend(standard::all(items));
+    peers
+}

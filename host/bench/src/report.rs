@@ -1,0 +1,327 @@
+//! The figures as text, for docs/BENCHMARKS.md.
+
+use ragansils_model::table_words;
+use ragansils_twin::TWIN_COMPILER;
+
+use crate::article;
+use crate::counts::{Fillings, Growth};
+use crate::instructions;
+use crate::keys::Kind;
+use crate::operations::Operation;
+use crate::peers::{LIBRARY, TWIN};
+use crate::rounds::{Measured, Middle};
+use crate::run::Results;
+
+/// What the library may take, as a multiple of the twin's time, at these capacities.
+const TARGETS: [(&str, f64); 3] = [("query", 1.10), ("insert", 1.30), ("recovery", 1.20)];
+const TARGET_CAPACITIES: [u64; 2] = [14, 18];
+/// A ratio above this is called slower.
+const SLOWER: f64 = 1.05;
+
+/// All sections.
+pub fn figures(results: &Results, seed: u64) -> String {
+    let intro = format!(
+        "Seed {seed}; the twin by `{TWIN_COMPILER}`. Times are medians over the rounds; a ratio is the \
+         median of the rounds' ratios, with the bounds of the middle half of the rounds beside it.\n"
+    );
+    [
+        intro,
+        slower(results),
+        targets(results),
+        instruction_table(results),
+        twin_tables(results),
+        peer_tables(results),
+        recovery_table(results),
+        growth_table(results),
+        article::claims(results),
+        filling_table(results),
+        probe_table(results),
+        regrowth_table(results),
+    ]
+    .join("\n")
+}
+
+/// Every round of everything, to be looked at again.
+pub fn every_round(results: &Results) -> String {
+    let parts = [
+        &results.operations,
+        &results.recovery,
+        &results.more_recovery,
+        &results.growth,
+        &results.more_growth,
+    ];
+    let mut text = String::new();
+    for measured in parts.iter().copied().flatten() {
+        for series in &measured.series {
+            let rounds: Vec<String> = series.rounds.iter().map(|time| format!("{time:.1}")).collect();
+            let (c, operation, peer) = (measured.c, &measured.operation, series.peer);
+            text += &format!("c={c}; {operation}; {peer}; ns: {}\n", rounds.join(" "));
+        }
+    }
+    text
+}
+
+/// A Markdown table.
+pub fn table(title: &str, heads: &[String], rows: impl IntoIterator<Item = Vec<String>>) -> String {
+    let mut text = format!("{title}\n\n| {} |\n|{}\n", heads.join(" | "), "---|".repeat(heads.len()));
+    for row in rows {
+        assert_eq!(row.len(), heads.len(), "a row of {title} has a cell for each head");
+        text += &format!("| {} |\n", row.join(" | "));
+    }
+    text
+}
+
+pub fn heads(names: &[&str]) -> Vec<String> {
+    names.iter().map(|name| name.to_string()).collect()
+}
+
+/// Three digits that count.
+fn three_digits(value: f64) -> String {
+    let digits_before = value.abs().max(1e-9).log10().floor() as i32 + 1;
+    let places = (3 - digits_before).max(0) as usize;
+    format!("{value:.places$}")
+}
+
+fn ratio(middle: Middle) -> String {
+    format!("**{:.2}**", middle.median)
+}
+
+fn bounds(middle: Middle) -> String {
+    format!("{:.2} to {:.2}", middle.low, middle.high)
+}
+
+/// A peer's median in some unit of so many nanoseconds.
+fn time(measured: &Measured, peer: &str, unit: f64) -> String {
+    measured.of(peer).map_or("".to_string(), |series| three_digits(series.middle().median / unit))
+}
+
+/// Everything that has a twin, with the name of its capacity.
+fn beside_the_twin(results: &Results) -> impl Iterator<Item = &Measured> {
+    results.operations.iter().chain(&results.recovery).chain(&results.growth)
+}
+
+fn slower(results: &Results) -> String {
+    let mut slow: Vec<(f64, String)> = vec![];
+    for measured in beside_the_twin(results) {
+        let median = measured.ratio_to_twin().map_or(0.0, |middle| middle.median);
+        if median > SLOWER {
+            slow.push((median, format!("{}, c = {}", measured.operation, measured.c)));
+        }
+    }
+    slow.sort_by(|a, b| b.0.total_cmp(&a.0));
+    let all = beside_the_twin(results).count();
+    let title = format!(
+        "### Slower than the twin\n\n{} of {all} measurements have a ratio above {SLOWER}:",
+        slow.len()
+    );
+    let rows = slow.into_iter().map(|(median, what)| vec![format!("**{median:.2}**"), what]);
+    table(&title, &heads(&["library / twin", "operation"]), rows)
+}
+
+/// The worst ratio under each target.
+pub fn targets(results: &Results) -> String {
+    let rows = TARGETS.map(|(name, limit)| {
+        let under = beside_the_twin(results).filter(|measured| {
+            measured.operation.starts_with(name) && TARGET_CAPACITIES.contains(&measured.c)
+        });
+        let ratios = under.filter_map(|measured| Some((measured.ratio_to_twin()?.median, measured)));
+        let mut all: Vec<(f64, &Measured)> = ratios.collect();
+        all.sort_by(|a, b| b.0.total_cmp(&a.0));
+        let within = all.iter().filter(|(median, _)| *median <= limit).count();
+        let worst = all.first().map_or("not measured".to_string(), |(median, measured)| {
+            format!("{median:.2}: {}, c = {}", measured.operation, measured.c)
+        });
+        let verdict = if within == all.len() { "met" } else { "missed" };
+        vec![
+            name.to_string(),
+            format!("{limit:.2}"),
+            verdict.to_string(),
+            format!("{within} of {}", all.len()),
+            worst,
+        ]
+    });
+    let title = "### Targets, at c = 14 and c = 18";
+    table(title, &heads(&["operation", "at most", "", "measurements within", "worst"]), rows)
+}
+
+fn instruction_table(results: &Results) -> String {
+    let rows = results.instructions.iter().map(|counted| {
+        let (library, twin) = (&counted.library, &counted.twin);
+        let operation = match counted.operation {
+            Operation::Recovery => format!("recovery, for a word, c = {}", counted.c),
+            operation => operation.name().to_string(),
+        };
+        vec![
+            operation,
+            three_digits(library.instructions),
+            three_digits(twin.instructions),
+            format!("**{:.2}**", library.instructions / twin.instructions),
+            format!("{:.2}", library.mispredicted),
+            format!("{:.2}", twin.mispredicted),
+        ]
+    });
+    let title = format!(
+        "### Instructions of a call\n\nCounted by callgrind, with its model of a branch predictor; {}.",
+        instructions::about()
+    );
+    let names = ["operation", "library", "twin", "ratio", "mispredicted, library", "mispredicted, twin"];
+    table(&title, &heads(&names), rows)
+}
+
+/// The capacities that were measured, in order.
+fn capacities(all: &[Measured]) -> Vec<u64> {
+    let mut found: Vec<u64> = all.iter().map(|measured| measured.c).collect();
+    found.sort_unstable();
+    found.dedup();
+    found
+}
+
+fn twin_tables(results: &Results) -> String {
+    let names = heads(&["operation", "library, ns", "twin, ns", "ratio", "middle half"]);
+    let one = |c: u64| {
+        let rows = results.operations.iter().filter(|measured| measured.c == c).filter_map(|measured| {
+            let middle = measured.ratio_to_twin()?;
+            let times = [time(measured, LIBRARY, 1.0), time(measured, TWIN, 1.0)];
+            let [library, twin] = times;
+            Some(vec![measured.operation.clone(), library, twin, ratio(middle), bounds(middle)])
+        });
+        table(&format!("### Beside the twin, c = {c}"), &names, rows)
+    };
+    capacities(&results.operations).into_iter().map(one).collect::<Vec<String>>().join("\n")
+}
+
+/// The peers besides library and twin.
+fn others(measured: &[Measured]) -> Vec<&'static str> {
+    let all = measured.first().map_or(vec![], |one| one.series.iter().map(|series| series.peer).collect());
+    all.into_iter().filter(|peer| ![LIBRARY, TWIN].contains(peer)).collect()
+}
+
+fn peer_tables(results: &Results) -> String {
+    let others = others(&results.operations);
+    let mut names = heads(&["operation", "library, ns"]);
+    names.extend(others.iter().map(|peer| peer.to_string()));
+    let cell = |measured: &Measured, peer: &str| {
+        let middle = measured.ratio_to(peer)?;
+        Some(format!("{} ({:.2})", time(measured, peer, 1.0), middle.median))
+    };
+    let one = |c: u64| {
+        let rows = results.operations.iter().filter(|measured| measured.c == c).map(|measured| {
+            let mut row = vec![measured.operation.clone(), time(measured, LIBRARY, 1.0)];
+            row.extend(others.iter().map(|peer| cell(measured, peer).unwrap_or_default()));
+            row
+        });
+        let title = format!("### Beside other tables, c = {c}\n\nNanoseconds, and in brackets the library's time as a multiple of it.");
+        table(&title, &names, rows)
+    };
+    capacities(&results.operations).into_iter().map(one).collect::<Vec<String>>().join("\n")
+}
+
+fn recovery_table(results: &Results) -> String {
+    let all = results.recovery.iter().chain(&results.more_recovery);
+    let rows = all.filter_map(|measured| {
+        let middle = measured.ratio_to_twin()?;
+        let words = table_words(measured.c)? as f64;
+        let library = measured.of(LIBRARY)?.middle().median;
+        Some(vec![
+            format!("{}", measured.c),
+            format!("{words}"),
+            measured.operation.replace("recovery, ", ""),
+            three_digits(library / 1e6),
+            time(measured, TWIN, 1e6),
+            ratio(middle),
+            bounds(middle),
+            three_digits(library / words),
+        ])
+    });
+    let names =
+        ["c", "words", "table", "library, ms", "twin, ms", "ratio", "middle half", "library, ns for a word"];
+    table("### Recovery of a whole table", &heads(&names), rows)
+}
+
+fn growth_table(results: &Results) -> String {
+    let others = others(&results.growth);
+    let mut names = heads(&["k", "N = 2^k", "library, ms", "twin, ms", "ratio"]);
+    names.extend(others.iter().map(|peer| format!("{peer}, ms")));
+    let rows = results.whole_growths().into_iter().filter_map(|measured| {
+        let k = measured.c - 1;
+        let middle = measured.ratio_to_twin()?;
+        let [library, twin] = [LIBRARY, TWIN].map(|peer| time(measured, peer, 1e6));
+        let mut row = vec![k.to_string(), (1u64 << k).to_string(), library, twin, ratio(middle)];
+        row.extend(others.iter().map(|peer| time(measured, peer, 1e6)));
+        Some(row)
+    });
+    table("### One whole growth, begun at load 0.8", &names, rows)
+}
+
+fn filling_table(results: &Results) -> String {
+    let rows = results.fillings.iter().map(|fillings: &Fillings| {
+        let middle = fillings.load_at_first_refusal();
+        vec![
+            fillings.k.to_string(),
+            fillings.kind.name().to_string(),
+            fillings.first_refusal.len().to_string(),
+            format!("{:.3}", fillings.least_load()),
+            format!("**{:.3}**", middle.median),
+            format!("{:.3}", fillings.bottom_share().median),
+            format!("{:.2} %", 100.0 * fillings.moving_share()),
+            format!("{:.3}", fillings.stores_per_insert()),
+        ]
+    });
+    let names = [
+        "k",
+        "keys",
+        "tables",
+        "least load",
+        "median load",
+        "items in the bottom",
+        "inserts that moved an item",
+        "stores for an insert",
+    ];
+    table("### Filled until the first refusal 6", &heads(&names), rows)
+}
+
+fn probe_table(results: &Results) -> String {
+    let rows = results.probes.iter().map(|probes| {
+        vec![probes.when.clone(), format!("{:.3}", probes.positive), format!("{:.3}", probes.negative)]
+    });
+    table("### Buckets that a query looks at", &heads(&["table", "positive", "negative"]), rows)
+}
+
+fn regrowth_table(results: &Results) -> String {
+    let row = |kind: Kind, growth: &Growth| {
+        vec![
+            kind.name().to_string(),
+            growth.k.to_string(),
+            format!("{:.3}", growth.load),
+            growth.items.to_string(),
+            growth.moved.to_string(),
+            format!("**{:.3}**", growth.share()),
+            growth.moving_steps.to_string(),
+            format!("{:.2}", growth.stores as f64 / (1u64 << growth.k) as f64),
+        ]
+    };
+    let rows = results
+        .growths
+        .iter()
+        .flat_map(|(kind, growths)| growths.iter().map(move |growth| row(*kind, growth)));
+    let names =
+        ["keys", "k", "load", "items", "moved", "share", "steps that moved another", "stores for each of N"];
+    table("### Growths, each begun at the first refusal 6", &heads(&names), rows)
+}
+
+#[cfg(test)]
+mod tests {
+    use super::*;
+
+    #[test]
+    fn three_digits_count() {
+        let said = [0.001234, 0.5, 9.876, 31.04, 314.2, 31415.9].map(three_digits);
+        assert_eq!(said, ["0.00123", "0.500", "9.88", "31.0", "314", "31416"]);
+    }
+
+    #[test]
+    fn a_table_of_one_row() {
+        let text = table("Title", &heads(&["a", "b"]), [heads(&["1", "2"])]);
+        assert_eq!(text, "Title\n\n| a | b |\n|---|---|\n| 1 | 2 |\n");
+    }
+}

@@ -1,0 +1,126 @@
+//! Rounds of measurement: every peer in each round, and what is said of the rounds.
+
+use crate::peers::{Peer, LIBRARY, TWIN};
+
+/// What was measured of one operation.
+pub struct Measured {
+    pub c: u64,
+    pub operation: String,
+    pub series: Vec<Series>,
+}
+
+/// A peer's nanoseconds for one operation, in each round.
+pub struct Series {
+    pub peer: &'static str,
+    pub rounds: Vec<f64>,
+}
+
+/// The middle of some numbers, and the bounds of their middle half.
+#[derive(Clone, Copy)]
+pub struct Middle {
+    pub low: f64,
+    pub median: f64,
+    pub high: f64,
+}
+
+impl Middle {
+    pub fn of(numbers: impl IntoIterator<Item = f64>) -> Middle {
+        let mut sorted: Vec<f64> = numbers.into_iter().collect();
+        sorted.sort_by(f64::total_cmp);
+        let at = |share: f64| sorted[((sorted.len() - 1) as f64 * share).round() as usize];
+        Middle { low: at(0.25), median: at(0.5), high: at(0.75) }
+    }
+}
+
+impl Series {
+    pub fn middle(&self) -> Middle {
+        Middle::of(self.rounds.iter().copied())
+    }
+}
+
+impl Measured {
+    pub fn of(&self, peer: &str) -> Option<&Series> {
+        self.series.iter().find(|series| series.peer == peer)
+    }
+
+    /// The library's time as a multiple of a peer's, round by round: what slows the machine for a while slows both.
+    pub fn ratio_to(&self, peer: &str) -> Option<Middle> {
+        let (library, other) = (self.of(LIBRARY)?, self.of(peer)?);
+        Some(Middle::of(library.rounds.iter().zip(&other.rounds).map(|(ours, theirs)| ours / theirs)))
+    }
+
+    pub fn ratio_to_twin(&self) -> Option<Middle> {
+        self.ratio_to(TWIN)
+    }
+}
+
+/// The series of some operations that are measured together, as an insert and the delete that takes it back.
+pub struct Rounds<const N: usize> {
+    series: [Vec<Series>; N],
+}
+
+impl<const N: usize> Rounds<N> {
+    pub fn new(peers: &[Box<dyn Peer>]) -> Rounds<N> {
+        let empty = |_| peers.iter().map(|peer| Series { peer: peer.name(), rounds: vec![] }).collect();
+        Rounds { series: [(); N].map(empty) }
+    }
+
+    /// One round: each peer in turn, another one first each time. `run` gives nanoseconds for one of each operation, and a
+    /// sum of the answers, in which all peers must agree.
+    pub fn round(
+        &mut self,
+        number: usize,
+        peers: &mut [Box<dyn Peer>],
+        mut run: impl FnMut(&mut dyn Peer) -> ([f64; N], u64),
+    ) -> Result<(), String> {
+        let mut agreed = None;
+        for turn in 0..peers.len() {
+            let at = (number + turn) % peers.len();
+            let (times, answers) = run(peers[at].as_mut());
+            if *agreed.get_or_insert(answers) != answers {
+                return Err(format!("{} does not answer as the peers before it", peers[at].name()));
+            }
+            // The first round warms up.
+            if number > 0 {
+                for (series, time) in self.series.iter_mut().zip(times) {
+                    series[at].rounds.push(time);
+                }
+            }
+        }
+        Ok(())
+    }
+
+    pub fn finish(self, c: u64, operations: [String; N]) -> Vec<Measured> {
+        let pairs = self.series.into_iter().zip(operations);
+        pairs.map(|(series, operation)| Measured { c, operation, series }).collect()
+    }
+}
+
+#[cfg(test)]
+mod tests {
+    use super::*;
+
+    fn measured(library: &[f64], twin: &[f64]) -> Measured {
+        let series =
+            [(LIBRARY, library), (TWIN, twin)].map(|(peer, rounds)| Series { peer, rounds: rounds.to_vec() });
+        Measured { c: 1, operation: String::new(), series: series.into() }
+    }
+
+    #[test]
+    fn the_middle_of_five() {
+        let middle = Middle::of([5.0, 1.0, 4.0, 2.0, 3.0]);
+        assert_eq!([middle.low, middle.median, middle.high], [2.0, 3.0, 4.0]);
+    }
+
+    /// The rounds in which the machine was slow are slow on both sides.
+    #[test]
+    fn ratios_go_round_by_round() {
+        let ratio = measured(&[2.0, 20.0, 200.0], &[1.0, 10.0, 100.0]).ratio_to_twin().unwrap();
+        assert_eq!([ratio.low, ratio.median, ratio.high], [2.0; 3]);
+    }
+
+    #[test]
+    fn no_ratio_without_a_twin() {
+        assert!(measured(&[1.0], &[1.0]).ratio_to("another").is_none());
+    }
+}
