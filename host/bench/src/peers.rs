@@ -13,13 +13,15 @@ use std::path::Path;
 pub use level::{items_at, slots_of, swap_words, LevelTable};
 
 use ragansils::Creation;
-use ragansils_twin::{Proved, Twin};
+use ragansils_twin::{ListingTwin, Proved, Twin};
 
 pub type Record = [u64; 2];
 
 /// Names of the two sides, which are always the first two peers.
 pub const LIBRARY: &str = "library";
 pub const TWIN: &str = "twin";
+/// The twin whose inserts are listed, and made as the library's are.
+pub const LISTING_TWIN: &str = "twin with a list";
 
 /// The record that a key has before any update.
 pub fn record_of(key: u64) -> Record {
@@ -89,6 +91,13 @@ pub fn two_sides(creation: Creation) -> Vec<Box<dyn Peer>> {
         Box::new(LevelTable::new(LIBRARY, Proved::default(), creation)),
         Box::new(LevelTable::new(TWIN, Twin, creation)),
     ]
+}
+
+/// The two sides, and between them a twin with a list.
+pub fn two_sides_and_a_list(creation: Creation) -> Vec<Box<dyn Peer>> {
+    let mut peers = two_sides(creation);
+    peers.push(Box::new(LevelTable::new(LISTING_TWIN, ListingTwin::default(), creation)));
+    peers
 }
 
 /// All peers, empty, with room for so many items.

@@ -8,7 +8,7 @@ use crate::counts::{Fillings, Growth};
 use crate::instructions;
 use crate::keys::Kind;
 use crate::operations::Operation;
-use crate::peers::{LIBRARY, TWIN};
+use crate::peers::{LIBRARY, LISTING_TWIN, TWIN};
 use crate::rounds::{Measured, Middle};
 use crate::run::Results;
 
@@ -28,6 +28,7 @@ pub fn figures(results: &Results, seed: u64) -> String {
         intro,
         slower(results),
         targets(results),
+        list_table(results),
         instruction_table(results),
         twin_tables(results),
         peer_tables(results),
@@ -45,6 +46,7 @@ pub fn figures(results: &Results, seed: u64) -> String {
 pub fn every_round(results: &Results) -> String {
     let parts = [
         &results.operations,
+        &results.listed_inserts,
         &results.recovery,
         &results.more_recovery,
         &results.growth,
@@ -142,6 +144,33 @@ pub fn targets(results: &Results) -> String {
     });
     let title = "### Targets, at c = 14 and c = 18";
     table(title, &heads(&["operation", "at most", "", "measurements within", "worst"]), rows)
+}
+
+fn list_table(results: &Results) -> String {
+    let rows = results.listed_inserts.iter().filter_map(|measured| {
+        let [library, twin, listing] = [LIBRARY, TWIN, LISTING_TWIN].map(|peer| time(measured, peer, 1.0));
+        Some(vec![
+            format!("{}, c = {}", measured.operation, measured.c),
+            library,
+            listing,
+            twin,
+            ratio(measured.ratio(LISTING_TWIN, TWIN)?),
+            ratio(measured.ratio(LIBRARY, LISTING_TWIN)?),
+            ratio(measured.ratio_to_twin()?),
+        ])
+    });
+    let names = [
+        "operation",
+        "library, ns",
+        "twin with a list, ns",
+        "twin, ns",
+        "list alone",
+        "library / twin with a list",
+        "library / twin",
+    ];
+    let title = "### What the list alone costs an insert\n\nThe twin, but that it lists its four stores as the library does, and \
+        `ragansils_make` makes them.";
+    table(title, &heads(&names), rows)
 }
 
 fn instruction_table(results: &Results) -> String {

@@ -43,10 +43,14 @@ impl Measured {
         self.series.iter().find(|series| series.peer == peer)
     }
 
-    /// The library's time as a multiple of a peer's, round by round: what slows the machine for a while slows both.
+    /// One peer's time as a multiple of another's, round by round: what slows the machine for a while slows both.
+    pub fn ratio(&self, one: &str, other: &str) -> Option<Middle> {
+        let (one, other) = (self.of(one)?, self.of(other)?);
+        Some(Middle::of(one.rounds.iter().zip(&other.rounds).map(|(ours, theirs)| ours / theirs)))
+    }
+
     pub fn ratio_to(&self, peer: &str) -> Option<Middle> {
-        let (library, other) = (self.of(LIBRARY)?, self.of(peer)?);
-        Some(Middle::of(library.rounds.iter().zip(&other.rounds).map(|(ours, theirs)| ours / theirs)))
+        self.ratio(LIBRARY, peer)
     }
 
     pub fn ratio_to_twin(&self) -> Option<Middle> {

@@ -28,6 +28,8 @@ const FEW_AT_LEAST: usize = 60;
 pub struct Results {
     /// Queries and changes, nanoseconds for one.
     pub operations: Vec<Measured>,
+    /// Inserts of the two sides and of a twin with a list.
+    pub listed_inserts: Vec<Measured>,
     /// Recovery, nanoseconds for a table: of every kind at the plan's capacities, and of sound tables at others.
     pub recovery: Vec<Measured>,
     pub more_recovery: Vec<Measured>,
@@ -54,6 +56,10 @@ impl Results {
     }
 }
 
+fn few_of(creation: Creation) -> usize {
+    (slots_of(creation) / FEW_SHARE).max(FEW_AT_LEAST)
+}
+
 fn by_capacity<'a>(all: impl Iterator<Item = &'a Measured>) -> Vec<&'a Measured> {
     let mut sorted: Vec<&Measured> = all.collect();
     sorted.sort_by_key(|measured| measured.c);
@@ -77,6 +83,7 @@ impl Run<'_> {
         for &c in self.plan.capacities {
             self.at_rest(c, Kind::Random)?;
             self.growing(c, Kind::Random)?;
+            self.listed_inserts(c)?;
             self.recoveries(c)?;
             self.whole_growth(c)?;
         }
@@ -105,7 +112,7 @@ impl Run<'_> {
     fn at_rest(&mut self, c: u64, kind: Kind) -> Result<(), String> {
         self.say(&format!("queries and changes, c = {c}, {}", kind.name()));
         let creation = self.creation(c);
-        let few = (slots_of(creation) / FEW_SHARE).max(FEW_AT_LEAST);
+        let few = few_of(creation);
         let (rounds, calls) = (self.plan.rounds_at(c), self.plan.calls);
         let keys = Keys::new(&mut self.random, kind, items_at(creation, HIGH_LOAD) + 4 * few, calls);
         let mut filled = self.peers(creation, &keys, "");
@@ -117,6 +124,23 @@ impl Run<'_> {
             measured.extend(filled.inserts_and_deletes(&mut self.random, rounds, calls, few)?);
             measured.extend(filled.updates(&mut self.random, rounds, calls)?);
             self.count_probes(&mut filled)?;
+        }
+        Ok(())
+    }
+
+    /// What a list costs an insert by itself.
+    fn listed_inserts(&mut self, c: u64) -> Result<(), String> {
+        let creation = self.creation(c);
+        let (rounds, calls, few) = (self.plan.rounds_at(c), self.plan.calls, few_of(creation));
+        let keys = Keys::new(&mut self.random, Kind::Random, items_at(creation, HIGH_LOAD) + 4 * few, 0);
+        let peers = peers::two_sides_and_a_list(creation);
+        let mut filled = Filled { c, peers, keys: &keys, items: 0, when: String::new() };
+        for load in LOADS {
+            filled.when = format!("load {load}");
+            filled.fill(items_at(creation, load))?;
+            let mut measured = filled.inserts_and_deletes(&mut self.random, rounds, calls, few)?;
+            measured.truncate(1);
+            self.results.listed_inserts.append(&mut measured);
         }
         Ok(())
     }

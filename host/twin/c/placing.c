@@ -77,19 +77,22 @@ static struct spot move_one(struct table *t, struct hashes x, unsigned k)
     return freed;
 }
 
-bool place_item(struct table *t, struct slot item, struct hashes x)
+struct spot free_slot(struct table *t, struct hashes x)
 {
     unsigned k = top_exponent(t);
     struct bucket *b = emptier(t, x, k);
     if (is_full(b))
         b = emptier(t, x, k - 1);
-    if (!is_full(b)) {
-        fill_slot(b, lowest_free(b), item);
-        return true;
-    }
-    struct spot freed = move_one(t, x, k);
-    if (freed.bucket == NULL)
+    return is_full(b) ? (struct spot){NULL, 0} : (struct spot){b, lowest_free(b)};
+}
+
+bool place_item(struct table *t, struct slot item, struct hashes x)
+{
+    struct spot to = free_slot(t, x);
+    if (to.bucket == NULL)
+        to = move_one(t, x, top_exponent(t));
+    if (to.bucket == NULL)
         return false;
-    fill_slot(freed.bucket, freed.slot, item);
+    fill_slot(to.bucket, to.slot, item);
     return true;
 }

@@ -12,6 +12,8 @@
 #include <stddef.h>
 #include <stdint.h>
 
+#include "ragansils.h"
+
 uint64_t twin_create(uint64_t *table, size_t words, uint64_t c, uint64_t k, uint64_t mul1, uint64_t mul2);
 
 /* answer: function, place and the number of buckets looked at. */
@@ -26,5 +28,12 @@ uint64_t twin_step(uint64_t *table, size_t words);
 uint64_t twin_end(uint64_t *table, size_t words);
 
 uint64_t twin_recover(uint64_t *table, size_t words);
+
+/*
+ * As twin_insert, but with a list, for ragansils_make: so it can be measured what a list costs by itself. Where another item has to move,
+ * it lists nothing and writes the table at once.
+ */
+uint64_t twin_list_insert(uint64_t *table, size_t words, uint64_t key, uint64_t function, uint64_t place,
+                          uint64_t list[RAGANSILS_LIST_WORDS], uint64_t *stores);
 
 #endif

@@ -6,7 +6,7 @@ use ragansils_compare::damage::damage;
 use ragansils_compare::history::{next_event, Keys, Mood, Setting};
 use ragansils_compare::random::Random;
 use ragansils_model::{table_words, Event, SUCCESS};
-use ragansils_twin::{Proved, Side, Twin};
+use ragansils_twin::{ListingTwin, Proved, Side, Twin};
 
 /// What a run has met.
 #[derive(Default)]
@@ -133,17 +133,24 @@ fn both_query(seen: &mut Seen, table: &[u64], key: u64) -> Result<(), String> {
 }
 
 fn both_change(seen: &mut Seen, table: &[u64], event: Event) -> Result<(u64, Vec<u64>), String> {
-    let (mut by_library, mut by_twin) = (table.to_vec(), table.to_vec());
     let mut library = Proved::default();
-    let number = library.change(&mut by_library, event);
-    let twin_number = Twin.change(&mut by_twin, event);
-    seen.note(number);
+    let by_library = changed(&mut library, table, event);
+    seen.note(by_library.0);
     match (event, library.stores()) {
         (Event::Recover, 1) => seen.doubled += 1,
         (Event::Recover, 3) => seen.flagged += 1,
         _ => {}
     }
-    same(|| format!("{event:?}"), table, (number, by_library), (twin_number, by_twin))
+    let what = || format!("{event:?}");
+    let by_both = same(what, table, by_library, changed(&mut Twin, table, event))?;
+    same(what, table, by_both, changed(&mut ListingTwin::default(), table, event))
+}
+
+/// What a side answers, and the words that it leaves.
+fn changed(side: &mut impl Side, table: &[u64], event: Event) -> Answer {
+    let mut words = table.to_vec();
+    let number = side.change(&mut words, event);
+    (number, words)
 }
 
 type Answer = (u64, Vec<u64>);

@@ -8,7 +8,7 @@ mod proved;
 mod twin;
 
 pub use proved::Proved;
-pub use twin::Twin;
+pub use twin::{ListingTwin, Twin};
 
 use ragansils_model::Event;
 

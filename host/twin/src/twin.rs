@@ -1,11 +1,14 @@
 //! The twin's side.
 
-use ragansils_model::Event;
+use ragansils::raw::ragansils_make;
+use ragansils_model::{Event, LEAST_LIST_WORDS, SUCCESS};
 
 use crate::Side;
 
 /// As `c/twin.h` has them.
 mod raw {
+    use ragansils_model::LEAST_LIST_WORDS;
+
     extern "C" {
         pub fn twin_create(table: *mut u64, words: usize, c: u64, k: u64, mul1: u64, mul2: u64) -> u64;
         pub fn twin_query(table: *const u64, words: usize, key: u64, answer: *mut u64) -> u64;
@@ -16,6 +19,15 @@ mod raw {
         pub fn twin_step(table: *mut u64, words: usize) -> u64;
         pub fn twin_end(table: *mut u64, words: usize) -> u64;
         pub fn twin_recover(table: *mut u64, words: usize) -> u64;
+        pub fn twin_list_insert(
+            table: *mut u64,
+            words: usize,
+            key: u64,
+            function: u64,
+            place: u64,
+            list: *mut [u64; LEAST_LIST_WORDS],
+            stores: *mut u64,
+        ) -> u64;
     }
 }
 
@@ -52,6 +64,39 @@ impl Side for Twin {
                 Event::Step => raw::twin_step(words, length),
                 Event::End => raw::twin_end(words, length),
                 Event::Recover => raw::twin_recover(words, length),
+            }
+        }
+    }
+}
+
+/// The twin, but that its inserts are listed, and the list made as the library's is.
+#[derive(Default)]
+pub struct ListingTwin {
+    list: [u64; LEAST_LIST_WORDS],
+}
+
+impl Side for ListingTwin {
+    fn create(&mut self, table: &mut [u64], c: u64, k: u64, mul1: u64, mul2: u64) -> u64 {
+        Twin.create(table, c, k, mul1, mul2)
+    }
+
+    fn query(&self, table: &[u64], key: u64) -> (u64, [u64; 3]) {
+        Twin.query(table, key)
+    }
+
+    #[inline(always)]
+    fn change(&mut self, table: &mut [u64], event: Event) -> u64 {
+        let (key, function, place) = match event {
+            Event::Insert { key, function, place } => (key, function, place),
+            other => return Twin.change(table, other),
+        };
+        let (words, length, mut stores) = (table.as_mut_ptr(), table.len(), 0);
+        let list_length = self.list.len();
+        // SAFETY: each pointer is valid for the length beside it, and no two buffers overlap.
+        unsafe {
+            match raw::twin_list_insert(words, length, key, function, place, &mut self.list, &mut stores) {
+                SUCCESS => ragansils_make(words, length, self.list.as_ptr(), list_length, stores),
+                number => number,
             }
         }
     }
