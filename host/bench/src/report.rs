@@ -27,6 +27,7 @@ pub fn figures(results: &Results, seed: u64) -> String {
     [
         intro,
         slower(results),
+        slower_than_others(results),
         targets(results),
         list_table(results),
         instruction_table(results),
@@ -118,6 +119,25 @@ fn slower(results: &Results) -> String {
     );
     let rows = slow.into_iter().map(|(median, what)| vec![format!("**{median:.2}**"), what]);
     table(&title, &heads(&["library / twin", "operation"]), rows)
+}
+
+/// In how many measurements another table is quicker.
+fn slower_than_others(results: &Results) -> String {
+    let capacities = capacities(&results.operations);
+    let cell = |peer: &str, c: u64| {
+        let measured = results.operations.iter().filter(|measured| measured.c == c);
+        let ratios: Vec<f64> = measured.filter_map(|one| Some(one.ratio_to(peer)?.median)).collect();
+        let slower = ratios.iter().filter(|ratio| **ratio > 1.0).count();
+        format!("{slower} of {}", ratios.len())
+    };
+    let rows = others(&results.operations).into_iter().map(|peer| {
+        let mut row = vec![peer.to_string()];
+        row.extend(capacities.iter().map(|&c| cell(peer, c)));
+        row
+    });
+    let mut names = heads(&["slower than"]);
+    names.extend(capacities.iter().map(|c| format!("c = {c}")));
+    table("### Slower than other tables, in so many of the measurements", &names, rows)
 }
 
 /// The worst ratio under each target.
