@@ -12,7 +12,7 @@
 //! - `words`: the run over raw words;
 //! - `script_text`, `script_damage`, `scripts`: the run of scripts;
 //! - `shrink`: smaller failures;
-//! - `commands`: what the command line asks for.
+//! - `commands`: what the command line asks for; `program`: what programs share.
 
 mod both;
 pub mod case;
@@ -20,8 +20,9 @@ pub mod case_text;
 pub mod commands;
 pub mod damage;
 pub mod history;
-mod library;
+pub mod library;
 pub mod plain_map;
+pub mod program;
 pub mod random;
 mod script_damage;
 mod script_text;

@@ -89,19 +89,35 @@ fn call_library(call: Call, lent: &mut Lent) -> u64 {
             Call::Create { c, k, mul1, mul2 } => raw::ragansils_create(table, words, c, k, mul1, mul2),
             Call::Query { key } => raw::ragansils_query(table, words, key, answer.cast()),
             Call::Make { n } => raw::ragansils_make(table, words, list, list_words, n),
-            Call::Change(event) => match event {
-                Event::Insert { key, function, place } => {
-                    raw::ragansils_insert(table, words, key, function, place, list, list_words, answer)
-                }
-                Event::Update { key, function, place } => {
-                    raw::ragansils_update(table, words, key, function, place, list, list_words, answer)
-                }
-                Event::Delete { key } => raw::ragansils_delete(table, words, key, list, list_words, answer),
-                Event::Begin => raw::ragansils_begin(table, words, list, list_words, answer),
-                Event::Step => raw::ragansils_step(table, words, list, list_words, answer),
-                Event::End => raw::ragansils_end(table, words, list, list_words, answer),
-                Event::Recover => raw::ragansils_recover(table, words, list, list_words, answer),
-            },
+            Call::Change(event) => list_event(event, table, words, list, list_words, answer),
         }
+    }
+}
+
+/// The call of an event, which lists its stores.
+///
+/// # Safety
+/// As for the functions of [`raw`]: pointers are aligned and valid for the lengths beside them, and the buffers do not overlap.
+#[inline(always)]
+pub unsafe fn list_event(
+    event: Event,
+    table: *const u64,
+    words: usize,
+    list: *mut u64,
+    list_words: usize,
+    stores: *mut u64,
+) -> u64 {
+    match event {
+        Event::Insert { key, function, place } => {
+            raw::ragansils_insert(table, words, key, function, place, list, list_words, stores)
+        }
+        Event::Update { key, function, place } => {
+            raw::ragansils_update(table, words, key, function, place, list, list_words, stores)
+        }
+        Event::Delete { key } => raw::ragansils_delete(table, words, key, list, list_words, stores),
+        Event::Begin => raw::ragansils_begin(table, words, list, list_words, stores),
+        Event::Step => raw::ragansils_step(table, words, list, list_words, stores),
+        Event::End => raw::ragansils_end(table, words, list, list_words, stores),
+        Event::Recover => raw::ragansils_recover(table, words, list, list_words, stores),
     }
 }

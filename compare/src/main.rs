@@ -2,15 +2,8 @@
 
 use std::process::ExitCode;
 
-use ragansils_compare::commands;
+use ragansils_compare::{commands, program};
 
 fn main() -> ExitCode {
-    let arguments: Vec<String> = std::env::args().skip(1).collect();
-    match commands::run(&arguments) {
-        Ok(()) => ExitCode::SUCCESS,
-        Err(message) => {
-            println!("FAILED: {message}");
-            ExitCode::FAILURE
-        }
-    }
+    program::run(commands::run)
 }

@@ -28,13 +28,8 @@ mod wrong;
 
 use std::process::ExitCode;
 
+use ragansils_compare::program;
+
 fn main() -> ExitCode {
-    let arguments: Vec<String> = std::env::args().skip(1).collect();
-    match commands::run(&arguments) {
-        Ok(()) => ExitCode::SUCCESS,
-        Err(message) => {
-            println!("FAILED: {message}");
-            ExitCode::FAILURE
-        }
-    }
+    program::run(commands::run)
 }

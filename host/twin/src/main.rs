@@ -4,23 +4,14 @@ mod check;
 
 use std::process::ExitCode;
 
+use ragansils_compare::program;
 use ragansils_twin::TWIN_COMPILER;
 
 /// From so many calls on, an answer that never came fails the run: it would have compared too little.
 const TELLING_CALLS: u64 = 100_000;
 
 fn main() -> ExitCode {
-    let arguments: Vec<String> = std::env::args().skip(1).collect();
-    match run(&arguments) {
-        Ok(report) => {
-            println!("{report}");
-            ExitCode::SUCCESS
-        }
-        Err(message) => {
-            println!("FAILED: {message}");
-            ExitCode::FAILURE
-        }
-    }
+    program::run(|arguments| run(arguments).map(|report| println!("{report}")))
 }
 
 fn run(arguments: &[String]) -> Result<String, String> {

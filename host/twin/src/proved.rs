@@ -1,6 +1,7 @@
 //! The proved library's side.
 
 use ragansils::raw;
+use ragansils_compare::library::list_event;
 use ragansils_model::{Event, LEAST_LIST_WORDS, SUCCESS};
 
 use crate::Side;
@@ -19,21 +20,7 @@ impl Proved {
         let (words, length) = (table.as_ptr(), table.len());
         let (list, list_length, stores) = (self.list.as_mut_ptr(), self.list.len(), &mut self.stores);
         // SAFETY: each pointer is valid for the length beside it, and no two buffers overlap.
-        unsafe {
-            match event {
-                Event::Insert { key, function, place } => {
-                    raw::ragansils_insert(words, length, key, function, place, list, list_length, stores)
-                }
-                Event::Update { key, function, place } => {
-                    raw::ragansils_update(words, length, key, function, place, list, list_length, stores)
-                }
-                Event::Delete { key } => raw::ragansils_delete(words, length, key, list, list_length, stores),
-                Event::Begin => raw::ragansils_begin(words, length, list, list_length, stores),
-                Event::Step => raw::ragansils_step(words, length, list, list_length, stores),
-                Event::End => raw::ragansils_end(words, length, list, list_length, stores),
-                Event::Recover => raw::ragansils_recover(words, length, list, list_length, stores),
-            }
-        }
+        unsafe { list_event(event, words, length, list, list_length, stores) }
     }
 
     /// The number of stores that the last event listed.
