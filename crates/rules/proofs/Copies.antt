@@ -66,6 +66,9 @@ same-tells : (x y : Slot) → Tells (sameSlot x y) ((x .bucket ≡ y .bucket) ×
 unfolding sameSlot
 same-tells x y = tells-and _ _ (tells-eq _ _) (tells-eq _ _)
 
+same-self : (x : Slot) → sameSlot x x ≡ true
+same-self x = same-tells x x .1 (refl, refl)
+
 -- all that are found, for each taken slot in order
 unfoldable pub copies : Table → List (Slot × Slot)
 copies t = flatMap (copiesOf t (headerOf t)) (takenSlots t)
@@ -107,9 +110,6 @@ module _ (t : Table) where
       go : (o : Lookup) → lookup t (headerOf t) (keyIn t x) ≡ o → In u (copyAt x o) → (y : Slot) × Ends x y × (sameSlot x y ≡ false) × (u ≡ inOrder x y)
       go (Stands y n) q i = at y n q (sameSlot x y) refl i
       go (Absent n) q i = absurd (List·Memᴰ·not-nil i)
-
-  same-self : (x : Slot) → sameSlot x x ≡ true
-  same-self x = same-tells x x .1 (refl, refl)
 
   -- each copy that is found is a pair of the rules
   pub copy-twins : (u : Slot × Slot) → In u (copies t) → In u (twins t)
