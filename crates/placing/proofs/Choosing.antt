@@ -1,16 +1,16 @@
 -- A bucket's records, and what its token word says of its slots.
 -- Assumes nothing.
-use Prim.Native.Nat.{ℕ, zero, suc, _+_, _≤_, _<_}
+use Prim.Native.Nat.{ℕ, zero, suc, _*_, _/_, _%_, _^_, _≤_, _<_}
 use mathlib.Core.Path.{_≡_, refl, sym, _∙_}
-use mathlib.Core.Bool.{true, false, not}
+use mathlib.Core.Bool.{not}
 use mathlib.Core.List.{List, [], _∷_}
 use mathlib.Core.Option.{none, some, Option·map}
-use native.Mathlib.Nat.{zero-add, add-zero}
 use native.Mathlib.Omega.{arith}
-use borrow.Author.Tests.{lt-ltb, le-ltb}
-use lib.ListN.{length, getD, drop}
+use borrow.Author.Tests.{eqb-true, lt-ltb, le-ltb}
+use lib.Dec.{eqb}
+use lib.ListN.{length, getD}
 use Rattle.rules.specs.Choice.{given, select}
-use Rattle.rules.specs.Words.{Table, slotAt, slotsIn, keyIn, tokenOf, isTaken, taken}
+use Rattle.rules.specs.Words.{Table, slotAt, slotsIn, keyIn, tokenOf, tidy, isTaken, taken}
 use Rattle.rules.specs.Places.{firstPlace, secondPlace}
 use Rattle.rules.specs.Placing.{takenIn, freeSlot, fewer, emptier, roomIn}
 use Rattle.rules.specs.declared.Header.{Header}
@@ -20,10 +20,10 @@ use Rattle.rules.specs.declared.Place.{Place}
 use Rattle.rules.specs.declared.Slot.{Slot}
 use Rattle.rules.specs.declared.Placing.the-variants.{Free}
 use Rattle.rules.proofs.Lists.{select-length, firstOf-map, firstOf-given}
-use Rattle.rules.proofs.Walks.{from-end}
+use Rattle.rules.proofs.Tokens.{taken-tidy, tidy-tested}
 use Rattle.rules.proofs.FreeSlots.{taken-count}
 use Rattle.reading.specs.Levels.{placeIn}
-use Rattle.rules.proofs.Lowest.{slot-next, lowest-some, lowest-none}
+use Rattle.rules.proofs.Lowest.{lowest-some, lowest-none}
 use Rattle.placing.specs.Buckets.{itemIn, itemsIn, slots, freeIn, takenOf, lowestFree}
 
 -- ---- the four records
@@ -48,27 +48,18 @@ module _ (t : Table) (p : Place) where
 -- ---- the slots of a token word
 
 module _ (h : Header) (word : ℕ) where
-  -- the number of taken slots from s on
-  pub takenFrom : ℕ → ℕ
-  takenFrom s = length (select (isTaken h word) (drop s slots))
+  -- a word has as many taken slots as its tidy word
+  taken-tidied : takenOf h (tidy h word) ≡ takenOf h word
+  unfolding takenOf
+  taken-tidied = λ i. length (select (λ (z : ℕ). taken-tidy h word z i) slots)
 
-  pub taken-all : takenOf h word ≡ 0 + takenFrom 0
-  unfolding takenOf takenFrom
-  taken-all = rw zero-add
+  -- the numbers of the sixteen tidy words, as the hexadecimal digits of one number: a computed test of all
+  abbrev counts : ℕ
+  counts = 4841987667533046032
 
-  module _ (s : ℕ) (l : s < 4) where
-    pub taken-more : (n : ℕ) → isTaken h word s ≡ true → n + takenFrom s ≡ n + 1 + takenFrom (s + 1)
-    unfolding takenFrom
-    taken-more n e = rw (slot-next s l, e) (omega arith)
-
-    pub taken-same : (n : ℕ) → isTaken h word s ≡ false → n + takenFrom s ≡ n + takenFrom (s + 1)
-    unfolding takenFrom
-    taken-same n e = rw (slot-next s l, e)
-
-  module _ (s : ℕ) (l : 4 ≤ s) where
-    pub taken-over : (n : ℕ) → n + takenFrom s ≡ n
-    unfolding takenFrom
-    taken-over n = rw (from-end 0 4 s l, add-zero)
+  pub taken-counted : {w : ℕ} → w ≡ tidy h word → counts / 2 ^ (4 * w) % 16 ≡ takenOf h word
+  unfolding takenOf isTaken tidy
+  taken-counted e = rw e (eqb-true _ _ (tidy-tested h (λ v. eqb (counts / 2 ^ (4 * v) % 16) (takenOf h v)) refl word) ∙ taken-tidied)
 
   -- the number tells whether there is a free slot
   module _ {s : ℕ} (e : s ≡ lowestFree h word) where

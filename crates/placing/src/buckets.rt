@@ -3,6 +3,7 @@
 use reading::slots::key_at;
 use reading::slots::record_at;
 use reading::tokens::is_taken;
+use reading::tokens::tidy;
 use rules::Header;
 use rules::Place;
 use rules::Slot;
@@ -61,15 +62,12 @@ pub fn lowest_free(h: Header, word: u64, items: [[u64; 3]; 4]) -> usize
     lowest
 }
 
+// How many slots each of the sixteen tidy token words says are taken: word 0 in the lowest digit, word 15 in the highest.
+const TAKEN_COUNTS: u64 = 0x4332_3221_3221_2110;
+
 // How many slots a token word says are taken.
 pub fn taken_count(h: Header, word: u64) -> u64
     ensures { λ r. ⌜ r ≡ takenOf h word ⌝ }
 {
-    let mut count = 0;
-    for s in 0..4 {
-        if is_taken(h, word, s) {
-            count += 1;
-        }
-    }
-    count
+    (TAKEN_COUNTS >> (4 * tidy(h, word))) % 16
 }

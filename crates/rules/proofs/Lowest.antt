@@ -17,7 +17,7 @@ abbrev pub slots : List ℕ
 slots = from 0 4
 
 -- slot s of them, and those after it
-pub slot-next : (s : ℕ) → s < 4 → drop s slots ≡ s ∷ drop (s + 1) slots
+slot-next : (s : ℕ) → s < 4 → drop s slots ≡ s ∷ drop (s + 1) slots
 slot-next s l = from-next 0 4 s l ∙ rw zero-add
 
 module _ (p : ℕ → Bool) where

@@ -75,9 +75,14 @@ module _ (h : Header) where
   token-bits w l = rw (tidy-of-low w l) (refl, refl, refl, refl)
 
   -- a word's bits are those of its tidy word
-  taken-tidy : (w z : ℕ) → isTaken h (tidy h w) z ≡ isTaken h w z
+  pub taken-tidy : (w z : ℕ) → isTaken h (tidy h w) z ≡ isTaken h w z
   unfolding isTaken
   taken-tidy w z = rw (tidy-of-low (tidy h w) (tidy-low w))
+
+  -- what a test of all sixteen tidy words says of one
+  pub tidy-tested : (p : ℕ → Bool) → all (map p (from 0 16)) ≡ true → (w : ℕ) → p (tidy h w) ≡ true
+  unfolding below
+  tidy-tested p e w = below-all 16 p e (tidy h w) (tidy-low w)
 
   -- the word 0: it is tidy, and every slot is free
   pub zero-tidy : tidy h 0 ≡ 0
@@ -96,7 +101,7 @@ module _ (h : Header) where
   unfolding isTaken tidy below bitless
   zero-of-free w f =
       let none : bitless (tidy h w) ≡ true = all-below 4 (λ z. not (isTaken h (tidy h w) z)) (λ z l. rw (taken-tidy w z, f z l)) in
-      let e : cond (bitless (tidy h w)) (eqb (tidy h w) 0) true ≡ true = below-all 16 (λ v. cond (bitless v) (eqb v 0) true) refl (tidy h w) (tidy-low w) in
+      let e : cond (bitless (tidy h w)) (eqb (tidy h w) 0) true ≡ true = tidy-tested (λ v. cond (bitless v) (eqb v 0) true) refl w in
       eqb-true _ _ (rw none at e)
 
   -- ---- one bit changed, on the sixteen tidy words
