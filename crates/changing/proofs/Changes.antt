@@ -25,6 +25,7 @@ use Rattle.rules.proofs.Lookup.{the-type as lookup-type}
 use Rattle.rules.proofs.Placing.{the-type as placing-type}
 use Rattle.placing.specs.Search.{optional}
 use Rattle.listing.specs.Listing.{listedAt, Run, Takes}
+use Rattle.placing.proofs.Placings.{not-free, is-free}
 use Rattle.listing.proofs.Runs.{then}
 use Rattle.listing.proofs.Placings.{placed-nowhere, placed-listed}
 
@@ -55,36 +56,35 @@ module _ (t : Table) (h : Header) (key : ℕ) {f : Lookup} (l : f ≡ lookup t h
   pub insert-present : {x : Slot} {n : ℕ} (r : Record) → f ≡ Stands x n → refused KeyPresent ≡ insertIn t h (lookup t h key) key r
   insert-present r e = rw (← l, e)
 
-  module _ {n : ℕ} (r : Record) (e : f ≡ Absent n) {p : Placing} (q : p ≡ placing t h key) where
-    pub insert-nowhere : OneOf (2 ∷ []) (tagOf placing-type p) → refused NoPlace ≡ insertIn t h (lookup t h key) key r
-    insert-nowhere k = rw (← l, e, ← q) (placed-nowhere p (placingStores t h p key r) k)
+  pub insert-absent : {n : ℕ} (r : Record) → f ≡ Absent n → insertIn t h (Absent 0) key r ≡ insertIn t h (lookup t h key) key r
+  insert-absent r e = rw (← l, e)
 
-    pub insert-listed : (x : Slot) → Takes t p x → listed (placingStores t h p key r) ≡ insertIn t h (lookup t h key) key r
-    insert-listed x k = rw (← l, e, ← q) (placed-listed t p x (placingStores t h p key r) k)
+-- ---- an insert's stores
+
+-- an absent key takes the slot that its placing p gives it
+module _ (t : Table) (h : Header) (key : ℕ) (r : Record) {p : Placing} (q : p ≡ placing t h key) where
+  pub take-nowhere : OneOf (2 ∷ []) (tagOf placing-type p) → refused NoPlace ≡ insertIn t h (Absent 0) key r
+  take-nowhere k = rw (← q) (placed-nowhere p (placingStores t h p key r) k)
+
+  pub take-listed : (x : Slot) → Takes t p x → listed (placingStores t h p key r) ≡ insertIn t h (Absent 0) key r
+  take-listed x k = rw (← q) (placed-listed t p x (placingStores t h p key r) k)
+
+  pub take-free : {y : Slot} → p ≡ Free y → listed (putStores h (tokenOf t (y .bucket)) y key r) ≡ insertIn t h (Absent 0) key r
+  unfolding placingStores putStores
+  take-free e = rw (← q, e)
 
 -- ---- an update's stores
-
--- the bucket's lowest free slot, by what slot choice answers
-free-found : (o : Option Slot) (y : Slot) → optional (Free y) ≡ Option·map Free o → o ≡ some y
-free-found (some z) y e = let k : y ≡ z = cc in ap some (sym k)
-free-found none y e = absurd (let z : _≡_ {A = ℕ} 0 1 = cc in omega arith)
-
-full-found : (o : Option Slot) (p : Placing) → optional p ≡ Option·map Free o → OneOf (1 ∷ 2 ∷ []) (tagOf placing-type p) → o ≡ none
-full-found none p e k = refl
-full-found (some z) (Free y) e k = absurd (⊎-elim (λ f. omega arith) (λ f. omega arith) k)
-full-found (some z) (Move from to) e k = absurd (let z : _≡_ {A = ℕ} 0 1 = cc in omega arith)
-full-found (some z) Nowhere e k = absurd (let z : _≡_ {A = ℕ} 0 1 = cc in omega arith)
 
 module _ (t : Table) (h : Header) (l : List ℕ) (x : Slot) (key : ℕ) (r : Record) (p : Placing) (o : optional p ≡ Option·map Free (freeSlot t h (placeOf x))) where
   pub renew-free : {y : Slot} {w v n : ℕ} {m : List ℕ} → p ≡ Free y → w ≡ tokenOf t (x .bucket) → v ≡ hide h w (x .slot) → (n ≡ 0 + 4) × (m ≡ listedAt l 0 (putStores h v y key r))
       → Run n l m (updateStores t h x key r) × (n ≤ 7)
   unfolding updateStores putStores
-  renew-free {y} e f g s = rw (free-found (freeSlot t h (placeOf x)) y (rw e at o), ← f, ← g) (s, omega (arith, s .0))
+  renew-free {y} e f g s = rw (is-free e (freeSlot t h (placeOf x)) o, ← f, ← g) (s, omega (arith, s .0))
 
   pub renew-full : {n₁ n₂ : ℕ} {l₁ l₂ : List ℕ} → OneOf (1 ∷ 2 ∷ []) (tagOf placing-type p)
       → (n₁ ≡ 0 + 4) × (l₁ ≡ listedAt l 0 ((6, keyWord x) ∷ (7, r .function) ∷ (8, r .place) ∷ (5, 1) ∷ [])) → (n₂ ≡ n₁ + 3) × (l₂ ≡ listedAt l₁ n₁ (redoStores x r))
       → Run n₂ l l₂ (updateStores t h x key r) × (n₂ ≤ 7)
   unfolding updateStores redoStores
   renew-full k s₁ s₂ =
-      rw (full-found (freeSlot t h (placeOf x)) p o k)
+      rw (not-free p k (freeSlot t h (placeOf x)) o)
       ((omega (arith, s₁ .0, s₂ .0), then l 0 ((6, keyWord x) ∷ (7, r .function) ∷ (8, r .place) ∷ (5, 1) ∷ []) (redoStores x r) (s₁ .1) (s₁ .0) (s₂ .1)), omega (arith, s₁ .0, s₂ .0))

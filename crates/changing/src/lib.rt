@@ -4,8 +4,9 @@ use listing::log;
 use listing::placed;
 use listing::put;
 use listing::redo;
-use placing::placing as place_for;
+use placing::moves::moving;
 use placing::room::free_slot;
+use placing::room::room;
 use querying::lookup::lookup;
 use querying::lookup::lookup_by;
 use reading::gate::Gate;
@@ -14,6 +15,7 @@ use reading::places::hashes;
 use reading::slots::token;
 use reading::tokens::hide;
 use rules::Change;
+use rules::Hashes;
 use rules::Header;
 use rules::Lookup;
 use rules::Place;
@@ -21,13 +23,16 @@ use rules::Placing;
 use rules::Record;
 use rules::Refusal;
 use rules::Slot;
+ghost use mathlib.Core.Path.{_≡_};
 ghost use Prim.Native.Nat.{_^_, _≤_, _<_};
 ghost use lib.ListN.{length};
-ghost use Rattle.rules.specs.Words.{GoodHeader};
-ghost use Rattle.rules.specs.Places.{lookup as lookupOf};
-ghost use Rattle.rules.specs.Stores.{updateStores};
-ghost use Rattle.rules.specs.Calls.{insertIn, updateIn, deleteIn, insert as insertCall, update as updateCall, delete as deleteCall};
+ghost use Rattle.rules.specs.Words.{tokenOf, GoodHeader};
+ghost use Rattle.rules.specs.Places.{hashesOf, lookup as lookupOf};
+ghost use Rattle.rules.specs.Stores.{putStores, updateStores};
+ghost use Rattle.rules.specs.Calls.{listed, insertIn, updateIn, deleteIn, insert as insertCall, update as updateCall, delete as deleteCall};
+ghost use Rattle.rules.specs.declared.Lookup.the-variants.{Absent};
 ghost use Rattle.reading.specs.Within.{SlotWithin};
+ghost use Rattle.placing.specs.Search.{NoRoom};
 ghost use Rattle.listing.specs.Listing.{Run};
 ghost use Rattle.listing.specs.Promises.{Changed, Did};
 
@@ -104,7 +109,45 @@ pub fn update(t: &[u64], list: &mut [u64], key: u64, r: Record) -> Change
     }
 }
 
-// "for insert 4 before 6". "Otherwise there is no place": the placing is taken apart, and the new item takes its slot y.
+// "If all are full, one move." "Otherwise there is no place": the placing is taken apart, and the new item takes its slot y.
+fn insert_by_move(t: &[u64], list: &mut [u64], h: Header, key: u64, x: Hashes, r: Record) -> Change
+    requires { ⌜ (20 ≤ length (now list)) × GoodHeader (length (now t)) h × (x ≡ hashesOf h key) × NoRoom (now t) h x 2 ⌝ }
+    ensures { λ a. ⌜ Did (insertIn (now (t .entry)) h (Absent 0) key r) (now (list .entry)) a (now (list .exit)) ⌝ }
+{
+    let p = moving(t, h, x);
+    let (Placing::Free(y) | Placing::Move(y, _)) = p else {
+        return Change::Refused(Refusal::NoPlace);
+    };
+    let n = placed(t, list, h, p, y, key, r);
+    Change::Listed(n as u64)
+}
+
+// A key that stands nowhere, in the free slot y: "key, function, place, token".
+fn insert_free(t: &[u64], list: &mut [u64], h: Header, y: Slot, key: u64, r: Record) -> Change
+    requires { ⌜ (20 ≤ length (now list)) × (length (now t) < 2 ^ 32) × SlotWithin (now t) y ⌝ }
+    ensures { λ a. ⌜ Did (listed (putStores h (tokenOf (now (t .entry)) (y .bucket)) y key r)) (now (list .entry)) a (now (list .exit)) ⌝ }
+{
+    let filled = put(list, 0, h, token(t, y.bucket), y, key, r);
+    Change::Listed(filled as u64)
+}
+
+// "In the top, the place with fewer taken slots (tie: first place), lowest free slot. If both are full, the same in the bottom."
+// Free slots are what there mostly is, so one is put to use as soon as it is found, and no placing is handed on. How many buckets
+// the lookup looked at before it found the key absent plays no part: the promise says 0.
+fn insert_absent(t: &[u64], list: &mut [u64], h: Header, key: u64, x: Hashes, r: Record) -> Change
+    requires { ⌜ (20 ≤ length (now list)) × GoodHeader (length (now t)) h × (x ≡ hashesOf h key) ⌝ }
+    ensures { λ a. ⌜ Did (insertIn (now (t .entry)) h (Absent 0) key r) (now (list .entry)) a (now (list .exit)) ⌝ }
+{
+    for level in 0..2 {
+        let found = room(t, h, x, level, h.state.k - level);
+        if let Placing::Free(y) = found {
+            return insert_free(t, list, h, y, key, r);
+        }
+    }
+    insert_by_move(t, list, h, key, x, r)
+}
+
+// "for insert 4 before 6"
 fn insert_at(t: &[u64], list: &mut [u64], h: Header, key: u64, r: Record) -> Change
     requires { ⌜ (20 ≤ length (now list)) × GoodHeader (length (now t)) h ⌝ }
     ensures { λ a. ⌜ Did (insertIn (now (t .entry)) h (lookupOf (now (t .entry)) h key) key r) (now (list .entry)) a (now (list .exit)) ⌝ }
@@ -114,12 +157,7 @@ fn insert_at(t: &[u64], list: &mut [u64], h: Header, key: u64, r: Record) -> Cha
     let Lookup::Absent(_) = found else {
         return Change::Refused(Refusal::KeyPresent);
     };
-    let p = place_for(t, h, key, x);
-    let (Placing::Free(y) | Placing::Move(y, _)) = p else {
-        return Change::Refused(Refusal::NoPlace);
-    };
-    let n = placed(t, list, h, p, y, key, r);
-    Change::Listed(n as u64)
+    insert_absent(t, list, h, key, x, r)
 }
 
 // After the tests 1, 2 and 3: "4 | key present", "6 | no place".

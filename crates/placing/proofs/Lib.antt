@@ -1,4 +1,4 @@
 mod Choosing
-mod Placings
-mod Goals
+pub mod Placings
+pub mod Goals
 mod Moving

@@ -1,6 +1,6 @@
 // "Placing uses top and bottom only": the slot that a key which stands nowhere would get.
 mod buckets;
-mod moves;
+pub mod moves;
 pub mod room;
 
 use moves::moving;
@@ -14,22 +14,18 @@ ghost use Rattle.rules.specs.Places.{hashesOf};
 ghost use Rattle.rules.specs.Placing.{placing as placingOf};
 ghost use Rattle.reading.specs.Within.{PlacingWithin};
 
-// "In the top, the place with fewer taken slots"; "If both are full, the same in the bottom."; "If all are full, one move."
-// Level 0 is the top, of 2^k buckets, and level 1 the bottom.
-// The key's hashes x are handed in: whoever asks has them already.
+// "In the top, the place with fewer taken slots (tie: first place), lowest free slot. If both are full, the same in the bottom.
+// If all are full, one move." Level 0 is the top, of 2^k buckets, and level 1 the bottom. The key's hashes x are handed in: whoever
+// asks has them already.
 pub fn placing(t: &[u64], h: Header, key: u64, x: Hashes) -> rules::Placing
     requires { ⌜ GoodHeader (length (now t)) h × (x ≡ hashesOf h key) ⌝ }
     ensures { λ r. ⌜ (r ≡ placingOf (now (t .entry)) h key) × PlacingWithin (now (t .entry)) r ⌝ }
 {
-    let k = h.state.k;
-    let lower = k - 1;
-    let top = room(t, h, x, 0, k);
-    let rules::Placing::Nowhere = top else {
-        return top;
-    };
-    let bottom = room(t, h, x, 1, lower);
-    let rules::Placing::Nowhere = bottom else {
-        return bottom;
-    };
+    for level in 0..2 {
+        let found = room(t, h, x, level, h.state.k - level);
+        let rules::Placing::Nowhere = found else {
+            return found;
+        };
+    }
     moving(t, h, x)
 }
