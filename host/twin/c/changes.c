@@ -46,13 +46,21 @@ uint64_t twin_query(const uint64_t *table, size_t words, uint64_t key, uint64_t 
 uint64_t twin_insert(uint64_t *table, size_t words, uint64_t key, uint64_t function, uint64_t place)
 {
     struct table *t = (struct table *)table;
+    struct hashes x;
+    enum ragansils_refusal refusal = find_absent(t, words, key, &x);
+    if (refusal != RAGANSILS_DONE)
+        return refusal;
+    return place_item(t, (struct slot){key, function, place}, x) ? RAGANSILS_DONE : RAGANSILS_NO_PLACE;
+}
+
+/* The first tests, then 5 where the key stands nowhere. */
+static inline enum ragansils_refusal find_present(const struct table *t, size_t words, uint64_t key, struct found *found)
+{
     enum ragansils_refusal refusal = first_tests(t, words);
     if (refusal != RAGANSILS_DONE)
         return refusal;
-    struct hashes x = hashes_of(t, key);
-    if (find(t, key, x).bucket != NULL)
-        return RAGANSILS_KEY_PRESENT;
-    return place_item(t, (struct slot){key, function, place}, x) ? RAGANSILS_DONE : RAGANSILS_NO_PLACE;
+    *found = find(t, key, hashes_of(t, key));
+    return found->bucket == NULL ? RAGANSILS_KEY_ABSENT : RAGANSILS_DONE;
 }
 
 /* A full bucket has no second slot: the new record is kept in the header while the slot's is written. */
@@ -70,12 +78,10 @@ static void update_logged(struct table *t, struct slot *old, uint64_t function, 
 uint64_t twin_update(uint64_t *table, size_t words, uint64_t key, uint64_t function, uint64_t place)
 {
     struct table *t = (struct table *)table;
-    enum ragansils_refusal refusal = first_tests(t, words);
+    struct found found;
+    enum ragansils_refusal refusal = find_present(t, words, key, &found);
     if (refusal != RAGANSILS_DONE)
         return refusal;
-    struct found found = find(t, key, hashes_of(t, key));
-    if (found.bucket == NULL)
-        return RAGANSILS_KEY_ABSENT;
     struct bucket *b = (struct bucket *)found.bucket;
     if (is_full(b)) {
         update_logged(t, &b->slots[found.slot], function, place);
@@ -89,12 +95,10 @@ uint64_t twin_update(uint64_t *table, size_t words, uint64_t key, uint64_t funct
 uint64_t twin_delete(uint64_t *table, size_t words, uint64_t key)
 {
     struct table *t = (struct table *)table;
-    enum ragansils_refusal refusal = first_tests(t, words);
+    struct found found;
+    enum ragansils_refusal refusal = find_present(t, words, key, &found);
     if (refusal != RAGANSILS_DONE)
         return refusal;
-    struct found found = find(t, key, hashes_of(t, key));
-    if (found.bucket == NULL)
-        return RAGANSILS_KEY_ABSENT;
     clear_slot((struct bucket *)found.bucket, found.slot);
     return RAGANSILS_DONE;
 }

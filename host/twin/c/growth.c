@@ -14,6 +14,15 @@ static struct spot first_interim(struct table *t)
     return (struct spot){NULL, 0};
 }
 
+/* The first tests of step and end: then 8. */
+static inline enum ragansils_refusal growing_tests(const struct table *t, size_t words)
+{
+    enum ragansils_refusal refusal = first_tests(t, words);
+    if (refusal != RAGANSILS_DONE)
+        return refusal;
+    return is_growing(t) ? RAGANSILS_DONE : RAGANSILS_NOT_GROWING;
+}
+
 uint64_t twin_begin(uint64_t *table, size_t words)
 {
     struct table *t = (struct table *)table;
@@ -31,11 +40,9 @@ uint64_t twin_begin(uint64_t *table, size_t words)
 uint64_t twin_step(uint64_t *table, size_t words)
 {
     struct table *t = (struct table *)table;
-    enum ragansils_refusal refusal = first_tests(t, words);
+    enum ragansils_refusal refusal = growing_tests(t, words);
     if (refusal != RAGANSILS_DONE)
         return refusal;
-    if (!is_growing(t))
-        return RAGANSILS_NOT_GROWING;
     struct spot first = first_interim(t);
     if (first.bucket == NULL)
         return RAGANSILS_INTERIM_EMPTY;
@@ -49,11 +56,9 @@ uint64_t twin_step(uint64_t *table, size_t words)
 uint64_t twin_end(uint64_t *table, size_t words)
 {
     struct table *t = (struct table *)table;
-    enum ragansils_refusal refusal = first_tests(t, words);
+    enum ragansils_refusal refusal = growing_tests(t, words);
     if (refusal != RAGANSILS_DONE)
         return refusal;
-    if (!is_growing(t))
-        return RAGANSILS_NOT_GROWING;
     if (first_interim(t).bucket != NULL)
         return RAGANSILS_INTERIM_TAKEN;
     t->state = top_exponent(t);

@@ -21,12 +21,10 @@ uint64_t twin_list_insert(uint64_t *table, size_t words, uint64_t key, uint64_t 
 {
     struct table *t = (struct table *)table;
     *stores = 0;
-    enum ragansils_refusal refusal = first_tests(t, words);
+    struct hashes x;
+    enum ragansils_refusal refusal = find_absent(t, words, key, &x);
     if (refusal != RAGANSILS_DONE)
         return refusal;
-    struct hashes x = hashes_of(t, key);
-    if (find(t, key, x).bucket != NULL)
-        return RAGANSILS_KEY_PRESENT;
     struct slot item = {key, function, place};
     struct spot to = free_slot(t, x);
     if (to.bucket == NULL)

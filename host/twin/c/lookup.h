@@ -39,4 +39,14 @@ static inline struct found find(const struct table *t, uint64_t key, struct hash
     return (struct found){NULL, 0, probes};
 }
 
+/* The first tests of an insert, then 4 where the key stands; and the hashes of one that does not. */
+static inline enum ragansils_refusal find_absent(const struct table *t, size_t words, uint64_t key, struct hashes *x)
+{
+    enum ragansils_refusal refusal = first_tests(t, words);
+    if (refusal != RAGANSILS_DONE)
+        return refusal;
+    *x = hashes_of(t, key);
+    return find(t, key, *x).bucket == NULL ? RAGANSILS_DONE : RAGANSILS_KEY_PRESENT;
+}
+
 #endif
