@@ -2,12 +2,14 @@
  * Ragansils: a position table in lent 64-bit words. Code address and inlining depth lead to a function and a place.
  *
  * The ten functions of the static library `collector` (`rt staticlib collector` writes target/staticlib/libcollector.a), for C99 and
- * C++ on x86-64. Each is proved to answer as below on every input, however damaged the words that it is lent; what each leaves in
- * every buffer is part of that proof.
+ * C++ on x86-64. Each is proved to end, to stay within its buffers and to answer as below on every input, however damaged the words
+ * that it is lent; what each leaves in every buffer is part of that proof. On a sound table query, insert, update and delete answer as
+ * a plain map does, and growing keeps the map.
  *
  * A change goes in two parts. A changing call only reads the table: it lists its stores, in order, as pairs of a word's index and the
- * new word. The stores are then made, by ragansils_make or by a loop of yours, and power may go after any of them: on the next start
- * ragansils_recover lists at most three stores that bring back the map before the change or the map after it.
+ * new word. The stores are then made, by ragansils_make or by a loop of yours; all of them make a sound table out of a sound one, and
+ * power may go after any: on the next start ragansils_recover lists at most three stores that bring back the map before the change or
+ * the map after it.
  *
  * What is asked of the caller, and C cannot check:
  * - A pointer is aligned, and valid for as many words as the length beside it says; no pointer is NULL, with a length of 0 neither.
@@ -96,7 +98,10 @@ uint64_t ragansils_query(const uint64_t *table, size_t words, uint64_t key, uint
  * stays. The table is only read.
  */
 
-/* A key that is not in the table comes in with this record: 4 stores, or 9 where another item has to move first. Refusals 1 to 4, 6. */
+/*
+ * A key that is not in the table comes in with this record: 4 stores, or 9 where another item has to move first. Refusal 6 comes just
+ * where every slot of top and bottom that the key may have is taken, and no move of one item frees one. Refusals 1 to 4, 6.
+ */
 uint64_t ragansils_insert(const uint64_t *table, size_t words, uint64_t key, uint64_t function, uint64_t place, uint64_t *list,
                           size_t list_words, uint64_t *stores);
 
@@ -111,8 +116,9 @@ uint64_t ragansils_update(const uint64_t *table, size_t words, uint64_t key, uin
 uint64_t ragansils_delete(const uint64_t *table, size_t words, uint64_t key, uint64_t *list, size_t list_words, uint64_t *stores);
 
 /*
- * Growth begins: a new top of twice the size; the old top becomes the bottom, the old bottom the interim level: 1 store. Refusals 1 to
- * 3, 7, 9.
+ * Growth begins: a new top of twice the size; the old top becomes the bottom, the old bottom the interim level: 1 store. The map stays.
+ * From N top buckets, begin, steps and end take at most 20 N + 2 stores together, whatever but create is called between, if all stores
+ * that are listed are made. Refusals 1 to 3, 7, 9.
  */
 uint64_t ragansils_begin(const uint64_t *table, size_t words, uint64_t *list, size_t list_words, uint64_t *stores);
 
@@ -122,7 +128,7 @@ uint64_t ragansils_begin(const uint64_t *table, size_t words, uint64_t *list, si
  */
 uint64_t ragansils_step(const uint64_t *table, size_t words, uint64_t *list, size_t list_words, uint64_t *stores);
 
-/* Growth ends, once the interim level is empty: 1 store. Refusals 1 to 3, 8, 10. */
+/* Growth ends, once the interim level is empty: 1 store. The map stays. Refusals 1 to 3, 8, 10. */
 uint64_t ragansils_end(const uint64_t *table, size_t words, uint64_t *list, size_t list_words, uint64_t *stores);
 
 /*
