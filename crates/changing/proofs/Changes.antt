@@ -1,10 +1,9 @@
 -- What insert, update and delete do behind the first tests.
 -- Assumes nothing.
 use Prim.Native.Nat.{ℕ, _+_, _≤_}
-use mathlib.Core.Path.{_≡_, refl, sym, ap}
+use mathlib.Core.Path.{_≡_, refl}
 use mathlib.Core.List.{List, [], _∷_}
-use mathlib.Core.Option.{Option, none, some, Option·map}
-use mathlib.Core.Logic.{⊎-elim}
+use mathlib.Core.Option.{Option·map}
 use native.Mathlib.Omega.{arith}
 use denote.Enum.Declared.{tagOf}
 use types.Run.{OneOf}
@@ -19,7 +18,7 @@ use Rattle.rules.specs.declared.Record.{Record}
 use Rattle.rules.specs.declared.Lookup.{Lookup}
 use Rattle.rules.specs.declared.Lookup.the-variants.{Stands, Absent}
 use Rattle.rules.specs.declared.Placing.{Placing}
-use Rattle.rules.specs.declared.Placing.the-variants.{Free, Move, Nowhere}
+use Rattle.rules.specs.declared.Placing.the-variants.{Free}
 use Rattle.rules.specs.declared.Refusal.the-variants.{KeyPresent, KeyAbsent, NoPlace}
 use Rattle.rules.proofs.Lookup.{the-type as lookup-type}
 use Rattle.rules.proofs.Placing.{the-type as placing-type}
