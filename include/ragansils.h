@@ -100,7 +100,7 @@ uint64_t ragansils_query(const uint64_t *table, size_t words, uint64_t key, uint
 
 /*
  * A key that is not in the table comes in with this record: 4 stores, or 9 where another item has to move first. Refusal 6 comes just
- * where every slot of top and bottom that the key may have is taken, and no move of one item frees one. Refusals 1 to 4, 6.
+ * where every slot of top and bottom that the key may have is taken, and no permitted move of one item frees one. Refusals 1 to 4, 6.
  */
 uint64_t ragansils_insert(const uint64_t *table, size_t words, uint64_t key, uint64_t function, uint64_t place, uint64_t *list,
                           size_t list_words, uint64_t *stores);
