@@ -47,16 +47,17 @@ module _ (t : Table) (p : Place) where
 
 -- ---- the slots of a token word
 
+-- how many slots each of the sixteen tidy words says are taken, as the hexadecimal digits of one number
+abbrev counts : ℕ
+counts = 4841987667533046032
+
 module _ (h : Header) (word : ℕ) where
   -- a word has as many taken slots as its tidy word
   taken-tidied : takenOf h (tidy h word) ≡ takenOf h word
   unfolding takenOf
   taken-tidied = λ i. length (select (λ (z : ℕ). taken-tidy h word z i) slots)
 
-  -- the numbers of the sixteen tidy words, as the hexadecimal digits of one number: a computed test of all
-  abbrev counts : ℕ
-  counts = 4841987667533046032
-
+  -- by a computed test of all sixteen
   pub taken-counted : {w : ℕ} → w ≡ tidy h word → counts / 2 ^ (4 * w) % 16 ≡ takenOf h word
   unfolding takenOf isTaken tidy
   taken-counted e = rw e (eqb-true _ _ (tidy-tested h (λ v. eqb (counts / 2 ^ (4 * v) % 16) (takenOf h v)) refl word) ∙ taken-tidied)

@@ -33,18 +33,11 @@ somewhere (Free x) h = refl
 somewhere (Move from to) h = refl
 somewhere Nowhere h = absurd (⊎-elim (λ e. omega arith) (λ e. omega arith) h)
 
-pub is-somewhere : {p : Placing} {x : Slot} → p ≡ Free x → optional p ≡ some p
-is-somewhere e = rw e refl
-
 pub not-free : (p : Placing) → OneOf (1 ∷ 2 ∷ []) (tagOf the-type p) → (o : Option Slot) → optional p ≡ Option·map Free o → o ≡ none
 not-free p h none e = refl
 not-free (Free x) h (some y) e = absurd (⊎-elim (λ e. omega arith) (λ e. omega arith) h)
 not-free (Move from to) h (some y) e = absurd (let z : _≡_ {A = ℕ} 0 1 = cc in omega arith)
 not-free Nowhere h (some y) e = absurd (let z : _≡_ {A = ℕ} 0 1 = cc in omega arith)
-
-pub no-free : (p : Placing) → optional p ≡ none → (o : Option Slot) → optional p ≡ Option·map Free o → o ≡ none
-no-free p n none e = refl
-no-free p n (some y) e = absurd (let z : _≡_ {A = ℕ} 0 1 = cc in omega arith)
 
 pub is-free : {p : Placing} {x : Slot} → p ≡ Free x → (o : Option Slot) → optional p ≡ Option·map Free o → o ≡ some x
 is-free q none e = absurd (let z : _≡_ {A = ℕ} 0 1 = cc in omega arith)

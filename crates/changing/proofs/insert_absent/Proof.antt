@@ -1,7 +1,8 @@
 -- `changing::insert_absent` meets its contract: the first level with room, from the top down, or a move.
 -- Assumes nothing.
 use Prim.Native.Nat.{_-_, _≤_}
-use mathlib.Core.Path.{_≡_, refl, sym, ap}
+use mathlib.Core.Path.{_≡_, refl, ap}
+use mathlib.Core.Logic.{inl}
 use lib.ListN.{length}
 use denote.Ref.{now}
 use native.Mathlib.Omega.{arith}
@@ -11,7 +12,7 @@ use Rattle.reading.specs.Within.{SlotWithin}
 use Rattle.placing.specs.Within.{LevelWithin}
 use Rattle.placing.specs.Search.{NoRoom}
 use Rattle.placing.proofs.Goals.{level-within}
-use Rattle.placing.proofs.Placings.{is-somewhere, not-free, no-level, no-more, by-room}
+use Rattle.placing.proofs.Placings.{somewhere, not-free, no-level, no-more, by-room}
 use Rattle.listing.proofs.Outcomes.{did-as}
 use Rattle.changing.proofs.Changes.{take-free}
 use Rattle.changing.proofs.insert_absent.Statement.{statement}
@@ -55,18 +56,20 @@ insert-free-requires c κs =
     (rw (l .loop .inv .0) (s .pre .0), table-small _ _ (s .pre .1), slot-within k)
 
 same-length : tie.Need-same-length Inv-loop μ-loop
-same-length c = let l = c .before .before .before .before .before .before .before .before .before .before in search (needs, ap length (l .loop .inv .0), sym (ap length (l .loop .inv .0)))
+same-length c = let l = c .before .before .before .before .before .before .before .before .before .before in search (needs, ap length (l .loop .inv .0))
 
 returns : tie.Need-returns Inv-loop μ-loop
 returns c =
     let u = c .before .before in
     let k = u .before .before .before in
-    let p = k .before .before .room in
-    let i = k .before .before .before .before in
+    let m = k .before in
+    let p = m .before .room in
+    let i = m .before .before .before in
     let l = i .before in
     let s = l .before .before .before in
-    let free = k .found .given .1 in
-    did-as (take-free _ _ _ _ (by-room _ _ _ (s .pre .2) _ (i .loop-test .taken) (l .loop .inv .1) (p .result) (p .ensures .0) (is-somewhere free)) free) (rw (← l .loop .inv .0) (u .insert-free .ensures))
+    did-as
+    (take-free _ _ _ _ (by-room _ _ _ (s .pre .2) _ (i .loop-test .taken) (l .loop .inv .1) (p .result) (p .ensures .0) (somewhere (p .result) (inl (m .match .keys1)))) (k .found .given .1))
+    (rw (← l .loop .inv .0) (u .insert-free .ensures))
 
 add-level : tie.Need-add-level Inv-loop μ-loop
 add-level c = omega arith

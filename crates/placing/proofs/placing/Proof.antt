@@ -1,13 +1,14 @@
 -- `placing::placing` meets its contract: the first level with room, from the top down, or a move.
 -- Assumes nothing.
 use Prim.Native.Nat.{_-_, _≤_}
+use mathlib.Core.Logic.{inr}
 use denote.Ref.{now}
 use native.Mathlib.Omega.{arith}
 use borrow.Author.Needs.{needs}
 use Rattle.placing.specs.Within.{LevelWithin}
 use Rattle.placing.specs.Search.{NoRoom}
 use Rattle.placing.proofs.Goals.{level-within}
-use Rattle.placing.proofs.Placings.{nowhere, somewhere, no-free, no-level, no-more, by-room, by-move}
+use Rattle.placing.proofs.Placings.{somewhere, not-free, no-level, no-more, by-room, by-move}
 use Rattle.placing.proofs.placing.Statement.{statement}
 use Rattle.placing.proofs.placing.Tie as tie
 
@@ -52,7 +53,7 @@ loop-again : tie.Need-loop-again Inv-loop μ-loop
 loop-again c =
     let m = c .before in
     let p = m .before .room in
-    no-more _ _ _ _ (m .before .before .before .before .loop .inv) (no-free (p .result) (nowhere (p .result) (m .match .keys1)) _ (p .ensures .0))
+    no-more _ _ _ _ (m .before .before .before .before .loop .inv) (not-free (p .result) (inr (m .match .keys1)) _ (p .ensures .0))
 
 moving-requires : tie.Need-moving-requires Inv-loop μ-loop
 moving-requires c κs = search needs
