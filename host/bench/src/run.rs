@@ -11,7 +11,7 @@ use crate::growth::{half_way, last_growth, whole};
 use crate::instructions::{count_all, Counted};
 use crate::keys::{Keys, Kind};
 use crate::operations::Filled;
-use crate::peers::{self, items_at, slots_of};
+use crate::peers::{self, items_at, slots_of, Peer};
 use crate::plan::Plan;
 use crate::recovery::{self, Kinds, SOUND};
 use crate::rounds::Measured;
@@ -182,14 +182,25 @@ impl Run<'_> {
     /// The last growth of a table of capacity c, of all peers that can grow at once.
     fn whole_growth(&mut self, c: u64) -> Result<(), String> {
         self.say(&format!("growth to c = {c}"));
-        let creation = last_growth(self.creation(c));
-        let keys = Keys::new(&mut self.random, Kind::Random, items_at(creation, HIGH_LOAD), 0);
-        let mut filled = self.peers(creation, &keys, &format!("load {HIGH_LOAD}"));
-        filled.peers.retain(|peer| peer.grows());
-        filled.fill(keys.present().len())?;
-        let measured = whole(&mut filled, self.plan.growth_rounds(c))?;
+        let folder = self.folder;
+        let measured = self.grow(c, |creation, items| peers::all(creation, items, folder))?;
         self.results.growth.extend(measured);
         Ok(())
+    }
+
+    /// The same of those among some peers, which are handed their creation and the number of their items.
+    fn grow(
+        &mut self,
+        c: u64,
+        peers: impl FnOnce(Creation, usize) -> Vec<Box<dyn Peer>>,
+    ) -> Result<Vec<Measured>, String> {
+        let creation = last_growth(self.creation(c));
+        let items = items_at(creation, HIGH_LOAD);
+        let keys = Keys::new(&mut self.random, Kind::Random, items, 0);
+        let peers = peers(creation, items).into_iter().filter(|peer| peer.grows()).collect();
+        let mut filled = Filled { c, peers, keys: &keys, items: 0, when: format!("load {HIGH_LOAD}") };
+        filled.fill(items)?;
+        whole(&mut filled, self.plan.growth_rounds(c))
     }
 
     /// How recovery and growth take longer in larger tables: the capacities between those of the plan.
@@ -205,12 +216,7 @@ impl Run<'_> {
         }
         self.say("growth by capacity");
         for c in grown {
-            let creation = last_growth(self.creation(c));
-            let keys = Keys::new(&mut self.random, Kind::Random, items_at(creation, HIGH_LOAD), 0);
-            let peers = peers::two_sides(creation);
-            let mut filled = Filled { c, peers, keys: &keys, items: 0, when: String::new() };
-            filled.fill(keys.present().len())?;
-            let measured = whole(&mut filled, self.plan.growth_rounds(c))?;
+            let measured = self.grow(c, |creation, _| peers::two_sides(creation))?;
             self.results.more_growth.extend(measured);
         }
         Ok(())
