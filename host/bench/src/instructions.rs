@@ -4,14 +4,12 @@
 use std::path::Path;
 use std::process::Command;
 
-use ragansils::Creation;
 use ragansils_compare::random::Random;
+use ragansils_counts::{full_size, items_at, Keys, Kind};
 use ragansils_model::table_words;
 
-use crate::counts::multipliers;
-use crate::keys::{Keys, Kind};
 use crate::operations::{split_by_update, Filled, Operation};
-use crate::peers::{items_at, two_sides, Peer, LIBRARY, TWIN};
+use crate::peers::{two_sides, Peer, LIBRARY, TWIN};
 
 /// A table that fits no first-level cache, and that valgrind fills in a second.
 const USUAL_C: u64 = 12;
@@ -115,7 +113,7 @@ pub fn run_counted(name: &str, side: &str, c: u64) -> Result<usize, String> {
     let operation = Operation::ALL.into_iter().find(|operation| operation.name() == name);
     let operation = operation.ok_or_else(|| format!("no operation {name}"))?;
     let mut random = Random::new(SEED);
-    let creation = Creation { capacity: c, first_top: c, multipliers: multipliers(&mut random) };
+    let creation = full_size(&mut random, c);
     let items = items_at(creation, LOAD);
     let keys = Keys::new(&mut random, Kind::Random, items + CALLS / 10, CALLS);
     let mut filled = Filled { c, peers: two_sides(creation), keys: &keys, items: 0, when: String::new() };

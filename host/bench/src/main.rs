@@ -1,19 +1,18 @@
 //! Measures the proved library beside its twin and beside tables that a user might pick. `./bench` builds and runs it.
 //!
 //! From the bottom up:
-//! - `peers`: what is measured; `keys`: with which keys;
+//! - `peers`: what is measured;
 //! - `clock`, `rounds`: how it is timed, and what is said of the times;
-//! - `operations`, `recovery`, `growth`: what is timed; `counts`, `instructions`: what is counted;
+//! - `operations`, `recovery`, `growth`: what is timed; `instructions`: what valgrind counts of it;
 //! - `plan`, `run`: how much, and all of it;
-//! - `svg`, `chart`, `plots`, `report`, `article`: what is written of it.
+//! - `svg`, `chart`, `plots`, `report`: what is written of it.
+//!
+//! The keys, the level tables and all counts that need no clock are host/counts'.
 
-mod article;
 mod chart;
 mod clock;
-mod counts;
 mod growth;
 mod instructions;
-mod keys;
 mod operations;
 mod peers;
 mod plan;
@@ -29,24 +28,14 @@ use std::process::ExitCode;
 use std::time::Instant;
 
 use ragansils_compare::random::Random;
+use ragansils_counts::program;
 
 use crate::run::{Results, Run};
 
 const USAGE: &str = "usage: ragansils-bench quick|full SEED OUT-FOLDER LMDB-FOLDER";
 
 fn main() -> ExitCode {
-    let arguments: Vec<String> = std::env::args().skip(1).collect();
-    let arguments: Vec<&str> = arguments.iter().map(String::as_str).collect();
-    match command(&arguments) {
-        Ok(text) => {
-            println!("{text}");
-            ExitCode::SUCCESS
-        }
-        Err(message) => {
-            eprintln!("bench: FAILED: {message}");
-            ExitCode::FAILURE
-        }
-    }
+    program::run("bench", |arguments| command(arguments).map(|text| text + "\n"))
 }
 
 fn command(arguments: &[&str]) -> Result<String, String> {
@@ -72,7 +61,7 @@ fn command(arguments: &[&str]) -> Result<String, String> {
 fn bench(plan: &plan::Plan, seed: u64, out: &Path, lmdb: &Path) -> Result<String, String> {
     let (random, begun, results) = (Random::new(seed), Instant::now(), Results::default());
     let mut run = Run { plan, random, folder: lmdb, begun, results };
-    run.everything(out)?;
+    run.everything(seed, out)?;
     let write = |name: &str, text: &str| {
         let file = out.join(name);
         std::fs::write(&file, text).map_err(|error| format!("{}: {error}", file.display()))

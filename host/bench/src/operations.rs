@@ -1,12 +1,12 @@
 //! Queries, inserts, updates and deletes of all peers at a load.
 
 use ragansils_compare::random::Random;
+use ragansils_counts::{draw, record_of, Keys, Kind};
 use ragansils_model::Event;
 use ragansils_twin::Proved;
 
 use crate::clock::timed;
-use crate::keys::{draw, Keys, Kind};
-use crate::peers::{record_of, swap_words, Peer};
+use crate::peers::{swap_words, Peer};
 use crate::rounds::{Measured, Rounds};
 
 /// The stores of an update whose bucket is full.

@@ -10,23 +10,19 @@ mod standard;
 
 use std::path::Path;
 
-pub use level::{items_at, slots_of, swap_words, LevelTable};
+pub use level::swap_words;
 
 use ragansils::Creation;
+use ragansils_counts::{record_of, Record};
 use ragansils_twin::{ListingTwin, Proved, Twin};
 
-pub type Record = [u64; 2];
+use level::LevelPeer;
 
 /// Names of the two sides, which are always the first two peers.
 pub const LIBRARY: &str = "library";
 pub const TWIN: &str = "twin";
 /// The twin whose inserts are listed, and made as the library's are.
 pub const LISTING_TWIN: &str = "twin with a list";
-
-/// The record that a key has before any update.
-pub fn record_of(key: u64) -> Record {
-    [key.wrapping_mul(3), key ^ (key >> 7)]
-}
 
 pub trait Peer {
     fn name(&self) -> &'static str;
@@ -88,15 +84,15 @@ fn sum(answers: impl Iterator<Item = u64>) -> u64 {
 /// The library and the twin alone, empty.
 pub fn two_sides(creation: Creation) -> Vec<Box<dyn Peer>> {
     vec![
-        Box::new(LevelTable::new(LIBRARY, Proved::default(), creation)),
-        Box::new(LevelTable::new(TWIN, Twin, creation)),
+        Box::new(LevelPeer::new(LIBRARY, Proved::default(), creation)),
+        Box::new(LevelPeer::new(TWIN, Twin, creation)),
     ]
 }
 
 /// The two sides, and between them a twin with a list.
 pub fn two_sides_and_a_list(creation: Creation) -> Vec<Box<dyn Peer>> {
     let mut peers = two_sides(creation);
-    peers.push(Box::new(LevelTable::new(LISTING_TWIN, ListingTwin::default(), creation)));
+    peers.push(Box::new(LevelPeer::new(LISTING_TWIN, ListingTwin::default(), creation)));
     peers
 }
 

@@ -2,47 +2,24 @@
 
 use std::ops::RangeInclusive;
 
+use ragansils_counts::plan::{self, CountPlan};
+
 pub struct Plan {
-    /// The capacities at which everything is measured.
-    pub capacities: &'static [u64],
-    /// Those at which the keys of a collector are tried too.
-    pub collector_capacities: &'static [u64],
+    /// What is counted, with the capacities at which everything is measured.
+    pub counts: CountPlan,
     pub rounds: usize,
     /// Calls of each operation in a round: a few milliseconds, in which a busy machine is as busy for one peer as for the next.
     pub calls: usize,
     /// More capacities, at which the recovery of a sound table is timed, and a whole growth.
     pub recovered: RangeInclusive<u64>,
     pub grown: RangeInclusive<u64>,
-    /// The k of tables that are filled until the first refusal 6, and how many of each.
-    pub filled: &'static [u64],
-    pub fillings: usize,
-    /// The capacity up to which tables grow again and again.
-    pub grown_again: u64,
 }
 
-pub const FULL: Plan = Plan {
-    capacities: &[8, 14, 18, 20],
-    collector_capacities: &[14, 18],
-    rounds: 25,
-    calls: 40_000,
-    recovered: 6..=20,
-    grown: 5..=17,
-    filled: &[4, 6, 8, 10, 12, 14, 16, 18],
-    fillings: 20,
-    grown_again: 15,
-};
+pub const FULL: Plan =
+    Plan { counts: plan::FULL, rounds: 25, calls: 40_000, recovered: 6..=20, grown: 5..=17 };
 
-pub const QUICK: Plan = Plan {
-    capacities: &[8, 14],
-    collector_capacities: &[14],
-    rounds: 9,
-    calls: 10_000,
-    recovered: 6..=14,
-    grown: 5..=12,
-    filled: &[4, 8, 12],
-    fillings: 3,
-    grown_again: 10,
-};
+pub const QUICK: Plan =
+    Plan { counts: plan::QUICK, rounds: 9, calls: 10_000, recovered: 6..=14, grown: 5..=12 };
 
 /// From this capacity on a round takes long, and fewer do.
 const LARGE: u64 = 19;

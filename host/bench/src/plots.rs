@@ -1,10 +1,9 @@
 //! The pictures of docs/BENCHMARKS.md.
 
+use ragansils_counts::{Bin, BINS};
 use ragansils_model::table_words;
 
 use crate::chart::{lines, rows, Axis, Line, Row};
-use crate::counts::{Bin, Fillings, BINS};
-use crate::keys::Kind;
 use crate::peers::{LIBRARY, TWIN};
 use crate::rounds::Measured;
 use crate::run::Results;
@@ -110,12 +109,10 @@ fn growth(results: &Results) -> String {
 
 /// Over the load: how many inserts moved an item, and how many updates needed no log.
 fn filling(results: &Results) -> String {
-    let random: Vec<&Fillings> =
-        results.fillings.iter().filter(|fillings| fillings.kind == Kind::Random).collect();
-    let largest = random.iter().max_by_key(|fillings| fillings.k);
+    let largest = results.counts.largest_random_fillings();
     let bins = largest.map_or([Bin::default(); BINS], |fillings| fillings.bins);
     let share = |label: &str, part: fn(&Bin) -> f64| {
-        let met = bins.iter().enumerate().filter(|(_, bin)| bin.inserts > 0);
+        let met = bins.iter().enumerate().filter(|(_, bin)| bin.inserts.calls() > 0);
         let points = met.map(|(at, bin)| ((at as f64 + 0.5) / BINS as f64, part(bin))).collect();
         Line { label: label.to_string(), points, is_guide: false }
     };

@@ -3,12 +3,12 @@
 
 use ragansils::Creation;
 use ragansils_compare::random::Random;
+use ragansils_counts::{items_at, Keys, Kind};
 use ragansils_model::{word, Slot, Table};
 
 use crate::clock::timed;
-use crate::keys::{Keys, Kind};
 use crate::operations::Filled;
-use crate::peers::{items_at, swap_words, two_sides, Peer};
+use crate::peers::{swap_words, two_sides, Peer};
 use crate::rounds::{Measured, Rounds};
 
 /// Stores that bring a sound table to one that recovery mends.

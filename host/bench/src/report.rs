@@ -1,15 +1,14 @@
 //! The figures as text, for docs/BENCHMARKS.md.
 
+use ragansils_counts::markdown::{heads, table};
+use ragansils_counts::Middle;
 use ragansils_model::table_words;
 use ragansils_twin::TWIN_COMPILER;
 
-use crate::article;
-use crate::counts::{Fillings, Growth};
 use crate::instructions;
-use crate::keys::Kind;
 use crate::operations::Operation;
 use crate::peers::{LIBRARY, LISTING_TWIN, TWIN};
-use crate::rounds::{Measured, Middle};
+use crate::rounds::Measured;
 use crate::run::Results;
 
 /// What the library may take, as a multiple of the twin's time, at these capacities.
@@ -35,10 +34,7 @@ pub fn figures(results: &Results, seed: u64) -> String {
         peer_tables(results),
         recovery_table(results),
         growth_table(results),
-        article::claims(results),
-        filling_table(results),
-        probe_table(results),
-        regrowth_table(results),
+        results.counts.sections(),
     ]
     .join("\n")
 }
@@ -62,20 +58,6 @@ pub fn every_round(results: &Results) -> String {
         }
     }
     text
-}
-
-/// A Markdown table.
-pub fn table(title: &str, heads: &[String], rows: impl IntoIterator<Item = Vec<String>>) -> String {
-    let mut text = format!("{title}\n\n| {} |\n|{}\n", heads.join(" | "), "---|".repeat(heads.len()));
-    for row in rows {
-        assert_eq!(row.len(), heads.len(), "a row of {title} has a cell for each head");
-        text += &format!("| {} |\n", row.join(" | "));
-    }
-    text
-}
-
-pub fn heads(names: &[&str]) -> Vec<String> {
-    names.iter().map(|name| name.to_string()).collect()
 }
 
 /// Three digits that count.
@@ -302,62 +284,6 @@ fn growth_table(results: &Results) -> String {
     table("### One whole growth, begun at load 0.8", &names, rows)
 }
 
-fn filling_table(results: &Results) -> String {
-    let rows = results.fillings.iter().map(|fillings: &Fillings| {
-        let middle = fillings.load_at_first_refusal();
-        vec![
-            fillings.k.to_string(),
-            fillings.kind.name().to_string(),
-            fillings.first_refusal.len().to_string(),
-            format!("{:.3}", fillings.least_load()),
-            format!("**{:.3}**", middle.median),
-            format!("{:.3}", fillings.bottom_share().median),
-            format!("{:.2} %", 100.0 * fillings.moving_share()),
-            format!("{:.3}", fillings.stores_per_insert()),
-        ]
-    });
-    let names = [
-        "k",
-        "keys",
-        "tables",
-        "least load",
-        "median load",
-        "items in the bottom",
-        "inserts that moved an item",
-        "stores for an insert",
-    ];
-    table("### Filled until the first refusal 6", &heads(&names), rows)
-}
-
-fn probe_table(results: &Results) -> String {
-    let rows = results.probes.iter().map(|probes| {
-        vec![probes.when.clone(), format!("{:.3}", probes.positive), format!("{:.3}", probes.negative)]
-    });
-    table("### Buckets that a query looks at", &heads(&["table", "positive", "negative"]), rows)
-}
-
-fn regrowth_table(results: &Results) -> String {
-    let row = |kind: Kind, growth: &Growth| {
-        vec![
-            kind.name().to_string(),
-            growth.k.to_string(),
-            format!("{:.3}", growth.load),
-            growth.items.to_string(),
-            growth.moved.to_string(),
-            format!("**{:.3}**", growth.share()),
-            growth.moving_steps.to_string(),
-            format!("{:.2}", growth.stores as f64 / (1u64 << growth.k) as f64),
-        ]
-    };
-    let rows = results
-        .growths
-        .iter()
-        .flat_map(|(kind, growths)| growths.iter().map(move |growth| row(*kind, growth)));
-    let names =
-        ["keys", "k", "load", "items", "moved", "share", "steps that moved another", "stores for each of N"];
-    table("### Growths, each begun at the first refusal 6", &heads(&names), rows)
-}
-
 #[cfg(test)]
 mod tests {
     use super::*;
@@ -366,11 +292,5 @@ mod tests {
     fn three_digits_count() {
         let said = [0.001234, 0.5, 9.876, 31.04, 314.2, 31415.9].map(three_digits);
         assert_eq!(said, ["0.00123", "0.500", "9.88", "31.0", "314", "31416"]);
-    }
-
-    #[test]
-    fn a_table_of_one_row() {
-        let text = table("Title", &heads(&["a", "b"]), [heads(&["1", "2"])]);
-        assert_eq!(text, "Title\n\n| a | b |\n|---|---|\n| 1 | 2 |\n");
     }
 }

@@ -1,5 +1,7 @@
 //! Rounds of measurement: every peer in each round, and what is said of the rounds.
 
+use ragansils_counts::Middle;
+
 use crate::peers::{Peer, LIBRARY, TWIN};
 
 /// What was measured of one operation.
@@ -13,23 +15,6 @@ pub struct Measured {
 pub struct Series {
     pub peer: &'static str,
     pub rounds: Vec<f64>,
-}
-
-/// The middle of some numbers, and the bounds of their middle half.
-#[derive(Clone, Copy)]
-pub struct Middle {
-    pub low: f64,
-    pub median: f64,
-    pub high: f64,
-}
-
-impl Middle {
-    pub fn of(numbers: impl IntoIterator<Item = f64>) -> Middle {
-        let mut sorted: Vec<f64> = numbers.into_iter().collect();
-        sorted.sort_by(f64::total_cmp);
-        let at = |share: f64| sorted[((sorted.len() - 1) as f64 * share).round() as usize];
-        Middle { low: at(0.25), median: at(0.5), high: at(0.75) }
-    }
 }
 
 impl Series {
@@ -108,12 +93,6 @@ mod tests {
         let series =
             [(LIBRARY, library), (TWIN, twin)].map(|(peer, rounds)| Series { peer, rounds: rounds.to_vec() });
         Measured { c: 1, operation: String::new(), series: series.into() }
-    }
-
-    #[test]
-    fn the_middle_of_five() {
-        let middle = Middle::of([5.0, 1.0, 4.0, 2.0, 3.0]);
-        assert_eq!([middle.low, middle.median, middle.high], [2.0, 3.0, 4.0]);
     }
 
     /// The rounds in which the machine was slow are slow on both sides.

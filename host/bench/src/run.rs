@@ -5,20 +5,17 @@ use std::time::Instant;
 
 use ragansils::Creation;
 use ragansils_compare::random::Random;
+use ragansils_counts::plan::{HIGH_LOAD, LOADS};
+use ragansils_counts::{full_size, half_way, items_at, last_growth, slots_of, Counts, Keys, Kind};
 
-use crate::counts::{growths, multipliers, Fillings, Growth, Probes};
-use crate::growth::{half_way, last_growth, whole};
+use crate::growth::whole;
 use crate::instructions::{count_all, Counted};
-use crate::keys::{Keys, Kind};
 use crate::operations::Filled;
-use crate::peers::{self, items_at, slots_of, Peer};
+use crate::peers::{self, Peer};
 use crate::plan::Plan;
 use crate::recovery::{self, Kinds, SOUND};
 use crate::rounds::Measured;
 
-const LOADS: [f64; 2] = [0.5, 0.8];
-/// The load at which tables are recovered and grow.
-pub const HIGH_LOAD: f64 = 0.8;
 /// Inserts, and deletes of the same keys, by turns: a share of the slots, small enough that the load stays the same, and
 /// calls enough to be timed.
 const FEW_SHARE: usize = 50;
@@ -36,9 +33,7 @@ pub struct Results {
     /// A whole growth to a capacity, nanoseconds: of all peers at the plan's capacities, and of the two sides at others.
     pub growth: Vec<Measured>,
     pub more_growth: Vec<Measured>,
-    pub fillings: Vec<Fillings>,
-    pub probes: Vec<Probes>,
-    pub growths: Vec<(Kind, Vec<Growth>)>,
+    pub counts: Counts,
     pub instructions: Vec<Counted>,
 }
 
@@ -76,18 +71,19 @@ pub struct Run<'a> {
 }
 
 impl Run<'_> {
-    pub fn everything(&mut self, callgrind_folder: &Path) -> Result<(), String> {
-        self.counts()?;
+    /// The counts are drawn from the seed alone, so that they are the same without the rest.
+    pub fn everything(&mut self, seed: u64, callgrind_folder: &Path) -> Result<(), String> {
+        self.results.counts = Counts::count(seed, &self.plan.counts, |part| self.say(part))?;
         self.say("instructions");
         self.results.instructions = count_all(callgrind_folder)?;
-        for &c in self.plan.capacities {
+        for &c in self.plan.counts.capacities {
             self.at_rest(c, Kind::Random)?;
             self.growing(c, Kind::Random)?;
             self.listed_inserts(c)?;
             self.recoveries(c)?;
             self.whole_growth(c)?;
         }
-        for &c in self.plan.collector_capacities {
+        for &c in self.plan.counts.collector_capacities {
             self.at_rest(c, Kind::Collector)?;
             self.growing(c, Kind::Collector)?;
         }
@@ -96,10 +92,6 @@ impl Run<'_> {
 
     fn say(&self, part: &str) {
         eprintln!("bench: {:4} s: {part}", self.begun.elapsed().as_secs());
-    }
-
-    fn creation(&mut self, c: u64) -> Creation {
-        Creation { capacity: c, first_top: c, multipliers: multipliers(&mut self.random) }
     }
 
     /// All peers, empty, with keys enough for a load.
@@ -111,7 +103,7 @@ impl Run<'_> {
     /// Queries, inserts, updates and deletes at each load.
     fn at_rest(&mut self, c: u64, kind: Kind) -> Result<(), String> {
         self.say(&format!("queries and changes, c = {c}, {}", kind.name()));
-        let creation = self.creation(c);
+        let creation = full_size(&mut self.random, c);
         let few = few_of(creation);
         let (rounds, calls) = (self.plan.rounds_at(c), self.plan.calls);
         let keys = Keys::new(&mut self.random, kind, items_at(creation, HIGH_LOAD) + 4 * few, calls);
@@ -123,14 +115,13 @@ impl Run<'_> {
             measured.extend(filled.queries(&mut self.random, rounds, calls)?);
             measured.extend(filled.inserts_and_deletes(&mut self.random, rounds, calls, few)?);
             measured.extend(filled.updates(&mut self.random, rounds, calls)?);
-            self.count_probes(&mut filled)?;
         }
         Ok(())
     }
 
     /// What a list costs an insert by itself.
     fn listed_inserts(&mut self, c: u64) -> Result<(), String> {
-        let creation = self.creation(c);
+        let creation = full_size(&mut self.random, c);
         let (rounds, calls, few) = (self.plan.rounds_at(c), self.plan.calls, few_of(creation));
         let keys = Keys::new(&mut self.random, Kind::Random, items_at(creation, HIGH_LOAD) + 4 * few, 0);
         let peers = peers::two_sides_and_a_list(creation);
@@ -147,7 +138,7 @@ impl Run<'_> {
 
     /// Queries in the middle of a growth.
     fn growing(&mut self, c: u64, kind: Kind) -> Result<(), String> {
-        let creation = last_growth(self.creation(c));
+        let creation = last_growth(full_size(&mut self.random, c));
         let keys = Keys::new(&mut self.random, kind, items_at(creation, HIGH_LOAD), self.plan.calls);
         let mut filled = self.peers(creation, &keys, "growing");
         filled.fill(keys.present().len())?;
@@ -156,22 +147,12 @@ impl Run<'_> {
         }
         let measured = filled.queries(&mut self.random, self.plan.rounds_at(c), self.plan.calls)?;
         self.results.operations.extend(measured);
-        self.count_probes(&mut filled)
-    }
-
-    fn count_probes(&mut self, filled: &mut Filled) -> Result<(), String> {
-        let (items, calls) = (filled.items, self.plan.calls);
-        let present = filled.keys.draw_present(&mut self.random, items, calls);
-        let absent = filled.keys.draw_absent(&mut self.random, calls);
-        let words = filled.peers[0].words().ok_or("the first peer is a level table")?;
-        let when = format!("c = {}, {}, {}", filled.c, filled.when, filled.keys.kind.name());
-        self.results.probes.push(Probes::count(words, &when, &present, &absent));
         Ok(())
     }
 
     fn recoveries(&mut self, c: u64) -> Result<(), String> {
         self.say(&format!("recovery, c = {c}"));
-        let (creation, rounds) = (self.creation(c), self.plan.whole_table_rounds(c));
+        let (creation, rounds) = (full_size(&mut self.random, c), self.plan.whole_table_rounds(c));
         for (load, kinds) in [(LOADS[0], Kinds::Sound), (HIGH_LOAD, Kinds::All)] {
             let measured = recovery::measure(&mut self.random, creation, load, rounds, kinds)?;
             self.results.recovery.extend(measured);
@@ -194,7 +175,7 @@ impl Run<'_> {
         c: u64,
         peers: impl FnOnce(Creation, usize) -> Vec<Box<dyn Peer>>,
     ) -> Result<Vec<Measured>, String> {
-        let creation = last_growth(self.creation(c));
+        let creation = last_growth(full_size(&mut self.random, c));
         let items = items_at(creation, HIGH_LOAD);
         let keys = Keys::new(&mut self.random, Kind::Random, items, 0);
         let peers = peers(creation, items).into_iter().filter(|peer| peer.grows()).collect();
@@ -206,11 +187,11 @@ impl Run<'_> {
     /// How recovery and growth take longer in larger tables: the capacities between those of the plan.
     fn curves(&mut self) -> Result<(), String> {
         self.say("recovery by capacity");
-        let is_between = |c: &u64| !self.plan.capacities.contains(c);
+        let is_between = |c: &u64| !self.plan.counts.capacities.contains(c);
         let recovered: Vec<u64> = self.plan.recovered.clone().filter(is_between).collect();
         let grown: Vec<u64> = self.plan.grown.clone().filter(is_between).collect();
         for c in recovered {
-            let (creation, rounds) = (self.creation(c), self.plan.whole_table_rounds(c));
+            let (creation, rounds) = (full_size(&mut self.random, c), self.plan.whole_table_rounds(c));
             let measured = recovery::measure(&mut self.random, creation, HIGH_LOAD, rounds, Kinds::Sound)?;
             self.results.more_recovery.extend(measured);
         }
@@ -218,19 +199,6 @@ impl Run<'_> {
         for c in grown {
             let measured = self.grow(c, |creation, _| peers::two_sides(creation))?;
             self.results.more_growth.extend(measured);
-        }
-        Ok(())
-    }
-
-    fn counts(&mut self) -> Result<(), String> {
-        self.say("counts");
-        for kind in [Kind::Random, Kind::Collector] {
-            for &k in self.plan.filled {
-                let fillings = Fillings::count(&mut self.random, k, kind, self.plan.fillings);
-                self.results.fillings.push(fillings);
-            }
-            let grown = growths(&mut self.random, kind, 4, self.plan.grown_again)?;
-            self.results.growths.push((kind, grown));
         }
         Ok(())
     }

@@ -4,7 +4,9 @@ use std::ffi::{c_void, CString};
 use std::os::raw::c_char;
 use std::path::Path;
 
-use super::{Peer, Record};
+use ragansils_counts::Record;
+
+use super::Peer;
 
 /// A table's functions. Every pointer to a record is to two words.
 struct Calls {

@@ -1,53 +1,33 @@
-//! A level table in words of its own, by the proved library or by its twin.
+//! A level table as a peer, by the proved library or by its twin.
 
 use ragansils::Creation;
+use ragansils_counts::{LevelTable, Record};
 use ragansils_model::{Event, SUCCESS};
 use ragansils_twin::Side;
 
-use super::{Peer, Record};
+use super::Peer;
 
-/// The slots of top and bottom before any growth, of which a load is a share.
-pub fn slots_of(creation: Creation) -> usize {
-    6 << creation.first_top
-}
-
-pub fn items_at(creation: Creation, load: f64) -> usize {
-    (slots_of(creation) as f64 * load) as usize
-}
-
-pub struct LevelTable<S> {
+pub struct LevelPeer<S> {
     name: &'static str,
-    pub side: S,
-    pub words: Vec<u64>,
+    table: LevelTable<S>,
     /// The words before a growth.
     before: Vec<u64>,
 }
 
-impl<S: Side> LevelTable<S> {
-    pub fn new(name: &'static str, mut side: S, creation: Creation) -> LevelTable<S> {
-        let length = creation.words().expect("a capacity from 1 to 20");
-        // Not zeros, which would be no memory yet.
-        let mut words = vec![1; length];
-        let Creation { capacity, first_top, multipliers: [mul1, mul2] } = creation;
-        let number = side.create(&mut words, capacity, first_top, mul1, mul2);
-        assert_eq!(number, SUCCESS, "a table is created");
-        LevelTable { name, side, words, before: vec![] }
-    }
-
-    #[inline(always)]
-    pub fn change(&mut self, event: Event) -> bool {
-        self.side.change(&mut self.words, event) == SUCCESS
+impl<S: Side> LevelPeer<S> {
+    pub fn new(name: &'static str, side: S, creation: Creation) -> LevelPeer<S> {
+        LevelPeer { name, table: LevelTable::new(side, creation), before: vec![] }
     }
 }
 
-impl<S: Side> Peer for LevelTable<S> {
+impl<S: Side> Peer for LevelPeer<S> {
     fn name(&self) -> &'static str {
         self.name
     }
 
     #[inline(always)]
     fn get(&self, key: u64) -> Option<Record> {
-        match self.side.query(&self.words, key) {
+        match self.table.side.query(&self.table.words, key) {
             (SUCCESS, [function, place, _]) => Some([function, place]),
             _ => None,
         }
@@ -55,17 +35,17 @@ impl<S: Side> Peer for LevelTable<S> {
 
     #[inline(always)]
     fn insert(&mut self, key: u64, [function, place]: Record) -> bool {
-        self.change(Event::Insert { key, function, place })
+        self.table.change(Event::Insert { key, function, place })
     }
 
     #[inline(always)]
     fn update(&mut self, key: u64, [function, place]: Record) -> bool {
-        self.change(Event::Update { key, function, place })
+        self.table.change(Event::Update { key, function, place })
     }
 
     #[inline(always)]
     fn remove(&mut self, key: u64) -> bool {
-        self.change(Event::Delete { key })
+        self.table.change(Event::Delete { key })
     }
 
     fn grows(&self) -> bool {
@@ -73,25 +53,25 @@ impl<S: Side> Peer for LevelTable<S> {
     }
 
     fn grow(&mut self) -> bool {
-        let begun = self.change(Event::Begin);
-        while self.change(Event::Step) {}
-        begun && self.change(Event::End)
+        let begun = self.table.change(Event::Begin);
+        while self.table.change(Event::Step) {}
+        begun && self.table.change(Event::End)
     }
 
     fn before_growth(&mut self) {
-        self.before.clone_from(&self.words);
+        self.before.clone_from(&self.table.words);
     }
 
     fn after_growth(&mut self) {
-        self.words.clone_from(&self.before);
+        self.table.words.clone_from(&self.before);
     }
 
     fn recover(&mut self) -> bool {
-        self.change(Event::Recover)
+        self.table.change(Event::Recover)
     }
 
     fn words(&mut self) -> Option<&mut Vec<u64>> {
-        Some(&mut self.words)
+        Some(&mut self.table.words)
     }
 }
 

@@ -6,7 +6,9 @@ use std::collections::hash_map::RandomState;
 use std::collections::HashMap;
 use std::hash::{BuildHasher, BuildHasherDefault, Hasher};
 
-use super::{Peer, Record};
+use ragansils_counts::Record;
+
+use super::Peer;
 
 /// A product's high bits stand in the low ones too, which choose the place.
 #[derive(Default)]

@@ -1,10 +1,10 @@
 //! The level hashing article's claims, and what was counted here beside them.
 
-use crate::counts::{Fillings, Growth};
-use crate::keys::Kind;
-use crate::report::{heads, table};
-use crate::rounds::Middle;
-use crate::run::Results;
+use crate::counts::Counts;
+use crate::fillings::Fillings;
+use crate::growths::Growth;
+use crate::markdown::{heads, table};
+use crate::middle::Middle;
 
 const LOAD: &str = "\"the level hash table is able to achieve the load factor of higher than 0.9\"; \
     \"all the four hash tables can achieve over 90% of maximum load factor\"";
@@ -16,30 +16,29 @@ const LOG_FREE: &str =
     "\"when the load factor of the hash table is smaller than about 2/3, the probability of \
     log-free update is very high and decreases with the increase of the load factor\"";
 
-pub fn claims(results: &Results) -> String {
-    let random = || results.fillings.iter().filter(|fillings| fillings.kind == Kind::Random);
-    let largest = match random().max_by_key(|fillings| fillings.k) {
+pub fn claims(counts: &Counts) -> String {
+    let largest = match counts.largest_random_fillings() {
         Some(largest) => largest,
         None => return String::new(),
     };
-    let growths: Vec<&Growth> = results.growths.iter().flat_map(|(_, growths)| growths).collect();
+    let growths: Vec<&Growth> = counts.all_growths().collect();
     let rows = [
-        (LOAD, first_refusal(random().collect())),
+        (LOAD, first_refusal(counts.random_fillings())),
         (THIRD, moved_share(largest, &growths)),
         (MOVEMENT, movements(largest)),
-        (PROBES, probes(results)),
+        (PROBES, probes(counts)),
         (LOG_FREE, plain_updates(largest)),
     ];
     let rows = rows.map(|(claim, counted)| vec![claim.to_string(), counted]);
     table("### Beside the article's claims", &heads(&["the article", "counted here"]), rows)
 }
 
-fn first_refusal(fillings: Vec<&Fillings>) -> String {
-    let one = |fillings: &&Fillings| {
+fn first_refusal<'a>(fillings: impl Iterator<Item = &'a Fillings>) -> String {
+    let one = |fillings: &Fillings| {
         let (k, median, least) = (fillings.k, fillings.load_at_first_refusal().median, fillings.least_load());
         format!("{median:.3} at k = {k} (least {least:.3})")
     };
-    let all: Vec<String> = fillings.iter().map(one).collect();
+    let all: Vec<String> = fillings.map(one).collect();
     format!("Median load at the first refusal 6: {}", all.join(", "))
 }
 
@@ -56,8 +55,8 @@ fn moved_share(largest: &Fillings, growths: &[&Growth]) -> String {
     let Middle { median, .. } = Middle::of(later.iter().copied());
     let most = later.iter().copied().fold(0.0, f64::max);
     format!(
-        "A first growth, begun at the first refusal 6 (k = {}): {first:.3}. Later growths, of a table whose bottom \
-         was a top: median {median:.3}, most {most:.3}; 1/3 or more in {above} of {}",
+        "A first growth, begun at the first refusal 6 (k = {}): {first:.3}. Later growths, of a table whose \
+         bottom was a top: median {median:.3}, most {most:.3}; 1/3 or more in {above} of {}",
         largest.k,
         later.len()
     )
@@ -68,7 +67,7 @@ fn movements(largest: &Fillings) -> String {
     format!(
         "{:.2} % of all inserts before the first refusal 6 (k = {}): {:.2} % at load 0.8, {:.2} % at 0.85, \
          {:.1} % at 0.9",
-        100.0 * largest.moving_share(),
+        100.0 * largest.at_all_loads().moving_share(),
         largest.k,
         at(0.8),
         at(0.85),
@@ -76,11 +75,11 @@ fn movements(largest: &Fillings) -> String {
     )
 }
 
-fn probes(results: &Results) -> String {
-    let all = results.probes.iter().map(|probes| (probes.positive, probes.negative));
+fn probes(counts: &Counts) -> String {
+    let all = counts.probes.iter().map(|probes| (probes.positive, probes.negative));
     let most = all.fold((0.0, 0.0), |most: (f64, f64), one| (most.0.max(one.0), most.1.max(one.1)));
     let one = |when: &str| {
-        let found = results.probes.iter().rev().find(|probes| probes.when.contains(when));
+        let found = counts.probes.iter().rev().find(|probes| probes.when.contains(when));
         found.map_or(String::new(), |probes| {
             format!("{when}: {:.2} and {:.2}", probes.positive, probes.negative)
         })

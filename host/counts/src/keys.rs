@@ -47,7 +47,8 @@ impl Keys {
         &self.keys[..self.absent_from]
     }
 
-    /// A sequence of so many of the first `items` keys, drawn at random. It is long, so that no branch predictor learns it.
+    /// A sequence of so many of the first `items` keys, drawn at random. It is long, so that no branch
+    /// predictor learns it.
     pub fn draw_present(&self, random: &mut Random, items: usize, length: usize) -> Vec<u64> {
         draw(random, &self.keys[..items], length)
     }

@@ -1,0 +1,54 @@
+//! All that is counted.
+
+use ragansils_compare::random::Random;
+
+use crate::fillings::Fillings;
+use crate::growths::{growths, Growth};
+use crate::keys::Kind;
+use crate::plan::CountPlan;
+use crate::probes::{probes, Probes};
+
+#[derive(Default)]
+pub struct Counts {
+    pub fillings: Vec<Fillings>,
+    pub growths: Vec<(Kind, Vec<Growth>)>,
+    pub probes: Vec<Probes>,
+}
+
+impl Counts {
+    /// The same seed and plan, the same counts. `say` hears which part comes next.
+    pub fn count(seed: u64, plan: &CountPlan, say: impl Fn(&str)) -> Result<Counts, String> {
+        let mut random = Random::new(seed);
+        let mut counts = Counts::default();
+        for kind in [Kind::Random, Kind::Collector] {
+            say(&format!("fillings and growths, {}", kind.name()));
+            for &k in plan.filled {
+                counts.fillings.push(Fillings::count(&mut random, k, kind, plan.fillings)?);
+            }
+            counts.growths.push((kind, growths(&mut random, kind, plan.grown_again)?));
+        }
+        for (kind, capacities) in
+            [(Kind::Random, plan.capacities), (Kind::Collector, plan.collector_capacities)]
+        {
+            say(&format!("buckets that a query looks at, {}", kind.name()));
+            for &c in capacities {
+                counts.probes.extend(probes(&mut random, c, kind, plan.queries)?);
+            }
+        }
+        Ok(counts)
+    }
+
+    /// The fillings with random keys, by k.
+    pub fn random_fillings(&self) -> impl Iterator<Item = &Fillings> {
+        self.fillings.iter().filter(|fillings| fillings.kind == Kind::Random)
+    }
+
+    /// Those of the largest tables.
+    pub fn largest_random_fillings(&self) -> Option<&Fillings> {
+        self.random_fillings().max_by_key(|fillings| fillings.k)
+    }
+
+    pub fn all_growths(&self) -> impl Iterator<Item = &Growth> {
+        self.growths.iter().flat_map(|(_, growths)| growths)
+    }
+}

@@ -1,0 +1,36 @@
+//! Counts what the library does, which needs no clock and is the same on every machine: loads at the first
+//! refusal 6, moves, stores, buckets that a query looks at. The driver of host/bench measures with the keys
+//! and tables of this crate, and writes these counts beside its times.
+//!
+//! From the bottom up:
+//! - `middle`: what is said of many numbers; `markdown`: how tables are written;
+//! - `program`: what this crate's program and host/bench's share;
+//! - `keys`, `level`, `growing`: the keys, the tables that take them, and tables in a growth;
+//! - `plan`: how much is counted;
+//! - `stores`: the stores of calls; `fillings`, `growths`, `probes`: what is counted;
+//! - `counts`: all of it; `article`, `sections`: what is written of it.
+
+mod article;
+mod counts;
+mod fillings;
+mod growing;
+mod growths;
+mod keys;
+mod level;
+pub mod markdown;
+mod middle;
+pub mod plan;
+mod probes;
+pub mod program;
+mod sections;
+mod stores;
+
+pub use counts::Counts;
+pub use fillings::{Bin, Fillings, BINS};
+pub use growing::{half_way, last_growth};
+pub use growths::Growth;
+pub use keys::{draw, Keys, Kind};
+pub use level::{full_size, items_at, record_of, slots_of, LevelTable, Record};
+pub use middle::Middle;
+pub use probes::Probes;
+pub use stores::Stores;

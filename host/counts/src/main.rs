@@ -1,0 +1,25 @@
+//! `ragansils-counts quick|full SEED`: the counts alone, as Markdown. `./bench counts` builds and runs it.
+
+use std::process::ExitCode;
+
+use ragansils_counts::{plan, program, Counts};
+
+const USAGE: &str = "usage: ragansils-counts quick|full SEED";
+
+fn main() -> ExitCode {
+    program::run("counts", command)
+}
+
+fn command(arguments: &[&str]) -> Result<String, String> {
+    let (extent, seed) = match *arguments {
+        [extent, seed] => (extent, seed.parse().map_err(|_| USAGE.to_string())?),
+        _ => return Err(USAGE.to_string()),
+    };
+    let plan = match extent {
+        "quick" => &plan::QUICK,
+        "full" => &plan::FULL,
+        _ => return Err(USAGE.to_string()),
+    };
+    let counts = Counts::count(seed, plan, |part| eprintln!("counts: {part}"))?;
+    Ok(counts.sections())
+}

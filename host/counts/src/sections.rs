@@ -1,0 +1,138 @@
+//! The counts as Markdown.
+
+use crate::article;
+use crate::counts::Counts;
+use crate::fillings::Bin;
+use crate::growths::Growth;
+use crate::keys::Kind;
+use crate::markdown::{heads, table};
+use crate::stores::Stores;
+
+impl Counts {
+    /// All sections.
+    pub fn sections(&self) -> String {
+        [article::claims(self), filling_table(self), probe_table(self), growth_table(self), store_table(self)]
+            .join("\n")
+    }
+}
+
+fn filling_table(counts: &Counts) -> String {
+    let rows = counts.fillings.iter().map(|fillings| {
+        let all = fillings.at_all_loads();
+        vec![
+            fillings.k.to_string(),
+            fillings.kind.name().to_string(),
+            fillings.first_refusal.len().to_string(),
+            format!("{:.3}", fillings.least_load()),
+            format!("**{:.3}**", fillings.load_at_first_refusal().median),
+            format!("{:.3}", fillings.bottom_share().median),
+            format!("{:.2} %", 100.0 * all.moving_share()),
+            format!("{:.3}", all.inserts.average()),
+        ]
+    });
+    let names = [
+        "k",
+        "keys",
+        "tables",
+        "least load",
+        "median load",
+        "items in the bottom",
+        "inserts that moved an item",
+        "stores for an insert",
+    ];
+    table("### Filled until the first refusal 6", &heads(&names), rows)
+}
+
+fn probe_table(counts: &Counts) -> String {
+    let rows = counts.probes.iter().map(|probes| {
+        vec![probes.when.clone(), format!("{:.3}", probes.positive), format!("{:.3}", probes.negative)]
+    });
+    table("### Buckets that a query looks at", &heads(&["table", "positive", "negative"]), rows)
+}
+
+fn growth_table(counts: &Counts) -> String {
+    let row = |kind: Kind, growth: &Growth| {
+        vec![
+            kind.name().to_string(),
+            growth.k.to_string(),
+            format!("{:.3}", growth.load()),
+            growth.items.to_string(),
+            growth.moved().to_string(),
+            format!("**{:.3}**", growth.share()),
+            growth.moving_steps().to_string(),
+            format!("{:.2}", growth.stores() as f64 / (1u64 << growth.k) as f64),
+        ]
+    };
+    let rows = counts
+        .growths
+        .iter()
+        .flat_map(|(kind, growths)| growths.iter().map(move |growth| row(*kind, growth)));
+    let names =
+        ["keys", "k", "load", "items", "moved", "share", "steps that moved another", "stores for each of N"];
+    table("### Growths, each begun at the first refusal 6", &heads(&names), rows)
+}
+
+fn store_table(counts: &Counts) -> String {
+    let filling = |part: fn(Bin) -> Stores| counts.fillings.iter().map(|one| part(one.at_all_loads())).sum();
+    let growth = |part: fn(&Growth) -> Stores| counts.all_growths().map(part).sum();
+    let changes: [(&str, Stores); 5] = [
+        ("insert", filling(|bin| bin.inserts)),
+        ("update", filling(|bin| bin.updates)),
+        ("delete", filling(|bin| bin.deletes)),
+        ("growth, its beginning or end", growth(|growth| growth.bounds)),
+        ("growth, a step", growth(|growth| growth.steps)),
+    ];
+    let rows = changes.map(|(change, stores)| {
+        let each: Vec<String> = stores.met().map(|(stores, calls)| format!("{stores}: {calls}")).collect();
+        vec![
+            change.to_string(),
+            stores.calls().to_string(),
+            each.join(", "),
+            format!("**{:.3}**", stores.average()),
+        ]
+    });
+    let title =
+        "### Stores of a change\n\nCounted in the lists of the fillings and growths above. After each \
+        insert of a filling, an update and a delete of some item that was in were listed, and not made.";
+    table(title, &heads(&["change", "calls", "calls by their stores", "stores on average"]), rows)
+}
+
+#[cfg(test)]
+mod tests {
+    use crate::plan::CountPlan;
+    use crate::Counts;
+
+    const SMALL: CountPlan = CountPlan {
+        filled: &[3, 4],
+        fillings: 2,
+        grown_again: 6,
+        capacities: &[5],
+        collector_capacities: &[5],
+        queries: 100,
+    };
+
+    fn text(seed: u64) -> String {
+        Counts::count(seed, &SMALL, |_| ()).unwrap().sections()
+    }
+
+    #[test]
+    fn the_same_seed_gives_the_same_text() {
+        assert_eq!(text(1), text(1));
+        assert_ne!(text(1), text(2));
+    }
+
+    #[test]
+    fn each_section_stands_once() {
+        let text = text(1);
+        let titles: Vec<&str> = text.lines().filter_map(|line| line.strip_prefix("### ")).collect();
+        let expected = [
+            "Beside the article's claims",
+            "Filled until the first refusal 6",
+            "Buckets that a query looks at",
+            "Growths, each begun at the first refusal 6",
+            "Stores of a change",
+        ];
+        assert_eq!(titles, expected);
+        assert!(text.ends_with(" |\n") && !text.contains("NaN"), "{text}");
+    }
+}
