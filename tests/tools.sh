@@ -1,4 +1,4 @@
-# What the tests that build programs share; each sources it in the top folder of the repository, with
+# What the tests that build programs share, with what tests/processor.sh has; each sources it in the top folder of the repository, with
 #   test_name   the name that its complaints begin with
 #   work        the folder for its files
 
@@ -7,21 +7,7 @@ fail() {
     exit 1
 }
 
-# installs packages where this runs as root on Debian
-install_packages() { # PACKAGES WHAT-FOR
-    if [ "$(id -u)" = 0 ] && command -v apt-get >/dev/null 2>&1; then
-        echo "installing $1, for $2"
-        # shellcheck disable=SC2086 # several packages are several words
-        { apt-get update && apt-get install -y --no-install-recommends $1; } >/dev/null || fail "apt-get could not install $1"
-    fi
-}
-
-# looks for a command, and installs it
-need() { # COMMAND PACKAGES WHAT-IT-DOES
-    command -v "$1" >/dev/null 2>&1 && return
-    install_packages "$2" "a command that $3"
-    command -v "$1" >/dev/null 2>&1 || fail "the command '$1' is not on the PATH. It $3; install Debian's $2, or the like from elsewhere."
-}
+. tests/processor.sh
 
 # looks for a header of C or C++, and installs it
 need_header() { # HEADER PACKAGES WHAT-IT-IS-FOR
@@ -47,13 +33,20 @@ refusal_numbers() {
     sed -n 's/^ *Refusal::\([A-Za-z]*\) => \([0-9]*\),$/\1 \2/p' crates/numbering/src/lib.rt
 }
 
-# proves and builds the library where it is missing or older than its sources, and lets cargo find it and keep its files in target/
+# proves and builds the library where it is missing or older than its sources, lets cargo find it and keep its files in target/, and
+# finds what runs a program that was linked with it
 proved_library() {
     library=target/staticlib/libcollector.a
     if [ ! -f "$library" ] || [ -n "$(find crates crates.txt -newer "$library" -type f | head -n 1)" ]; then
         quietly rt staticlib collector
     fi
     export CARGO_TARGET_DIR="$PWD/target/cargo" RAGANSILS_LIB="$PWD/target/staticlib"
+    need_runner
+}
+
+# where cargo puts a program; it keeps those for another processor apart
+cargo_program() { # NAME [PROFILE]
+    echo "$CARGO_TARGET_DIR/${CARGO_BUILD_TARGET:+$CARGO_BUILD_TARGET/}${2:-release}/$1"
 }
 
 # runs the tests of a package, doc tests among them

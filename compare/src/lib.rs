@@ -12,7 +12,7 @@
 //! - `words`: the run over raw words;
 //! - `script_text`, `script_damage`, `scripts`: the run of scripts;
 //! - `shrink`: smaller failures;
-//! - `commands`: what the command line asks for; `program`: what programs share.
+//! - `commands`: what the command line asks for; `program`: what programs share; `runner`: how they start others.
 
 mod both;
 pub mod case;
@@ -24,6 +24,7 @@ pub mod library;
 pub mod plain_map;
 pub mod program;
 pub mod random;
+pub mod runner;
 mod script_damage;
 mod script_text;
 mod scripts;

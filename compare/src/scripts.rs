@@ -3,11 +3,12 @@
 use std::io::{self, Write};
 use std::os::unix::process::ExitStatusExt;
 use std::path::Path;
-use std::process::{Command, Stdio};
+use std::process::Stdio;
 
 use ragansils_model::LONGEST_LINE;
 
 use crate::random::Random;
+use crate::runner::built;
 use crate::script_damage::{damage, split_lines};
 use crate::script_text::random_script;
 use crate::shrink::drop_pieces;
@@ -61,7 +62,7 @@ fn model_output(script: &[u8]) -> Vec<u8> {
 }
 
 fn program_output(program: &Path, script: &[u8]) -> io::Result<Vec<u8>> {
-    let mut child = Command::new(program).stdin(Stdio::piped()).stdout(Stdio::piped()).spawn()?;
+    let mut child = built(program).stdin(Stdio::piped()).stdout(Stdio::piped()).spawn()?;
     let mut input = child.stdin.take().expect("stdin is piped");
     let output = std::thread::scope(|scope| {
         // The program may stop at a bad line and leave the rest unread; that is no failure.

@@ -2,11 +2,12 @@
 
 use std::fs;
 use std::path::{Path, PathBuf};
-use std::process::{Command, Output};
+use std::process::Output;
 
 use ragansils::{bytes_of, calls, Creation, Record, Refusal};
 use ragansils_compare::damage::damage;
 use ragansils_compare::random::Random;
+use ragansils_compare::runner::built;
 
 const MARKED: Creation = Creation { capacity: 2, first_top: 1, multipliers: [4294967297, 12884901889] };
 
@@ -16,7 +17,7 @@ fn path(name: &str) -> PathBuf {
 }
 
 fn run(arguments: &[&str]) -> Output {
-    Command::new(env!("CARGO_BIN_EXE_ragansils-inspect")).args(arguments).output().unwrap()
+    built(env!("CARGO_BIN_EXE_ragansils-inspect")).args(arguments).output().unwrap()
 }
 
 /// What is told of a file of these bytes, and the exit status.

@@ -3,7 +3,9 @@
 use std::io::{BufRead, BufReader, Lines};
 use std::os::unix::process::ExitStatusExt;
 use std::path::Path;
-use std::process::{Child, ChildStdout, Command, ExitStatus, Stdio};
+use std::process::{Child, ChildStdout, ExitStatus, Stdio};
+
+use ragansils_compare::runner::built;
 
 use crate::collector::Task;
 use crate::commands::number;
@@ -20,7 +22,7 @@ pub struct Collector {
 impl Collector {
     pub fn start(path: &Path, wrong: Option<Wrong>, task: Task) -> Result<Collector, String> {
         let program = std::env::current_exe().map_err(|error| error.to_string())?;
-        let mut command = Command::new(program);
+        let mut command = built(program);
         command.arg("collect").arg(path).arg(wrong.map_or("right", Wrong::name)).args(task_words(task));
         let mut child = command
             .stdin(Stdio::piped())
