@@ -15,7 +15,10 @@ use crate::tables::small_setting;
 
 /// How many collectors are killed on one file before another is made.
 const KILLS_PER_FILE: u64 = 50;
-const LONGEST_LIFE: u64 = 2500;
+/// A collector lives until it has said up to so many lines, and then up to so many microseconds more. Where all is slow, as under an
+/// emulator, a life by the clock alone would end before anything was stored.
+const MOST_LINES: u64 = 32;
+const LONGEST_REST: u64 = 2500;
 
 #[derive(Default)]
 pub struct Moments {
@@ -68,8 +71,11 @@ impl Moments {
     ) -> Result<PlainMap, String> {
         let task = Task::Live { seed: random.word(), keys_seed };
         let mut collector = Collector::start(path, None, task)?;
-        let mut said: Vec<Said> = collector.hear()?.into_iter().collect();
-        std::thread::sleep(Duration::from_micros(random.below(LONGEST_LIFE)));
+        let mut said = vec![];
+        for _ in 0..=random.below(MOST_LINES) {
+            said.extend(collector.hear()?);
+        }
+        std::thread::sleep(Duration::from_micros(random.below(LONGEST_REST)));
         said.extend(collector.kill()?);
 
         let words = read_words(path)?;
