@@ -1,22 +1,28 @@
 # Writes every command of shell scripts that is named by a path or a variable, or that starts another, as 'FILE:LINE: COMMAND'; with
 # '-v every=1' all commands. Reads as much of the shell's grammar as the scripts of this repository use: quotes, comments,
-# substitutions, lists, pipes, redirections and patterns of 'case'.
+# substitutions, lists, pipes, redirections and patterns of 'case'. What it does not read it writes too: backticks, here-documents, and
+# a quote or parenthesis that is still open at the end of a file.
 
 BEGIN {
-    count = split("env nice nohup setsid sh strace sudo timeout valgrind xargs", list, " ")
+    count = split("bash env eval nice nohup perf setsid sh stdbuf strace sudo taskset timeout valgrind xargs", list, " ")
     for (i = 1; i <= count; i++) starts_another[list[i]] = 1
     # a command may come behind these
-    count = split("if then else elif do while until ! { } time exec quietly command", list, " ")
+    count = split("if then else elif do while until ! { } time exec command quietly", list, " ")
     for (i = 1; i <= count; i++) before_command[list[i]] = 1
+}
+
+function tell(what) {
+    printf "%s:%d: %s\n", FILENAME, FNR, what
 }
 
 function end_word() {
     if (word == "") return
+    if (word == "-exec") tell(word)
     if (is_target) is_target = 0
     else if (in_pattern) in_pattern = word != "esac"
     else if (!expected) in_pattern = command == "case" && word == "in"
     else if (!(word in before_command) && word !~ /^[A-Za-z_][A-Za-z0-9_]*=/) {
-        if (every || word ~ /^"?\$/ || word ~ /\// || word in starts_another) printf "%s:%d: %s\n", FILENAME, FNR, word
+        if (every || word ~ /^"?\$/ || word ~ /\// || word in starts_another) tell(word)
         command = word
         expected = 0
     }
@@ -61,16 +67,16 @@ function close_parenthesis() {
 function redirection(next_character) {
     if (word ~ /^[0-9]$/) word = ""
     end_word()
-    if (next_character == "&") return 3
     is_target = 1
-    return next_character == ">" ? 2 : 1
+    if (next_character == "<") tell("<<")
+    return next_character ~ /[&<>]/ ? 2 : 1
 }
 
 # reads what stands at this place outside quotes, and says how many characters that is
 function read_plain(line, at,    c, two) {
     c = substr(line, at, 1)
     two = substr(line, at, 2)
-    if (c == "'") { word = word "_"; quote = c; return 1 }
+    if (c == "'") { quote = c; return 1 }
     if (c == "#" && word == "") return length(line)
     if (c == " " || c == "\t") { end_word(); return 1 }
     if (c == "<" || c == ">") return redirection(substr(two, 2))
@@ -87,7 +93,8 @@ function read_plain(line, at,    c, two) {
 function read(line, at,    c, rest) {
     c = substr(line, at, 1)
     rest = substr(line, at)
-    if (quote == "'") { if (c == "'") quote = ""; return 1 }
+    if (quote == "'") { if (c == "'") quote = ""; else word = word c; return 1 }
+    if (c == "`") tell(c)
     if (c == "\\") { if (rest != c) word = word substr(rest, 1, 2); return 2 }
     if (rest ~ /^\$\(\(/) { word = word "$(())"; return index(rest, "))") + 1 }
     if (rest ~ /^\$\(/) { enter(); return 2 }
@@ -97,8 +104,17 @@ function read(line, at,    c, rest) {
     return read_plain(line, at)
 }
 
-FNR == 1 { word = command = quote = ""; depth = parts = is_target = in_pattern = 0; expected = 1 }
+function begin_file() {
+    if (quote != "" || depth || parts || in_pattern) printf "%s: not read to its end\n", before
+    before = FILENAME
+    word = command = quote = ""
+    depth = parts = is_target = in_pattern = 0
+    expected = 1
+}
+
+FNR == 1 { begin_file() }
 {
     for (at = 1; at <= length($0);) at += read($0, at)
     if (quote == "" && $0 !~ /\\$/) end_command()
 }
+END { begin_file() }

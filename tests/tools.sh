@@ -7,6 +7,7 @@ fail() {
     exit 1
 }
 
+here=$PWD
 . tests/processor.sh
 
 # looks for a header of C or C++, and installs it
@@ -33,15 +34,15 @@ refusal_numbers() {
     sed -n 's/^ *Refusal::\([A-Za-z]*\) => \([0-9]*\),$/\1 \2/p' crates/numbering/src/lib.rt
 }
 
-# proves and builds the library where it is missing or older than its sources, lets cargo find it and keep its files in target/, and
-# finds what runs a program that was linked with it
+# finds what runs a program that is linked with the library; proves and builds the library where it is missing or older than its
+# sources, which takes minutes; and lets cargo find it and keep its files in target/
 proved_library() {
+    need_runner
     library=target/staticlib/libcollector.a
     if [ ! -f "$library" ] || [ -n "$(find crates crates.txt -newer "$library" -type f | head -n 1)" ]; then
         quietly rt staticlib collector
     fi
     export CARGO_TARGET_DIR="$PWD/target/cargo" RAGANSILS_LIB="$PWD/target/staticlib"
-    need_runner
 }
 
 # where cargo puts a program; it keeps those for another processor apart

@@ -27,19 +27,20 @@ use std::path::Path;
 use std::process::ExitCode;
 use std::time::Instant;
 
+use ragansils_compare::program;
 use ragansils_compare::random::Random;
-use ragansils_counts::program;
 
 use crate::run::{Results, Run};
 
 const USAGE: &str = "usage: ragansils-bench quick|full SEED OUT-FOLDER LMDB-FOLDER";
 
 fn main() -> ExitCode {
-    program::run("bench", |arguments| command(arguments).map(|text| text + "\n"))
+    program::run(|arguments| command(arguments).map(|text| println!("{text}")))
 }
 
-fn command(arguments: &[&str]) -> Result<String, String> {
-    match *arguments {
+fn command(arguments: &[String]) -> Result<String, String> {
+    let words: Vec<&str> = arguments.iter().map(String::as_str).collect();
+    match words[..] {
         // By the program itself, under valgrind.
         ["counted", operation, side, c] => {
             let c = c.parse().map_err(|_| USAGE.to_string())?;

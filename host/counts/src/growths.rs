@@ -114,12 +114,28 @@ mod tests {
 
     #[test]
     fn the_stores_of_a_growth() {
-        for growth in growths(&mut Random::new(1), Kind::Random, 7).unwrap() {
+        let all = growths(&mut Random::new(1), Kind::Random, 7).unwrap();
+        assert_eq!(all.len(), 3);
+        for growth in all {
             assert_eq!(growth.bounds.met().collect::<Vec<_>>(), [(1, 2)]);
             assert!(growth.steps.met().all(|(stores, _)| stores == 5 || stores == 10));
             let plain_steps = growth.moved() - growth.moving_steps();
             assert_eq!(growth.stores(), 2 + 5 * plain_steps + 10 * growth.moving_steps());
         }
+    }
+
+    /// The table of docs/CUTS.md whose next step has to move another item first.
+    #[test]
+    fn a_step_that_moves_another_item() {
+        let creation = Creation { capacity: 2, first_top: 1, multipliers: [4294967297, 12884901889] };
+        let mut table = LevelTable::new(Proved::default(), creation);
+        table.fill(&[29, 6, 28, 14, 8, 15, 10]).unwrap();
+        assert!(table.change(Event::Begin));
+        table.fill(&[5, 37, 35, 19, 36, 27, 21, 32, 22, 34, 3, 9, 18, 30, 11, 1, 24]).unwrap();
+        let mut growth = Growth { k: 1, items: 7, bounds: Stores::default(), steps: Stores::default() };
+        change(&mut table, Event::Step, &mut growth.steps).unwrap();
+        assert_eq!(growth.steps.met().collect::<Vec<_>>(), [(10, 1)]);
+        assert_eq!((growth.moved(), growth.moving_steps()), (1, 1));
     }
 
     #[test]

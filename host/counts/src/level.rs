@@ -76,7 +76,8 @@ impl<S: Side> LevelTable<S> {
     }
 
     pub fn items_in_bottom(&self) -> usize {
-        Table::read(&self.words).map_or(0, |table| table.taken_slots(&[table.bottom()]).len())
+        let table = Table::read(&self.words).expect("the library leaves a good header");
+        table.taken_slots(&[table.bottom()]).len()
     }
 }
 

@@ -4,7 +4,6 @@
 //!
 //! From the bottom up:
 //! - `middle`: what is said of many numbers; `markdown`: how tables are written;
-//! - `program`: what this crate's program and host/bench's share;
 //! - `keys`, `level`, `growing`: the keys, the tables that take them, and tables in a growth;
 //! - `plan`: how much is counted;
 //! - `stores`: the stores of calls; `fillings`, `growths`, `probes`: what is counted;
@@ -21,7 +20,6 @@ pub mod markdown;
 mod middle;
 pub mod plan;
 mod probes;
-pub mod program;
 mod sections;
 mod stores;
 

@@ -2,16 +2,18 @@
 
 use std::process::ExitCode;
 
-use ragansils_counts::{plan, program, Counts};
+use ragansils_compare::program;
+use ragansils_counts::{plan, Counts};
 
 const USAGE: &str = "usage: ragansils-counts quick|full SEED";
 
 fn main() -> ExitCode {
-    program::run("counts", command)
+    program::run(|arguments| command(arguments).map(|text| print!("{text}")))
 }
 
-fn command(arguments: &[&str]) -> Result<String, String> {
-    let (extent, seed) = match *arguments {
+fn command(arguments: &[String]) -> Result<String, String> {
+    let words: Vec<&str> = arguments.iter().map(String::as_str).collect();
+    let (extent, seed) = match words[..] {
         [extent, seed] => (extent, seed.parse().map_err(|_| USAGE.to_string())?),
         _ => return Err(USAGE.to_string()),
     };
