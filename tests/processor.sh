@@ -90,13 +90,17 @@ has_runner() {
     command -v qemu-x86_64 >/dev/null 2>&1 && [ -e /lib64/ld-linux-x86-64.so.2 ]
 }
 
-# makes a command mean another: a folder with nothing but that command comes first on the PATH
-stand_in() { # COMMAND WORD..
+# makes a command mean another: a folder with nothing but that command comes first on the PATH. It is a link and no script where it can
+# be: a shell hands no variable on whose name has a dash, and cargo gives such ones to rustc
+stand_in() { # COMMAND PROGRAM [OPTION]
     folder=$stand_ins/$1
     file=$folder/$1
-    shift
-    mkdir -p "$folder" && { printf '#!/bin/sh\nexec' && printf " '%s'" "$@" && echo ' "$@"'; } >"$file.$$" && chmod +x "$file.$$" &&
-        mv "$file.$$" "$file" || fail "$file could not be written"
+    mkdir -p "$folder" && rm -f "$file" || fail "$folder could not be written"
+    if [ $# = 2 ]; then
+        ln -s "$2" "$file"
+    else
+        printf '#!/bin/sh\nexec "%s" %s "$@"\n' "$2" "$3" >"$file" && chmod +x "$file"
+    fi || fail "$file could not be written"
     PATH=$folder:$PATH
     export PATH
 }
@@ -109,7 +113,7 @@ own_path() {
 need_for_x86_64() { # COMMAND ITS-NAME-HERE PACKAGES WHAT-IT-DOES
     works_for_x86_64 "$1" "$2" || install_packages "$3" "a command that $4, for x86-64"
     works_for_x86_64 "$1" "$2" || fail "there is no '$2' that works. It $4, for x86-64; install Debian's $3, or the like from elsewhere."
-    stand_in "$1" "$2"
+    stand_in "$1" "$(command -v "$2")"
     # clang compiles for every processor, and tests try it where it is there; it takes headers and libraries of the cross compiler
     for clang in clang clang++; do
         if own=$(PATH=$(own_path | paste -s -d : -) && command -v "$clang"); then stand_in "$clang" "$own" --target=x86_64-linux-gnu; fi
