@@ -1,2 +1,3 @@
 pub mod Readings
+pub mod Sentences
 pub mod Only

@@ -1,1 +1,2 @@
 pub mod Scripts
+pub mod Sentences
