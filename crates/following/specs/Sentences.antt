@@ -165,7 +165,7 @@ NumbersInOrder = (s : Script) → EventDue s → (o : Op) (vs : List ℕ) (name 
 abbrev pub CutNumbersInOrder : Type 0
 CutNumbersInOrder = (s : Script) → EventDue s → (n : ℕ) (a : Act) (vs : List ℕ) (name : Name) (later : List Name) → drop (length vs) (namesAfter (opOf a)) ≡ name ∷ later
     → ((l : Line) → NotNamed name l → BadAfter s (cutLines n ++ eventLines (opOf a) vs) l (lineFrom s (length vs + 4)))
-      × EndsBad s (cutLines n ++ eventLines (opOf a) vs) (lineFrom s (length vs + 4))
+    × EndsBad s (cutLines n ++ eventLines (opOf a) vs) (lineFrom s (length vs + 4))
 
 -- where an event is due: what begins none, and a torn line. An input that ends there ends well
 abbrev pub EventElseBad : Type 0

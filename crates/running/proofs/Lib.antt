@@ -1,4 +1,5 @@
 pub mod Bytes
 pub mod Lengths
 pub mod Whole
+pub mod Parts
 pub mod Only

@@ -3,11 +3,13 @@
 use Prim.Native.Nat.{ℕ, _+_}
 use mathlib.Core.Path.{_≡_}
 use mathlib.Core.Bool.{Bool, true, false, cond}
-use mathlib.Core.List.{List, [], _∷_, map}
+use mathlib.Core.List.{List, [], _∷_, _++_, map}
 use lib.ListN.{length, take, set}
 use lib.Dec.{eqb, ltb}
 use Rattle.lines.specs.Lines.{lineOf}
 use Rattle.lines.specs.declared.Line.{Line}
+use Rattle.following.specs.declared.Due.{Due}
+use Rattle.following.specs.declared.Due.the-variants.{Number as aNumber, Event as anEvent, Nothing as noMore}
 use Rattle.replaying.specs.Replays.{begun, Turned, turnOf, finishOf}
 use Rattle.replaying.specs.declared.Answer.{Answer}
 use Rattle.replaying.specs.declared.Answer.the-variants.{Nothing, Made, Unmade, Changed, Kept, Found, Events, Bad}
@@ -80,6 +82,15 @@ pub record TakenIs (x : After) (r : Taken) (left held : List ℕ) : Type 0 where
 abbrev pub ByteTaken : Run → List ℕ → List ℕ → ℕ → Taken → List ℕ → List ℕ → Type 0
 ByteTaken run room line byte r left held = TakenIs (byteTaken run room line byte) r left held
 
+-- "and stop", "and no event line is read": all that is answered is known
+abbrev pub overAt : Due → Bool
+overAt (aNumber w) = false
+overAt anEvent = false
+overAt noMore = true
+
+abbrev pub known : Run → Bool
+known run = overAt (run .replay .script .due)
+
 unfoldable pub endOf : Run → Answer
 endOf run = finishOf (run .replay) (ltb 0 (run .held))
 
@@ -108,3 +119,38 @@ spoken (a ∷ rest) = cond (silent a) (spoken rest) (a ∷ spoken rest)
 -- any input, fed byte by byte with 27 bytes to hold a line in, is answered as its lines are
 abbrev pub BytesAnswerAsLines : Type 0
 BytesAnswerAsLines = (room line input : List ℕ) → length line ≡ 27 → spoken (fed ready room line input) ≡ spoken (answersTo room input)
+
+-- ---- where the answer is known
+
+-- then nothing more is said, whatever comes
+abbrev pub KnownIsAll : Type 0
+KnownIsAll = (run : Run) (room line input : List ℕ) → known run ≡ true → spoken (fed run room line input) ≡ []
+
+-- and until then the end would say something
+abbrev pub UnknownIsNotAll : Type 0
+UnknownIsNotAll = (run : Run) → known run ≡ false → silent (endOf run) ≡ false
+
+-- ---- an input that comes in parts
+
+-- where the bytes before have left a run, with the lent words and the held bytes
+pub record Stand : Type 0 where
+  pub run : Run
+  pub room : List ℕ
+  pub line : List ℕ
+
+abbrev pub afterByte : Stand → ℕ → Stand
+afterByte s b = let x = byteTaken (s .run) (s .room) (s .line) b in record { run = x .run; room = x .room; line = x .line }
+
+unfoldable pub afterBytes : Stand → List ℕ → Stand
+afterBytes s [] = s
+afterBytes s (b ∷ bs) = afterBytes (afterByte s b) bs
+
+-- what a part is answered
+unfoldable pub answersIn : Stand → List ℕ → List Answer
+answersIn s [] = []
+answersIn s (b ∷ bs) = byteTaken (s .run) (s .room) (s .line) b .answer ∷ answersIn (afterByte s b) bs
+
+-- a part and then the rest is all of it: the parts may be cut anywhere
+abbrev pub PartsAreFed : Type 0
+PartsAreFed = (s : Stand) (part later : List ℕ) → fed (s .run) (s .room) (s .line) (part ++ later)
+    ≡ answersIn s part ++ fed (afterBytes s part .run) (afterBytes s part .room) (afterBytes s part .line) later

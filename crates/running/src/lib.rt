@@ -1,4 +1,5 @@
 // A script byte by byte, so that one of any length runs in little memory: the bytes of a line are held until its newline comes.
+use following::Due;
 use lines::parse;
 use replaying::Answer;
 use replaying::Replay;
@@ -7,7 +8,7 @@ use replaying::finish;
 use replaying::lending::least;
 use replaying::take_line;
 ghost use mathlib.Core.Path.{_≡_};
-ghost use Rattle.running.specs.Runs.{ready as readyOf, HeldIs, LineTaken, ByteTaken, endOf};
+ghost use Rattle.running.specs.Runs.{ready as readyOf, HeldIs, LineTaken, ByteTaken, known as knownOf, endOf};
 
 // Where a run stands: in its replay, and how many bytes of the line are held. No good line has more than 26 bytes, so that 27 of
 // a line tell that it is bad.
@@ -70,6 +71,20 @@ pub fn take_byte(run: Run, room: &mut [u64], line: &mut [u8; 27], byte: u8) -> T
     Taken {
         run: Run { replay, held },
         answer: Answer::Nothing,
+    }
+}
+
+// Whether all that is answered is known, whatever comes: after a bad line, and where no table was made.
+pub fn known(run: Run) -> bool
+    ensures { λ r. ⌜ r ≡ knownOf run ⌝ }
+{
+    let replay = run.replay;
+    let script = replay.script;
+    let due = script.due;
+    match due {
+        Due::Number(_) => false,
+        Due::Event => false,
+        Due::Nothing => true,
     }
 }
 

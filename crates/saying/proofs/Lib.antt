@@ -1,4 +1,4 @@
 mod Decimals
-mod Puts
+pub mod Puts
 mod LinesPut
 pub mod Only

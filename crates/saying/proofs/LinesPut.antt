@@ -6,7 +6,7 @@ use mathlib.Core.List.{List, [], _∷_, _++_, flatMap, append-nil, append-assoc}
 use native.Mathlib.Nat.{zero-add}
 use native.Mathlib.Omega.{arith}
 use lib.ListN.{length, take, drop}
-use lib.Seq.{sets-eq, take-append-seam, drop-append-seam}
+use lib.Seq.{sets-eq, take-take, take-append-seam, drop-append-seam}
 use Rattle.replaying.specs.declared.Answer.{Answer}
 use Rattle.replaying.specs.declared.Answer.the-variants.{Nothing}
 use Rattle.lines.specs.Lines.{bytes}
@@ -53,6 +53,7 @@ said answer {l} {m} {r} p =
       text = text;
       rest = rw (front, size, drop-append-seam);
       within = (omega (arith, p .room, p .next, put-length p), rw (text, ← size));
+      room = omega (arith, p .room, p .next);
     }
   where
     size : r ≡ length (textOf answer)
@@ -67,4 +68,13 @@ said answer {l} {m} {r} p =
 -- nothing to say
 pub said-nothing : (l : List ℕ) → Said Nothing l 0 l
 unfolding textOf flatMap
-said-nothing l = record { size = refl; text = refl; rest = refl; within = (omega arith, refl) }
+said-nothing l = record { size = refl; text = refl; rest = refl; within = (omega arith, refl); room = omega arith }
+
+-- ---- into a longer buffer
+
+pub nothing-put : {at : ℕ} (l : List ℕ) → at ≤ length l → Put (textOf Nothing) at l at l
+unfolding textOf flatMap putAt
+nothing-put l h = record { room = omega (arith, h); next = omega arith; buffer = refl }
+
+pub said-put : {answer : Answer} {n : ℕ} {k m : List ℕ} → Said answer k n m → {at r : ℕ} {l out : List ℕ} → Put (take n (take n m)) at l r out → Put (textOf answer) at l r out
+said-put {answer} {n} {k} {m} s p = let same : take n (take n m) ≡ textOf answer = take-take n n m (omega arith) ∙ s .text in rw same at p

@@ -1,13 +1,13 @@
 -- A text is put byte by byte, and texts that are put one after the other are put as one text.
 -- Assumes nothing.
 use Prim.Native.Nat.{ℕ, suc, _+_, _≤_, _<_}
-use mathlib.Core.Path.{_≡_, refl}
+use mathlib.Core.Path.{_≡_, refl, ap, _∙_}
 use mathlib.Core.List.{List, [], _∷_, _++_}
 use native.Mathlib.Nat.{add-zero}
 use native.Mathlib.Numerals.{add-one}
 use native.Mathlib.Omega.{arith}
-use lib.ListN.{length, take, getD, set, length-append}
-use lib.Seq.{sets, length-sets, length-take-le, take-suc}
+use lib.ListN.{length, take, drop, getD, set, length-append}
+use lib.Seq.{sets, length-sets, length-take-le, sets-eq, take-suc, take-at}
 use Rattle.saying.specs.Writing.{putAt, Put}
 
 sets-append : (l : List ℕ) (at : ℕ) (xs ys : List ℕ) → sets l at (xs ++ ys) ≡ sets (sets l at xs) (at + length xs) ys
@@ -49,3 +49,10 @@ then {xs} {ys} {at} {l = l} p q =
       next = simp length-append (omega arith);
       buffer = rw (q .buffer, p .buffer, p .next, sets-append l at xs ys);
     }
+
+-- what stands before the next free byte
+pub put-text : {text : List ℕ} {at r : ℕ} {l m : List ℕ} → Put text at l r m → take r m ≡ take at l ++ text
+unfolding putAt
+put-text {text} {at} {l = l} p =
+    let size : length (take at l ++ text) ≡ at + length text = length-append (take at l) text ∙ ap (λ (n : ℕ). n + length text) (length-take-le at l (omega (arith, p .room))) in
+    rw (p .buffer, sets-eq text l at (p .room), p .next) (take-at (take at l ++ text) _ _ size)

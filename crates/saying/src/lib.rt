@@ -5,6 +5,7 @@ ghost use Prim.Native.Nat.{_+_, _≤_};
 ghost use lib.ListN.{length, take};
 ghost use Rattle.saying.specs.Promises.{Said};
 ghost use Rattle.lines.specs.Texts.{decimalText};
+ghost use Rattle.saying.specs.Texts.{textOf};
 ghost use Rattle.saying.specs.Writing.{Put, PutLines, lineWith};
 
 // Puts the first `count` bytes of a text into a buffer from byte `at` on, and answers the next free byte.
@@ -105,4 +106,17 @@ pub fn say(answer: Answer, out: &mut [u8; 128]) -> usize
         Answer::Events(number) => line(b"events=", number, out, 0),
         Answer::Bad(number) => line(b"bad=", number, out, 0),
     }
+}
+
+// The same from byte `at` on, and answers the next free byte. Most bytes of a script are answered by nothing.
+pub fn say_at(answer: Answer, out: &mut [u8], at: usize) -> usize
+    requires { ⌜ at + 128 ≤ length (now out) ⌝ }
+    ensures { λ r. ⌜ Put (textOf answer) at (now (out .entry)) r (now (out .exit)) ⌝ }
+{
+    if let Answer::Nothing = answer {
+        return at;
+    }
+    let mut text = [0u8; 128];
+    let n = say(answer, &mut text);
+    copy(&text[..n], n, out, at)
 }

@@ -10,7 +10,7 @@ use Rattle.saying.specs.Texts.{textOf}
 use Rattle.script.specs.Outputs.{outputTo, BytesWritten}
 
 -- an answer that says nothing has no text
-spoken-text : (xs : List Answer) → flatMap textOf (spoken xs) ≡ flatMap textOf xs
+pub spoken-text : (xs : List Answer) → flatMap textOf (spoken xs) ≡ flatMap textOf xs
 unfolding flatMap textOf
 spoken-text [] = refl
 spoken-text (Nothing ∷ xs) = spoken-text xs

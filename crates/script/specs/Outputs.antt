@@ -7,12 +7,13 @@ use mathlib.Core.Path.{_≡_, refl}
 use mathlib.Core.List.{List, [], _∷_, _++_, map, flatMap}
 use lib.ListN.{length, replicate}
 use Rattle.words.specs.Product.{productOf, hashOf}
-use Rattle.rules.specs.Words.{wordsFor, stateOf, stateWord, atRest, headerOf, flagOf, stateGood, odd, capacityTests, headerTests, topOf, bottomOf, interimOf, levelsInUse, slotAt, slotsIn, placeAt, placeOf, tokenWord, keyWord, functionWord, placeWord, keyIn, recordIn, tokenOf, tidy, isTaken, show, taken}
+use Rattle.rules.specs.Words.{wordsFor, stateOf, stateWord, atRest, headerOf, flagOf, stateGood, odd, capacityTests, headerTests, topOf, bottomOf, interimOf, levelsInUse, slotAt, slotsIn, placeAt, placeOf, tokenWord, keyWord, functionWord, placeWord, keyIn, recordIn, tokenOf, tidy, isTaken, show, taken, bucketsOf, allBuckets, sizeInUse, unusedBuckets, slotsOf, slotsInUse, tidyOf, hide}
 use Rattle.rules.specs.Places.{hashesOf, firstPlace, secondPlace, samePlace, placesIn, probes, placesOf, holds, hitIn, lookup}
 use Rattle.rules.specs.Placing.{takenIn, freeSlot, fewer, emptier, roomIn, placing}
-use Rattle.rules.specs.Stores.{putStores, placingStores, written}
-use Rattle.rules.specs.Calls.{headerGood, listLong, flagClear, changingTests, queryTests, endTests, endOf, outcome}
+use Rattle.rules.specs.Stores.{putStores, placingStores, written, clearStores, updateStores, beginStores, endStores, stepStores}
+use Rattle.rules.specs.Calls.{headerGood, listLong, flagClear, changingTests, queryTests, endTests, endOf, outcome, recoverTests, beginTests, beginOf, interimSlots, interimItems, stepItem, stepTests, stepOf}
 use Rattle.rules.specs.Results.{changeResult, queryResult, createTests, created, createResult, makeTests, makeResult}
+use Rattle.rules.specs.Soundness.{takenSlots, tokensTidy, unusedEmpty, inPlace, orderlyTests, sameKey, twins, sameRecord, target, finding}
 use Rattle.lines.specs.Lines.{bytes, decimalOf, nameOf, opOf, lineOf}
 use Rattle.lines.specs.Texts.{digitsIn, decimalText}
 use Rattle.following.specs.Scripts.{readingOf, endingOf}
@@ -34,6 +35,10 @@ BytesWritten = (room line input : List ℕ) → length line ≡ 27 → flatMap t
 -- the header of the smallest table
 abbrev pub smallest : String → List ℕ
 smallest events = bytes "cap=1\ntop=1\nmul1=1\nmul2=1\n" ++ bytes events
+
+-- and of one that can grow
+abbrev pub growing : String → List ℕ
+growing events = bytes "cap=2\ntop=1\nmul1=1\nmul2=1\n" ++ bytes events
 
 abbrev pub cases : List (List ℕ × String)
 cases =
@@ -70,9 +75,35 @@ cases =
       smallest "op=cut\nafter=9\nop=insert\nkey=1\nfn=2\nat=3\nop=query\nkey=1\n",
       "made=0\nanswer=0\nstores=4\nkept=4\nanswer=0\nfn=2\nat=3\nprobes=1\nevents=2\n",
     )
+    -- each event with its lines, in their order
+    ∷ (
+      growing "op=insert\nkey=1\nfn=2\nat=3\nop=update\nkey=1\nfn=4\nat=5\nop=query\nkey=1\nop=delete\nkey=1\nop=begin\nop=step\nop=end\nop=recover\n",
+      "made=0\nanswer=0\nstores=4\nanswer=0\nstores=4\nanswer=0\nfn=4\nat=5\nprobes=1\nanswer=0\nstores=1\nanswer=0\nstores=1\nanswer=11\nstores=0\nanswer=0\nstores=1\nanswer=0\nstores=0\nevents=8\n",
+    )
+    -- each that a cut line may stand before, under one
+    ∷ (
+      growing "op=insert\nkey=1\nfn=2\nat=3\nop=cut\nafter=2\nop=insert\nkey=4\nfn=5\nat=6\nop=cut\nafter=3\nop=update\nkey=1\nfn=4\nat=5\nop=cut\nafter=0\nop=delete\nkey=1\nop=query\nkey=1\n",
+      "made=0\nanswer=0\nstores=4\nanswer=0\nstores=4\nkept=2\nanswer=0\nstores=4\nkept=3\nanswer=0\nstores=1\nkept=0\nanswer=0\nfn=2\nat=3\nprobes=1\nevents=5\n",
+    )
+    ∷ (
+      growing "op=cut\nafter=1\nop=begin\nop=cut\nafter=7\nop=step\nop=cut\nafter=0\nop=end\nop=cut\nafter=0\nop=recover\nop=end\n",
+      "made=0\nanswer=0\nstores=1\nkept=1\nanswer=11\nstores=0\nkept=0\nanswer=0\nstores=1\nkept=0\nanswer=0\nstores=0\nkept=0\nanswer=0\nstores=1\nevents=5\n",
+    )
+    -- before any other line it is the bad one, whatever stands there
+    ∷ (smallest "op=cut\nafter=1\nop=cut\nafter=1\nop=end\n", "made=0\nbad=5\n")
+    ∷ (smallest "op=cut\nafter=1\nkey=1\n", "made=0\nbad=5\n")
+    -- lines in another order, or missing
+    ∷ (bytes "top=1\ncap=1\n", "bad=1\n")
+    ∷ (smallest "op=insert\nfn=1\n", "made=0\nbad=6\n")
+    ∷ (smallest "op=update\nkey=1\nat=1\n", "made=0\nbad=7\n")
+    ∷ (smallest "op=insert\nkey=1\nfn=2\n", "made=0\nbad=8\n")
+    ∷ (smallest "op=delete\nop=end\n", "made=0\nbad=6\n")
+    ∷ (smallest "op=query\nfn=1\n", "made=0\nbad=6\n")
+    ∷ (smallest "op=cut\nop=end\n", "made=0\nbad=6\n")
+    ∷ (smallest "op=end\nkey=1\n", "made=0\nanswer=8\nstores=0\nbad=6\n")
     ∷ []
 
 -- the definitions compute what document 01 writes, on used words
 pub cases-computed : map (λ (x : List ℕ × String). outputTo (replicate 100 7) (x .0)) cases ≡ map (λ (x : List ℕ × String). bytes (x .1)) cases
-unfolding productOf hashOf flatMap wordsFor stateOf stateWord atRest headerOf flagOf stateGood odd capacityTests headerTests topOf bottomOf interimOf levelsInUse slotAt slotsIn placeAt placeOf tokenWord keyWord functionWord placeWord keyIn recordIn tokenOf tidy isTaken show taken hashesOf firstPlace secondPlace samePlace placesIn probes placesOf holds hitIn lookup takenIn freeSlot fewer emptier roomIn placing putStores placingStores written headerGood listLong flagClear changingTests queryTests endTests endOf outcome changeResult queryResult createTests created createResult makeTests makeResult decimalOf nameOf opOf lineOf digitsIn decimalText readingOf endingOf answerTo turnOf finishOf answersTo textOf outputTo
+unfolding productOf hashOf flatMap wordsFor stateOf stateWord atRest headerOf flagOf stateGood odd capacityTests headerTests topOf bottomOf interimOf levelsInUse bucketsOf allBuckets sizeInUse unusedBuckets slotAt slotsIn placeOf placeAt slotsOf slotsInUse tokenWord keyWord functionWord placeWord keyIn recordIn tokenOf tidy tidyOf isTaken show hide taken hashesOf firstPlace secondPlace samePlace placesIn probes holds hitIn lookup takenIn freeSlot fewer emptier roomIn placing putStores clearStores placingStores updateStores beginStores endStores stepStores written takenSlots tokensTidy unusedEmpty placesOf inPlace orderlyTests sameKey twins sameRecord target finding headerGood listLong flagClear changingTests queryTests recoverTests beginTests beginOf interimSlots interimItems stepItem stepTests stepOf endTests endOf outcome changeResult queryResult createTests created createResult makeTests makeResult decimalOf nameOf opOf lineOf digitsIn decimalText readingOf endingOf answerTo turnOf finishOf answersTo textOf outputTo
 cases-computed = refl

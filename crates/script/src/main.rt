@@ -1,131 +1,229 @@
-// The script program: a script on standard input, its answers on standard output. All that matters is in the library, of which
-// `running` takes the bytes and `saying` has the text of an answer. Here they are read and written, through buffers, so that a
-// script of any length runs in the same little memory.
+// The script program: a script on standard input, its answers on standard output. What is answered is settled in the library, of
+// which `running` takes the bytes and `saying` has the text of an answer. Here they are read and written, part by part, so that a
+// script of any length runs in the same little memory, and what has been answered is written before more is read.
+use libc::STDERR_FILENO;
 use libc::STDIN_FILENO;
 use libc::STDOUT_FILENO;
-use replaying::Answer;
 use running::Run;
 use running::end;
+use running::known;
 use running::ready;
 use running::take_byte;
-use saying::say;
-ghost use Prim.Native.Nat.{_≤_, _<_};
-ghost use lib.ListN.{length};
+use saying::say_at;
+ghost use Prim.Native.Nat.{_≤_};
+ghost use mathlib.Core.Path.{_≡_};
+ghost use lib.ListN.{length, take};
+ghost use Rattle.rules.specs.Words.{wordsFor};
+ghost use Rattle.running.specs.Runs.{endOf};
+ghost use Rattle.saying.specs.Texts.{textOf};
+ghost use Rattle.script.specs.Parts.{begun, pauses as pausesOf, TookSome, TookPart, WentOn, ReadSome, Ran};
 
-// Where the run stands, and how many bytes of the output buffer wait to be written.
-struct Written {
+// The first bytes of a text are taken: how many, and how many bytes of answers wait at the front of the buffer.
+struct Some {
     run: Run,
+    taken: usize,
     waiting: usize,
 }
 
-// Puts a text behind what waits; where it finds no room both are written.
-fn put(text: &[u8], out: &mut [u8], waiting: usize) -> usize
-    requires { ⌜ waiting ≤ length (now out) ⌝ }
-    ensures { λ r. ⌜ r ≤ length (now (out .entry)) ⌝ }
+// Whether no byte more is taken: the answer is known, or the buffer has no room for any answer. The longest has 104 bytes.
+fn pauses(run: Run, free: usize) -> bool
+    ensures { λ r. ⌜ r ≡ pausesOf run free ⌝ }
 {
-    if out.len() - waiting < text.len() {
-        io::write_all(STDOUT_FILENO, &out[..waiting]);
-        io::write_all(STDOUT_FILENO, text);
-        return 0;
+    if known(run) {
+        return true;
     }
-    for i in 0..text.len() {
-        out[waiting + i] = text[i];
-    }
-    waiting + text.len()
+    free < 128
 }
 
-// Most bytes are answered by nothing.
-fn put_answer(answer: Answer, out: &mut [u8], waiting: usize) -> usize
-    requires { ⌜ waiting ≤ length (now out) ⌝ }
-    ensures { λ r. ⌜ r ≤ length (now (out .entry)) ⌝ }
-{
-    if let Answer::Nothing = answer {
-        return waiting;
-    }
-    let mut text = [0u8; 128];
-    let n = say(answer, &mut text);
-    put(&text[..n], out, waiting)
-}
-
-fn take_bytes(
-    start: Run,
-    room: &mut [u64],
-    line: &mut [u8; 27],
-    text: &[u8],
-    out: &mut [u8],
-    before: usize,
-) -> Written
-    requires { ⌜ before ≤ length (now out) ⌝ }
-    ensures { λ r. ⌜ r .waiting ≤ length (now (out .entry)) ⌝ }
+fn take_some(start: Run, room: &mut [u64], line: &mut [u8; 27], text: &[u8], out: &mut [u8]) -> Some
+    ensures { λ r. ⌜ TookSome (record { run = start; room = now (room .entry); line = now (line .entry) }) (now (text .entry)) r (record { run = r .run; room = now (room .exit); line = now (line .exit) }) (now (out .exit)) × (length (now (out .exit)) ≡ length (now (out .entry))) ⌝ }
 {
     let mut run = start;
-    let mut waiting = before;
-    for i in 0..text.len() {
-        let taken = take_byte(run, room, line, text[i]);
-        let answer = taken.answer;
-        waiting = put_answer(answer, out, waiting);
-        run = taken.run;
+    let mut taken = 0;
+    let mut waiting = 0;
+    while taken < text.len() {
+        if pauses(run, out.len() - waiting) {
+            break;
+        }
+        let byte = take_byte(run, room, line, text[taken]);
+        let answer = byte.answer;
+        waiting = say_at(answer, out, waiting);
+        run = byte.run;
+        taken += 1;
     }
-    Written { run, waiting }
+    Some {
+        run,
+        taken,
+        waiting,
+    }
 }
 
-// A proved loop has to end, and nothing says that the input does. So the turns are counted down, from a number that no run uses
-// up; where the input has ended none are left.
-struct Going {
+// How much of a part is taken, and whether all that it is answered with was written.
+struct Part {
     run: Run,
-    waiting: usize,
-    turns: u64,
+    taken: usize,
+    written: bool,
 }
 
-// Reads once, and takes what came.
+fn take_part(start: Run, room: &mut [u64], line: &mut [u8; 27], part: &[u8], out: &mut [u8]) -> Part
+    requires { ⌜ 128 ≤ length (now out) ⌝ }
+    ensures { λ r. ⌜ TookPart (record { run = start; room = now (room .entry); line = now (line .entry) }) (now (part .entry)) r (record { run = r .run; room = now (room .exit); line = now (line .exit) }) ⌝ }
+{
+    let mut run = start;
+    let mut taken = 0;
+    while taken < part.len() {
+        if known(run) {
+            break;
+        }
+        let some = take_some(run, room, line, &part[taken..], out);
+        run = some.run;
+        taken += some.taken;
+        let waiting = some.waiting;
+        if !io::write_all(STDOUT_FILENO, &out[..waiting]) {
+            return Part {
+                run,
+                taken,
+                written: false,
+            };
+        }
+    }
+    Part {
+        run,
+        taken,
+        written: true,
+    }
+}
+
+// How the program goes on: it reads more; the answer is known; the input has ended; or a read or a write has failed.
+enum Outcome {
+    Going,
+    Known,
+    Ended,
+    Unread,
+    Unwritten,
+}
+
+struct Turn {
+    run: Run,
+    outcome: Outcome,
+}
+
+// Where the input has ended: whether what is answered to that was written.
+fn finish(run: Run, out: &mut [u8]) -> bool
+    requires { ⌜ 128 ≤ length (now out) ⌝ }
+    ensures { λ _. ⌜ take (length (textOf (endOf run))) (now (out .exit)) ≡ textOf (endOf run) ⌝ }
+{
+    let waiting = say_at(end(run), out, 0);
+    io::write_all(STDOUT_FILENO, &out[..waiting])
+}
+
+// Takes what was read, which is nothing where the input has ended.
+fn take_read(run: Run, room: &mut [u64], line: &mut [u8; 27], part: &[u8], out: &mut [u8]) -> Turn
+    requires { ⌜ 128 ≤ length (now out) ⌝ }
+    ensures { λ r. ⌜ WentOn (record { run = run; room = now (room .entry); line = now (line .entry) }) (now (part .entry)) r (record { run = r .run; room = now (room .exit); line = now (line .exit) }) ⌝ }
+{
+    if part.len() == 0 {
+        if finish(run, out) {
+            return Turn {
+                run,
+                outcome: Outcome::Ended,
+            };
+        }
+        return Turn {
+            run,
+            outcome: Outcome::Unwritten,
+        };
+    }
+    let taken = take_part(run, room, line, part, out);
+    let next = taken.run;
+    if taken.written {
+        return Turn {
+            run: next,
+            outcome: Outcome::Going,
+        };
+    }
+    Turn {
+        run: next,
+        outcome: Outcome::Unwritten,
+    }
+}
+
+// Reads once, unless the answer is known, and takes what came.
 fn read_some(
     run: Run,
     room: &mut [u64],
     line: &mut [u8; 27],
+    input: &mut [u8],
     out: &mut [u8],
-    waiting: usize,
-    turns: u64,
-) -> Going
-    requires { ⌜ (waiting ≤ length (now out)) × (0 < turns) ⌝ }
-    ensures { λ r. ⌜ (r .waiting ≤ length (now (out .entry))) × (r .turns < turns) ⌝ }
+) -> Turn
+    requires { ⌜ 128 ≤ length (now out) ⌝ }
+    ensures { λ r. ⌜ ReadSome (record { run = run; room = now (room .entry); line = now (line .entry) }) (now (input .exit)) r (record { run = r .run; room = now (room .exit); line = now (line .exit) }) ⌝ }
 {
-    let mut input = io::large_buffer();
-    let got = libc::read(STDIN_FILENO, &mut input);
-    let n = io::count(got, &input);
-    if n == 0 {
-        return Going {
+    if known(run) {
+        return Turn {
             run,
-            waiting,
-            turns: 0,
+            outcome: Outcome::Known,
         };
     }
-    let written = take_bytes(run, room, line, &input[..n], out, waiting);
-    let next = written.run;
-    Going {
-        run: next,
-        waiting: written.waiting,
-        turns: turns - 1,
+    let got = libc::read(STDIN_FILENO, input);
+    if got < 0 {
+        return Turn {
+            run,
+            outcome: Outcome::Unread,
+        };
     }
+    let n = io::count(got, input);
+    take_read(run, room, line, &input[..n], out)
 }
 
-fn read_all(room: &mut [u64], line: &mut [u8; 27], out: &mut [u8]) {
-    let mut turns = u64::MAX;
+// A proved loop has to end, and nothing says that the input does. So the parts are counted, up to a number that no run comes to.
+fn read_all(room: &mut [u64], line: &mut [u8; 27], input: &mut [u8], out: &mut [u8]) -> Turn
+    requires { ⌜ (wordsFor 8 ≤ length (now room)) × (128 ≤ length (now out)) ⌝ }
+    ensures { λ r. ⌜ Ran (begun (now (room .entry)) (now (line .entry))) (r .outcome) (record { run = r .run; room = now (room .exit); line = now (line .exit) }) ⌝ }
+{
     let mut run = ready();
-    let mut waiting = 0;
-    while turns > 0 {
-        let going = read_some(run, room, line, out, waiting, turns);
-        run = going.run;
-        waiting = going.waiting;
-        turns = going.turns;
+    let mut parts: u64 = 0;
+    while parts < u64::MAX {
+        let turn = read_some(run, room, line, input, out);
+        let next = turn.run;
+        let outcome = turn.outcome;
+        let Outcome::Going = outcome else {
+            return Turn { run: next, outcome };
+        };
+        run = next;
+        parts += 1;
     }
-    let last = put_answer(end(run), out, waiting);
-    io::write_all(STDOUT_FILENO, &out[..last]);
+    Turn {
+        run,
+        outcome: Outcome::Going,
+    }
 }
 
+fn complain(text: &[u8]) {
+    io::write_all(STDERR_FILENO, text);
+}
+
+// A program cannot end with a status of its own. So a failure is told where nothing else is: whoever starts the program takes any
+// text there for a failure.
+fn tell(outcome: Outcome) {
+    match outcome {
+        Outcome::Known => {}
+        Outcome::Ended => {}
+        Outcome::Unread => complain(b"ragansils: standard input could not be read\n"),
+        Outcome::Unwritten => complain(b"ragansils: the answers could not be written\n"),
+        Outcome::Going => complain(
+            b"ragansils: standard input has more parts than can be counted\n",
+        ),
+    }
+}
+
+// The room holds a table of the largest cap, 8.
 fn main() {
     let mut words = [0u64; 6652];
     let mut line = [0u8; 27];
-    let mut space = io::large_buffer();
-    let out: &mut [u8] = &mut space;
-    read_all(&mut words, &mut line, out);
+    let mut input = io::large_buffer();
+    let mut out = io::large_buffer();
+    let last = read_all(&mut words, &mut line, &mut input, &mut out);
+    let outcome = last.outcome;
+    tell(outcome);
 }

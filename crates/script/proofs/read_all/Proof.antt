@@ -1,48 +1,33 @@
--- `script::read_all` meets its contract.
+-- `script::read_all` meets its contract: the run stands behind the parts that were read.
 -- Assumes nothing.
-use Prim.Native.Nat.{_≤_}
-use mathlib.Core.Path.{_≡_, sym}
+use Prim.Native.Nat.{_-_, _^_, _<_}
+use mathlib.Core.Path.{_≡_, refl}
+use native.Mathlib.Omega.{arith}
 use lib.ListN.{length}
-use lib.Seq.{length-take-le}
 use borrow.Author.Needs.{needs}
+use Rattle.script.specs.Parts.{begun, Behind}
+use Rattle.script.proofs.Parts.{behind-none, behind-next, not-going, ran, ran-on}
 use Rattle.script.proofs.read_all.Statement.{statement}
 use Rattle.script.proofs.read_all.Tie as tie
 
 abbrev Inv-loop : tie.InvT-loop
-Inv-loop room₀ line₀ out₀ turns₀ run₀ waiting₀ room line out turns run waiting = (length room ≡ length room₀) × (length out ≡ length out₀) × (waiting ≤ length out₀)
+Inv-loop room₀ line₀ input₀ out₀ run₀ parts₀ room line input out run parts =
+    (length room ≡ length room₀) × (length input ≡ length input₀) × (length out ≡ length out₀) × (parts < 2 ^ 64) × Behind (begun room₀ line₀) parts (record { run = run; room = room; line = line })
 
 abbrev μ-loop : tie.MeasureT-loop
-μ-loop room₀ line₀ out₀ turns₀ run₀ waiting₀ room line out turns run waiting = turns
+μ-loop room₀ line₀ input₀ out₀ run₀ parts₀ room line input out run parts = 2 ^ 64 - parts
 
 ready-requires : tie.Need-ready-requires Inv-loop μ-loop
 ready-requires c κs = search needs
 
 loop-holds : tie.Need-loop-holds Inv-loop μ-loop
-loop-holds c = search needs
+loop-holds c = (refl, refl, refl, omega arith, behind-none _ _ (c .ready .ensures))
 
 read-some-requires : tie.Need-read-some-requires Inv-loop μ-loop
 read-some-requires c κs = search needs
 
-loop-less : tie.Need-loop-less Inv-loop μ-loop
-loop-less c = search needs
-
-loop-again : tie.Need-loop-again Inv-loop μ-loop
-loop-again c = search needs
-
-end-requires : tie.Need-end-requires Inv-loop μ-loop
-end-requires c κs = search needs
-
-put-answer-requires : tie.Need-put-answer-requires Inv-loop μ-loop
-put-answer-requires c κs = search needs
-
-slice-reshare-prefix-write-all : tie.Need-slice-reshare-prefix-write-all Inv-loop μ-loop
-slice-reshare-prefix-write-all c = search needs
-
-slice-aggregate-write-all : tie.Need-slice-aggregate-write-all Inv-loop μ-loop
-slice-aggregate-write-all c = sym (length-take-le _ _ (slice-reshare-prefix-write-all (c .before)))
-
-write-all-requires : tie.Need-write-all-requires Inv-loop μ-loop
-write-all-requires c κs = search needs
+enum-told : tie.Need-enum-told Inv-loop μ-loop
+enum-told c = search needs
 
 same-length : tie.Need-same-length Inv-loop μ-loop
 same-length c = search needs
@@ -50,8 +35,34 @@ same-length c = search needs
 same-length-2 : tie.Need-same-length-2 Inv-loop μ-loop
 same-length-2 c = search needs
 
+same-length-3 : tie.Need-same-length-3 Inv-loop μ-loop
+same-length-3 c = search needs
+
 returns : tie.Need-returns Inv-loop μ-loop
-returns c = search needs
+returns c = ran (c .before .before .before .before .before .before .before .before .before .before .before .before .before .before .loop .inv .4) (c .before .before .before .before .before .before .before .before .read-some .ensures) (not-going _ (c .match .keys2))
+
+add-parts : tie.Need-add-parts Inv-loop μ-loop
+add-parts c = search needs
+
+loop-less : tie.Need-loop-less Inv-loop μ-loop
+loop-less c = search needs
+
+loop-again : tie.Need-loop-again Inv-loop μ-loop
+loop-again c =
+    let l = c .before .before .before .before .before .before .before .before .before .before .before .before .before .before .before .loop in
+    (search needs, search needs, search needs, omega (arith, c .before .before .before .before .before .before .before .before .before .before .before .before .before .before .loop-test .taken), behind-next (l .inv .4) (c .before .before .before .before .before .before .before .before .before .read-some .ensures))
+
+same-length-4 : tie.Need-same-length-4 Inv-loop μ-loop
+same-length-4 c = search needs
+
+same-length-5 : tie.Need-same-length-5 Inv-loop μ-loop
+same-length-5 c = search needs
+
+same-length-6 : tie.Need-same-length-6 Inv-loop μ-loop
+same-length-6 c = search needs
+
+returns-2 : tie.Need-returns-2 Inv-loop μ-loop
+returns-2 c = let v = c .before .loop .inv in ran-on (v .4) (omega (arith, c .loop-test .left, v .3))
 
 pub read-all-spec : {M : Type 1} → statement M
 read-all-spec =
@@ -62,13 +73,15 @@ read-all-spec =
     ready-requires
     loop-holds
     read-some-requires
-    loop-less
-    loop-again
-    end-requires
-    put-answer-requires
-    slice-reshare-prefix-write-all
-    slice-aggregate-write-all
-    write-all-requires
+    enum-told
     same-length
     same-length-2
-    returns)
+    same-length-3
+    returns
+    add-parts
+    loop-less
+    loop-again
+    same-length-4
+    same-length-5
+    same-length-6
+    returns-2)

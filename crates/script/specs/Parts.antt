@@ -1,0 +1,114 @@
+-- How the program reads and writes: an input that comes in parts, of any sizes and any number, and what is written for each.
+-- Assumes nothing.
+use Prim.Native.Nat.{ℕ, _+_, _-_, _^_, _≤_, _<_}
+use mathlib.Core.Path.{_≡_}
+use mathlib.Core.Bool.{Bool, true, false, cond}
+use mathlib.Core.List.{List, [], _∷_, _++_, flatMap}
+use lib.ListN.{length, take}
+use lib.Dec.{ltb}
+use Rattle.rules.specs.Words.{wordsFor}
+use Rattle.rules.specs.Demands.{GoodCreation}
+use Rattle.following.specs.declared.Script.{Script}
+use Rattle.following.specs.declared.Asked.the-variants.{Table as askTable}
+use Rattle.replaying.specs.Replays.{askedOf}
+use Rattle.replaying.specs.declared.Answer.the-variants.{Made}
+use Rattle.replaying.specs.declared.Replay.{Replay}
+use Rattle.running.specs.Runs.{ready, known, endOf, Stand, afterBytes, answersIn}
+use Rattle.running.specs.declared.Run.{Run}
+use Rattle.saying.specs.Texts.{textOf}
+use Rattle.script.specs.Outputs.{outputTo}
+use Rattle.script.specs.declared.Some.{Some}
+use Rattle.script.specs.declared.Part.{Part}
+use Rattle.script.specs.declared.Turn.{Turn}
+use Rattle.script.specs.declared.Outcome.{Outcome}
+use Rattle.script.specs.declared.Outcome.the-variants.{Going, Known}
+
+-- before the first byte
+abbrev pub begun : List ℕ → List ℕ → Stand
+begun room line = record { run = ready; room = room; line = line }
+
+-- the text that a part is answered with
+unfoldable pub textIn : Stand → List ℕ → List ℕ
+textIn s part = flatMap textOf (answersIn s part)
+
+-- parts one after the other: as one input, and their texts
+abbrev pub joined : List (List ℕ) → List ℕ
+joined [] = []
+joined (p ∷ ps) = p ++ joined ps
+
+abbrev pub texts : Stand → List (List ℕ) → List ℕ
+texts s [] = []
+texts s (p ∷ ps) = textIn s p ++ texts (afterBytes s p) ps
+
+-- ---- what is written, whatever the parts
+
+-- the texts of the parts, and where the input has ended that of the end, are what the whole input is answered
+abbrev pub PartsWritten : Type 0
+PartsWritten = (room line : List ℕ) (parts : List (List ℕ)) → length line ≡ 27 → texts (begun room line) parts ++ textOf (endOf (afterBytes (begun room line) (joined parts) .run)) ≡ outputTo room (joined parts)
+
+-- where the answer is known the texts of the parts are all of it, whatever the input has after them
+abbrev pub KnownPartsWritten : Type 0
+KnownPartsWritten = (room line : List ℕ) (parts : List (List ℕ)) (later : List ℕ) → length line ≡ 27 → known (afterBytes (begun room line) (joined parts) .run) ≡ true
+    → texts (begun room line) parts ≡ outputTo room (joined parts ++ later)
+
+-- ---- what the program's functions promise. s is where the run stood, and u is where it stands at exit
+
+-- no byte more is taken: the answer is known, or so many free bytes have no room for any answer
+abbrev pub pauses : Run → ℕ → Bool
+pauses run free = cond (known run) true (ltb free 128)
+
+-- of a text some bytes are taken, and their text is at the front of the buffer. The taking pauses before the
+-- end only for that reason
+pub record TookSome (s : Stand) (text : List ℕ) (r : Some) (u : Stand) (out : List ℕ) : Type 0 where
+  pub within : r .taken ≤ length text
+  pub stand : u ≡ afterBytes s (take (r .taken) text)
+  pub fits : r .waiting ≤ length out
+  pub front : take (r .waiting) out ≡ textIn s (take (r .taken) text)
+  pub pausing : r .taken < length text → pauses (u .run) (length out - r .waiting) ≡ true
+
+-- of a part all is taken, unless the answer is known or a write failed
+pub record TookPart (s : Stand) (part : List ℕ) (r : Part) (u : Stand) : Type 0 where
+  pub within : r .taken ≤ length part
+  pub stand : u ≡ afterBytes s (take (r .taken) part)
+  pub all : r .written ≡ true → known (u .run) ≡ false → r .taken ≡ length part
+
+-- the answer is said to be known only where it is
+abbrev pub KnownIs : Outcome → Stand → Type 0
+KnownIs outcome u = outcome ≡ Known → known (u .run) ≡ true
+
+-- what was read is taken, all of it where the program goes on and the answer is not known
+pub record WentOn (s : Stand) (part : List ℕ) (r : Turn) (u : Stand) : Type 0 where
+  pub taken : ℕ
+  pub stand : u ≡ afterBytes s (take taken part)
+  pub rightly : KnownIs (r .outcome) u
+  pub all : r .outcome ≡ Going → known (u .run) ≡ false → taken ≡ length part
+
+-- the same of what stands at the front of the buffer that was read into
+pub record ReadSome (s : Stand) (input : List ℕ) (r : Turn) (u : Stand) : Type 0 where
+  pub taken : ℕ
+  pub stand : u ≡ afterBytes s (take taken input)
+  pub rightly : KnownIs (r .outcome) u
+
+-- some parts were read, and the run stands behind them
+pub record Behind (s : Stand) (count : ℕ) (u : Stand) : Type 0 where
+  pub parts : List (List ℕ)
+  pub counted : length parts ≡ count
+  pub stand : u ≡ afterBytes s (joined parts)
+
+-- the program stops for no other reason than a known answer, the end of the input or a failure, before 2^64 − 1 parts
+pub record Ran (s : Stand) (outcome : Outcome) (u : Stand) : Type 0 where
+  pub count : ℕ
+  pub behind : Behind s count u
+  pub rightly : KnownIs outcome u
+  pub never : outcome ≡ Going → count + 1 ≡ 2 ^ 64
+
+-- ---- the room
+
+-- "Program cap is at most 8": in as many words as the largest table has, which `main` lends, there is room for each
+abbrev pub RoomIsEnough : Type 0
+RoomIsEnough = (room : List ℕ) → wordsFor 8 ≤ length room → (c : ℕ) → c ≤ 8 → length (take (wordsFor c) room) ≡ wordsFor c
+
+-- so `made=13` is never answered for want of room: with a good c, k and multipliers the table is made
+abbrev pub RoomMakesAll : Type 0
+RoomMakesAll = (room : List ℕ) → wordsFor 8 ≤ length room → (p : Replay) (next : Script) (c k mul1 mul2 : ℕ) → c ≤ 8 → GoodCreation (wordsFor c) c k mul1 mul2
+    → askedOf room p next (askTable c k mul1 mul2) .answer ≡ Made
