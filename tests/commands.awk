@@ -4,7 +4,7 @@
 # a quote or parenthesis that is still open at the end of a file.
 
 BEGIN {
-    count = split("bash env eval nice nohup perf setsid sh stdbuf strace sudo taskset timeout valgrind xargs", list, " ")
+    count = split("bash env eval flock nice nohup perf setsid sh stdbuf strace sudo taskset timeout valgrind xargs", list, " ")
     for (i = 1; i <= count; i++) starts_another[list[i]] = 1
     # a command may come behind these
     count = split("if then else elif do while until ! { } time exec command quietly", list, " ")
