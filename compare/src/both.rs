@@ -5,6 +5,7 @@ use std::path::Path;
 use crate::case::{difference, run_model, Call, Case, Outcome};
 use crate::case_text::write_case;
 use crate::library;
+use crate::program;
 use crate::tally::Tally;
 
 /// What a case is checked for.
@@ -44,7 +45,8 @@ impl<'t> Both<'t> {
         let finding = |what| Finding { check: Check::Call, case: case.clone(), what };
         let model = run_model(case);
         if let Some(file) = self.trace {
-            std::fs::write(file, write_case(Check::Call, case)).expect("the trace file can be written");
+            let written = std::fs::write(file, write_case(Check::Call, case));
+            written.unwrap_or_else(|error| program::stop(format_args!("{}: {error}", file.display())));
         }
         let library = library::run(case).map_err(finding)?;
         self.tally.count_call(case, &model);

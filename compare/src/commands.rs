@@ -7,7 +7,9 @@ use std::time::{Duration, Instant, SystemTime, UNIX_EPOCH};
 use crate::both::{Both, Check, Finding};
 use crate::case::Case;
 use crate::case_text::{read_case, write_case};
+use crate::program;
 use crate::random::Random;
+use crate::say;
 use crate::scripts::{self, Disagreement};
 use crate::shrink::shrink_case;
 use crate::sound_tables::check_alone;
@@ -87,7 +89,7 @@ fn clock_seed() -> u64 {
 }
 
 fn words_run(seed: u64, calls: u64, trace: Option<&Path>) -> Answer {
-    println!("words: seed {seed}, at least {calls} calls");
+    say!("words: seed {seed}, at least {calls} calls");
     let mut tally = Tally::default();
     let result = words::run(seed, calls, &mut Both::traced(&mut tally, trace));
     tally.print();
@@ -100,7 +102,7 @@ fn words_run(seed: u64, calls: u64, trace: Option<&Path>) -> Answer {
 }
 
 fn scripts_run(seed: u64, count: u64, program: &Path) -> Answer {
-    println!("scripts: seed {seed}, {count} scripts through {}", program.display());
+    say!("scripts: seed {seed}, {count} scripts through {}", program.display());
     let mut tally = Tally::default();
     let result = scripts::run(seed, count, program, &mut tally);
     tally.print();
@@ -114,7 +116,7 @@ fn scripts_run(seed: u64, count: u64, program: &Path) -> Answer {
 
 /// Round after round, each from its own seed, until the time is over.
 fn long_run(minutes: u32, seed: u64, program: Option<&Path>) -> Answer {
-    println!("long: seed {seed}, {minutes} minutes");
+    say!("long: seed {seed}, {minutes} minutes");
     let end = Instant::now() + Duration::from_secs(60 * u64::from(minutes));
     let mut seeds = Random::new(seed);
     let mut tally = Tally::default();
@@ -122,7 +124,7 @@ fn long_run(minutes: u32, seed: u64, program: Option<&Path>) -> Answer {
     while Instant::now() < end {
         rounds += 1;
         let (words_seed, scripts_seed) = (seeds.word(), seeds.word());
-        println!("round {rounds}: words seed {words_seed}, scripts seed {scripts_seed}");
+        say!("round {rounds}: words seed {words_seed}, scripts seed {scripts_seed}");
         words::run(words_seed, ROUND_CALLS, &mut Both::new(&mut tally))
             .map_err(|finding| report_finding(words_seed, finding))?;
         if let Some(program) = program {
@@ -130,7 +132,7 @@ fn long_run(minutes: u32, seed: u64, program: Option<&Path>) -> Answer {
                 .map_err(|disagreement| report_disagreement(scripts_seed, program, disagreement))?;
         }
     }
-    println!("rounds: {rounds}");
+    say!("rounds: {rounds}");
     tally.print();
     demand_refusals(&tally, REFUSALS_OF_CALLS)?;
     say_alike();
@@ -139,7 +141,7 @@ fn long_run(minutes: u32, seed: u64, program: Option<&Path>) -> Answer {
 
 /// The last line of a run that found nothing.
 fn say_alike() {
-    println!("no difference");
+    say!("no difference");
 }
 
 fn demand_refusals(tally: &Tally, possible: std::ops::RangeInclusive<u64>) -> Answer {
@@ -171,28 +173,28 @@ fn one_case(file: &str) -> Answer {
 fn one_script(file: &str, program: &Path) -> Answer {
     let script = std::fs::read(file).map_err(|error| format!("{file}: {error}"))?;
     let output = scripts::compare(program, &script)?;
-    print!("{}", String::from_utf8_lossy(&output));
+    program::say(String::from_utf8_lossy(&output));
     say_alike();
     Ok(())
 }
 
 fn report_finding(seed: u64, finding: Finding) -> String {
-    println!("seed {seed}: {}", finding.what);
+    say!("seed {seed}: {}", finding.what);
     // Shrunk by the check that can be run again; a failure only the history sees stays as it is.
     let fails = |case: &Case| check_case(finding.check, case).is_err();
     let smallest = shrink_case(finding.case, fails);
     let what = check_case(finding.check, &smallest).map_or_else(|smaller| smaller.what, |()| finding.what);
     let text = write_case(finding.check, &smallest);
-    println!("the smallest case found: {what}\n{text}");
+    say!("the smallest case found: {what}\n{text}");
     save(&format!("failure-{seed}.case"), text.as_bytes(), |file| format!("case {file}"));
     what
 }
 
 fn report_disagreement(seed: u64, program: &Path, disagreement: Disagreement) -> String {
-    println!("seed {seed}: {}", disagreement.what);
+    say!("seed {seed}: {}", disagreement.what);
     let smallest = scripts::shrink(program, disagreement.script);
     let what = scripts::compare(program, &smallest).err().unwrap_or(disagreement.what);
-    println!("the smallest script found: {what}\n{}", String::from_utf8_lossy(&smallest));
+    say!("the smallest script found: {what}\n{}", String::from_utf8_lossy(&smallest));
     save(&format!("failure-{seed}.script"), &smallest, |file| {
         format!("script {file} --program {}", program.display())
     });
@@ -203,7 +205,7 @@ fn report_disagreement(seed: u64, program: &Path, disagreement: Disagreement) ->
 fn save(name: &str, content: &[u8], arguments: impl Fn(&str) -> String) {
     let file = std::env::current_dir().unwrap_or_default().join(name);
     match std::fs::write(&file, content) {
-        Ok(()) => println!("run again with: compare {}", arguments(&file.to_string_lossy())),
-        Err(error) => println!("{} could not be written: {error}", file.display()),
+        Ok(()) => say!("run again with: compare {}", arguments(&file.to_string_lossy())),
+        Err(error) => say!("{} could not be written: {error}", file.display()),
     }
 }

@@ -4,6 +4,7 @@ use std::collections::BTreeMap;
 use std::fmt::Display;
 
 use crate::case::{Case, Outcome};
+use crate::say;
 
 type Counts = BTreeMap<String, u64>;
 
@@ -55,11 +56,11 @@ impl Tally {
     }
 
     pub fn print(&self) {
-        println!("calls: {}; scripts: {}", self.total_calls, self.scripts);
+        say!("calls: {}; scripts: {}", self.total_calls, self.scripts);
         print_counts("calls and script events by name", &self.calls);
         print_counts("store lists", &self.lists);
         print_counts("refusals", &self.refusals);
-        println!("cuts made: {}; recoveries cut: {}", self.cuts, self.recovery_cuts);
+        say!("cuts made: {}; recoveries cut: {}", self.cuts, self.recovery_cuts);
         print_counts("recoveries by kind", &self.recoveries);
         print_counts("bad lines by kind", &self.bad_lines);
     }
@@ -88,5 +89,5 @@ fn print_counts(title: &str, counts: &BTreeMap<impl Display, u64>) {
         return;
     }
     let entries: Vec<String> = counts.iter().map(|(name, count)| format!("{name}: {count}")).collect();
-    println!("{title}: {}", entries.join(", "));
+    say!("{title}: {}", entries.join(", "));
 }

@@ -27,15 +27,15 @@ use std::path::Path;
 use std::process::ExitCode;
 use std::time::Instant;
 
-use ragansils_compare::program;
 use ragansils_compare::random::Random;
+use ragansils_compare::{program, say};
 
 use crate::run::{Results, Run};
 
 const USAGE: &str = "usage: ragansils-bench quick|full SEED OUT-FOLDER LMDB-FOLDER";
 
 fn main() -> ExitCode {
-    program::run(|arguments| command(arguments).map(|text| println!("{text}")))
+    program::run(|arguments| command(arguments).map(|text| say!("{text}")))
 }
 
 fn command(arguments: &[String]) -> Result<String, String> {

@@ -4,6 +4,7 @@ use std::path::Path;
 use std::time::Instant;
 
 use ragansils::Creation;
+use ragansils_compare::program;
 use ragansils_compare::random::Random;
 use ragansils_counts::plan::{HIGH_LOAD, LOADS};
 use ragansils_counts::{full_size, half_way, items_at, last_growth, slots_of, Counts, Keys, Kind};
@@ -91,7 +92,7 @@ impl Run<'_> {
     }
 
     fn say(&self, part: &str) {
-        eprintln!("bench: {:4} s: {part}", self.begun.elapsed().as_secs());
+        program::note(format_args!("bench: {:4} s: {part}", self.begun.elapsed().as_secs()));
     }
 
     /// All peers, empty, with keys enough for a load.

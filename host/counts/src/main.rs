@@ -8,7 +8,7 @@ use ragansils_counts::{plan, Counts};
 const USAGE: &str = "usage: ragansils-counts quick|full SEED";
 
 fn main() -> ExitCode {
-    program::run(|arguments| command(arguments).map(|text| print!("{text}")))
+    program::run(|arguments| command(arguments).map(program::say))
 }
 
 fn command(arguments: &[String]) -> Result<String, String> {
@@ -22,6 +22,6 @@ fn command(arguments: &[String]) -> Result<String, String> {
         "full" => &plan::FULL,
         _ => return Err(USAGE.to_string()),
     };
-    let counts = Counts::count(seed, plan, |part| eprintln!("counts: {part}"))?;
+    let counts = Counts::count(seed, plan, |part| program::note(format_args!("counts: {part}")))?;
     Ok(counts.sections())
 }

@@ -7,6 +7,7 @@ use std::rc::Rc;
 use ragansils::{MappedFile, Platform, Record, Table};
 use ragansils_compare::history::{next_event, Keys, Mood, Setting};
 use ragansils_compare::random::Random;
+use ragansils_compare::say;
 use ragansils_model::{word, Event};
 
 use crate::records::sealed;
@@ -37,7 +38,7 @@ pub fn run(path: &Path, wrong: Option<Wrong>, task: Task) -> Answer {
 }
 
 pub fn say(said: Said) {
-    println!("{}", said.line());
+    say!("{}", said.line());
 }
 
 /// The platform: it counts stores, and stops the process where it is told to.

@@ -3,6 +3,7 @@
 use std::path::{Path, PathBuf};
 
 use ragansils_compare::random::Random;
+use ragansils_compare::say;
 
 use crate::collector;
 use crate::exact::{Exact, Kills};
@@ -45,7 +46,7 @@ fn file_in(folder: &str) -> Result<PathBuf, String> {
 }
 
 fn kill(path: &Path, seed: u64, tables: usize, moments: u64) -> Answer {
-    println!("kills: seed {seed}");
+    say!("kills: seed {seed}");
     let mut random = Random::new(seed);
     let mut kills = Kills::default();
     for prepared in &prepare(&mut random, tables)? {
@@ -55,6 +56,6 @@ fn kill(path: &Path, seed: u64, tables: usize, moments: u64) -> Answer {
     let mut at_moments = Moments::default();
     at_moments.run(&mut random, path, moments)?;
     at_moments.print();
-    println!("kills: {} in all, nothing lost, no record half new", kills.total() + at_moments.kills);
+    say!("kills: {} in all, nothing lost, no record half new", kills.total() + at_moments.kills);
     Ok(())
 }

@@ -6,6 +6,7 @@ use std::path::Path;
 use ragansils_compare::case::event_name;
 use ragansils_compare::plain_map::PlainMap;
 use ragansils_compare::random::Random;
+use ragansils_compare::say;
 use ragansils_model::Event;
 
 use crate::collector::Task;
@@ -31,10 +32,10 @@ impl Kills {
     }
 
     pub fn print(&self) {
-        println!("kills after so many stores of a change (the numbers of kills):");
+        say!("kills after so many stores of a change (the numbers of kills):");
         for ((name, stores), by_made) in &self.counts {
             let cells: Vec<String> = by_made.iter().map(|(made, kills)| format!("{made}: {kills}")).collect();
-            println!("  {:<20} {}", format!("{name} of {stores}"), cells.join("  "));
+            say!("  {:<20} {}", format!("{name} of {stores}"), cells.join("  "));
         }
     }
 }

@@ -6,6 +6,7 @@ use std::time::Duration;
 use ragansils::{Creation, MappedFile};
 use ragansils_compare::plain_map::PlainMap;
 use ragansils_compare::random::Random;
+use ragansils_compare::say;
 
 use crate::collector::Task;
 use crate::judge::{maps_after, read_words, recovered, which_map};
@@ -30,7 +31,7 @@ pub struct Moments {
 
 impl Moments {
     pub fn print(&self) {
-        println!(
+        say!(
             "kills at random moments: {}, of which {} in the middle of a change and {} with something to mend; changes acknowledged: {}",
             self.kills, self.in_a_change, self.to_mend, self.changes
         );

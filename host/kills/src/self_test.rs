@@ -3,6 +3,7 @@
 use std::path::Path;
 
 use ragansils_compare::random::Random;
+use ragansils_compare::say;
 
 use crate::exact::{Exact, Kills};
 use crate::tables::prepare;
@@ -16,7 +17,7 @@ pub fn run(random: &mut Random, path: &Path) -> Result<(), String> {
         let mut exact = Exact { path, random, kills: &mut kills, wrong: Some(wrong) };
         let caught = tables.iter().find_map(|prepared| exact.every_store(prepared).err());
         match caught {
-            Some(what) if what.contains(wrong.sign()) => println!("caught, {}: {what}", wrong.name()),
+            Some(what) if what.contains(wrong.sign()) => say!("caught, {}: {what}", wrong.name()),
             Some(what) => {
                 return Err(format!("'{}' should be caught as '{}': {what}", wrong.name(), wrong.sign()))
             }

@@ -4,14 +4,14 @@ mod check;
 
 use std::process::ExitCode;
 
-use ragansils_compare::program;
+use ragansils_compare::{program, say};
 use ragansils_twin::TWIN_COMPILER;
 
 /// From so many calls on, an answer that never came fails the run: it would have compared too little.
 const TELLING_CALLS: u64 = 100_000;
 
 fn main() -> ExitCode {
-    program::run(|arguments| run(arguments).map(|report| println!("{report}")))
+    program::run(|arguments| run(arguments).map(|report| say!("{report}")))
 }
 
 fn run(arguments: &[String]) -> Result<String, String> {
