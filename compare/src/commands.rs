@@ -1,5 +1,6 @@
 //! What the command line asks for.
 
+use std::io::Read;
 use std::path::Path;
 use std::str::FromStr;
 use std::time::{Duration, Instant, SystemTime, UNIX_EPOCH};
@@ -7,6 +8,7 @@ use std::time::{Duration, Instant, SystemTime, UNIX_EPOCH};
 use crate::both::{Both, Check, Finding};
 use crate::case::Case;
 use crate::case_text::{read_case, write_case};
+use crate::corners;
 use crate::program;
 use crate::random::Random;
 use crate::say;
@@ -22,6 +24,7 @@ compare scripts --seed S --scripts N --program PATH
 compare long MINUTES [--seed S] [--program PATH]
 compare case FILE
 compare script FILE --program PATH
+compare corners <INPUT
 (FILE after --trace keeps the case the library was given last, for when it crashes;
  a long run without --program makes no scripts)";
 
@@ -60,6 +63,7 @@ pub fn run(arguments: &[String]) -> Answer {
         }
         ["case", file] => one_case(file),
         ["script", file, ..] => one_script(file, options.program()?),
+        ["corners"] => corners_run(),
         _ => Err(format!("usage:\n{USAGE}")),
     }
 }
@@ -175,6 +179,15 @@ fn one_script(file: &str, program: &Path) -> Answer {
     let output = scripts::compare(program, &script)?;
     program::say(String::from_utf8_lossy(&output));
     say_alike();
+    Ok(())
+}
+
+/// Nothing is compared here: `tests/corners` holds what the proved program is expected to write to what this writes.
+fn corners_run() -> Answer {
+    let mut input = String::new();
+    std::io::stdin().read_to_string(&mut input).map_err(|error| format!("standard input: {error}"))?;
+    let answers = corners::answers(&input).map_err(|bad| bad.to_string())?;
+    program::say(answers);
     Ok(())
 }
 

@@ -11,6 +11,7 @@
 //! - `history`, `damage`: where tables come from;
 //! - `words`: the run over raw words;
 //! - `script_text`, `script_damage`, `scripts`: the run of scripts;
+//! - `corners`: the model's answers to the input of the proved program `corners`;
 //! - `shrink`: smaller failures;
 //! - `commands`: what the command line asks for; `program`: what programs share; `runner`: how they start others.
 
@@ -18,6 +19,7 @@ mod both;
 pub mod case;
 pub mod case_text;
 pub mod commands;
+mod corners;
 pub mod damage;
 pub mod history;
 pub mod library;
