@@ -17,6 +17,9 @@
 #define LENT_LIST (RAGANSILS_LIST_WORDS + 4)
 #define UNTOUCHED UINT64_C(0x5a5a0bad0bada5a5)
 
+/* A run with fewer has left something out. */
+#define LEAST_CHECKS 100
+
 static uint64_t table[WORDS], list[LENT_LIST], stores;
 static unsigned checks, failures;
 
@@ -249,6 +252,6 @@ int main(void)
     cut_update();
     growth();
     lengths();
-    printf("%u checks of the ten functions from C, %u failed\n", checks, failures);
-    return failures != 0;
+    int written = printf("%u checks of the ten functions from C, %u failed\n", checks, failures);
+    return failures != 0 || checks < LEAST_CHECKS || written < 0 || fflush(stdout) != 0;
 }

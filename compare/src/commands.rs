@@ -98,6 +98,7 @@ fn words_run(seed: u64, calls: u64, trace: Option<&Path>) -> Answer {
     let result = words::run(seed, calls, &mut Both::traced(&mut tally, trace));
     tally.print();
     result.map_err(|finding| report_finding(seed, finding))?;
+    demand_some(tally.total_calls, "calls")?;
     if calls >= FULL_SIZE_CALLS {
         demand_refusals(&tally, REFUSALS_OF_CALLS)?;
     }
@@ -111,6 +112,7 @@ fn scripts_run(seed: u64, count: u64, program: &Path) -> Answer {
     let result = scripts::run(seed, count, program, &mut tally);
     tally.print();
     result.map_err(|disagreement| report_disagreement(seed, program, disagreement))?;
+    demand_some(tally.scripts, "scripts")?;
     if count >= FULL_SIZE_SCRIPTS {
         demand_refusals(&tally, REFUSALS_OF_SCRIPTS)?;
     }
@@ -146,6 +148,15 @@ fn long_run(minutes: u32, seed: u64, program: Option<&Path>) -> Answer {
 /// The last line of a run that found nothing.
 fn say_alike() {
     say!("no difference");
+}
+
+/// A run that looked at nothing fails.
+fn demand_some(seen: u64, what: &str) -> Answer {
+    if seen > 0 {
+        Ok(())
+    } else {
+        Err(format!("there were no {what} to look at"))
+    }
 }
 
 fn demand_refusals(tally: &Tally, possible: std::ops::RangeInclusive<u64>) -> Answer {
@@ -187,6 +198,7 @@ fn corners_run() -> Answer {
     let mut input = String::new();
     std::io::stdin().read_to_string(&mut input).map_err(|error| format!("standard input: {error}"))?;
     let answers = corners::answers(&input).map_err(|bad| bad.to_string())?;
+    demand_some(answers.len() as u64, "lines")?;
     program::say(answers);
     Ok(())
 }

@@ -56,6 +56,10 @@ fn kill(path: &Path, seed: u64, tables: usize, moments: u64) -> Answer {
     let mut at_moments = Moments::default();
     at_moments.run(&mut random, path, moments)?;
     at_moments.print();
-    say!("kills: {} in all, nothing lost, no record half new", kills.total() + at_moments.kills);
+    let total = kills.total() + at_moments.kills;
+    if total == 0 {
+        return Err("nothing was killed".to_string());
+    }
+    say!("kills: {total} in all, nothing lost, no record half new");
     Ok(())
 }

@@ -110,6 +110,7 @@ fn cut(words: &mut [u64], kept: u64, change: impl FnOnce(&mut Table<&mut [u64], 
 fn a_change_cut_after_any_store_is_mended_by_open() {
     for Row { words, list, change } in every_change() {
         let count = list(&words).unwrap().count();
+        assert!(count > 0, "there is something to cut");
         let maps = [map_of(&words), map_of(&after(words.clone(), list, None))];
         for kept in 1..=count {
             let mut words = words.clone();

@@ -21,6 +21,9 @@ fn run(arguments: &[String]) -> Result<String, String> {
         _ => return Err("usage: twin-check SEED CALLS".to_string()),
     };
     let seen = check::run(seed, calls).map_err(|what| format!("seed {seed}: {what}"))?;
+    if seen.calls == 0 {
+        return Err("no calls were compared".to_string());
+    }
     let missing: Vec<u64> = possible_answers().filter(|number| !seen.numbers.contains(number)).collect();
     if calls >= TELLING_CALLS && (!missing.is_empty() || seen.doubled == 0 || seen.flagged == 0) {
         return Err(format!("seed {seed}: never met: answers {missing:?}, or a kind of recovery"));
