@@ -43,10 +43,13 @@ impl Library<'_> {
     }
 }
 
+/// Runs a command, and ends the build with a sentence where it fails; a panic would bury it.
 fn run(command: &mut Command) {
-    match command.status() {
-        Ok(status) if status.success() => {}
-        Ok(status) => panic!("{command:?} ended with {status}"),
-        Err(error) => panic!("{command:?} could not be run: {error}"),
-    }
+    let what = match command.status() {
+        Ok(status) if status.success() => return,
+        Ok(status) => format!("ended with {status}"),
+        Err(error) => format!("could not be run: {error}. Compilers of C and C++ and 'ar' must be installed"),
+    };
+    eprintln!("{command:?} {what}");
+    std::process::exit(1)
 }
