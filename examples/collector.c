@@ -6,12 +6,14 @@
  *     collector FILE           a table in a mapped file, which stays; each store is made by a loop that can flush it
  *     collector FILE STORES    the same, but the process ends after so many stores, as if power went: the next run recovers
  *
- * Exit status: 0 all was done, 1 a call refused what it should not, 2 usage or the file, 3 ended after STORES stores.
+ * Exit status: 0 all was done; 1 a call refused what it should not, or a read or a write failed; 2 the arguments are wrong; 3 ended
+ * after STORES stores.
  */
 #define _POSIX_C_SOURCE 200809L
 
 #include <fcntl.h>
 #include <inttypes.h>
+#include <signal.h>
 #include <stdio.h>
 #include <stdlib.h>
 #include <string.h>
@@ -23,10 +25,6 @@
 #include "ragansils.h"
 
 enum { CAPACITY = 4, FIRST_TOP = 1, FUNCTIONS = 12, DEPTHS = 3 };
-
-/* Odd, and random: a table's own, kept in its header. */
-static const uint64_t MULTIPLIER_1 = UINT64_C(0x9e3779b97f4a7c15);
-static const uint64_t MULTIPLIER_2 = UINT64_C(0xc2b2ae3d27d4eb4f);
 
 struct collector {
     uint64_t *table;
@@ -44,11 +42,20 @@ static void flush(const volatile uint64_t *word)
     (void)word;
 }
 
+/* What was printed may wait in a buffer: a full disk, or a reader that went away, shows only now. */
+static void flush_output(void)
+{
+    if (fflush(stdout) == 0 && !ferror(stdout))
+        return;
+    fprintf(stderr, "collector: standard output could not be written\n");
+    _exit(1);
+}
+
 /* As if power went: nothing is tidied up. */
 static void end_here(void)
 {
     printf("the process ends here\n");
-    fflush(stdout);
+    flush_output();
     _exit(3);
 }
 
@@ -131,7 +138,7 @@ static void must(const char *what, uint64_t number)
 {
     if (number == RAGANSILS_DONE)
         return;
-    printf("%s was refused with %" PRIu64 "\n", what, number);
+    fprintf(stderr, "collector: %s was refused with %" PRIu64 "\n", what, number);
     exit(1);
 }
 
@@ -172,7 +179,7 @@ static uint64_t key_of(uint64_t function, uint64_t depth)
 {
     uint64_t address = UINT64_C(0x555500001000) + 64 * function, key;
     if (!ragansils_key(address, depth, &key)) {
-        printf("address %" PRIu64 " at depth %" PRIu64 " has no key\n", address, depth);
+        fprintf(stderr, "collector: address %" PRIu64 " at depth %" PRIu64 " has no key\n", address, depth);
         exit(1);
     }
     return key;
@@ -225,7 +232,7 @@ static void answer_samples(const struct collector *collector, const char *when)
 static void complain(const char *what, const char *path)
 {
     fprintf(stderr, "collector: %s '%s'\n", what, path);
-    exit(2);
+    exit(1);
 }
 
 static uint64_t *map_words(int file, size_t words, const char *path)
@@ -248,7 +255,7 @@ static void create_file(const char *path)
     if (file < 0 || ftruncate(file, (off_t)(words * sizeof(uint64_t))) != 0)
         complain("cannot make", new_path);
     uint64_t *table = map_words(file, words, new_path);
-    must("create", ragansils_create(table, words, CAPACITY, FIRST_TOP, MULTIPLIER_1, MULTIPLIER_2));
+    must("create", ragansils_create(table, words, CAPACITY, FIRST_TOP, RAGANSILS_MULTIPLIER_1, RAGANSILS_MULTIPLIER_2));
     if (msync(table, words * sizeof(uint64_t), MS_SYNC) != 0 || fsync(file) != 0 || rename(new_path, path) != 0)
         complain("cannot write", path);
     munmap(table, words * sizeof(uint64_t));
@@ -276,7 +283,7 @@ static struct collector in_memory(void)
 {
     static uint64_t table[RAGANSILS_WORDS(CAPACITY)];
     struct collector collector = { table, RAGANSILS_WORDS(CAPACITY), false, 0, 0 };
-    must("create", ragansils_create(table, collector.words, CAPACITY, FIRST_TOP, MULTIPLIER_1, MULTIPLIER_2));
+    must("create", ragansils_create(table, collector.words, CAPACITY, FIRST_TOP, RAGANSILS_MULTIPLIER_1, RAGANSILS_MULTIPLIER_2));
     printf("made a table of %zu words\n", collector.words);
     return collector;
 }
@@ -295,6 +302,8 @@ int main(int count, char **arguments)
         fprintf(stderr, "usage: collector [FILE [STORES]], with STORES a whole number from 1 on\n");
         return 2;
     }
+    /* A reader that went away is a write that fails, and no signal. */
+    signal(SIGPIPE, SIG_IGN);
     struct collector collector = count > 1 ? open_file(arguments[1]) : in_memory();
     if (count == 3)
         collector.end_after = number_of_stores(arguments[2]);
@@ -311,5 +320,6 @@ int main(int count, char **arguments)
     answer_samples(&collector, "function 1 is unloaded");
     printf("%u inserted, %u updated, %u deleted, %u growths begun, %" PRIu64 " stores\n", counts.inserted, counts.updated,
            counts.deleted, counts.growths, collector.stores_made);
+    flush_output();
     return 0;
 }

@@ -27,19 +27,24 @@ const USAGE: &str = "\
 usage: ragansils-inspect FILE
 Tells what the table in FILE holds, and what recovery would do with it. FILE is only read.
 exit status: 0 the table is sound
-             1 recovery would mend it
-             2 recovery would refuse it
-             3 there is no such file, or the command line is wrong
+             1 FILE could not be read, or the answer not be written
+             2 the command line is wrong
+             3 recovery would mend the table
+             4 recovery would refuse it
 ";
 
-const CANNOT: u8 = 3;
+const SOUND: u8 = 0;
+const FAILED: u8 = 1;
+const WRONG_USAGE: u8 = 2;
+const MENDABLE: u8 = 3;
+const REFUSED: u8 = 4;
 
 fn main() -> ExitCode {
     let arguments: Vec<_> = std::env::args_os().skip(1).collect();
     match arguments.as_slice() {
-        [only] if only == "--help" || only == "-h" => say(USAGE, 0),
+        [only] if only == "--help" || only == "-h" => say(USAGE, SOUND),
         [path] if !path.to_string_lossy().starts_with('-') => inspect(Path::new(path)),
-        _ => complain(USAGE),
+        _ => complain(USAGE, WRONG_USAGE),
     }
 }
 
@@ -48,24 +53,27 @@ fn inspect(path: &Path) -> ExitCode {
         Ok(content) => {
             let (text, verdict) = report::report(&path.display().to_string(), &content);
             let status = match verdict {
-                Verdict::Sound => 0,
-                Verdict::Mendable => 1,
-                Verdict::Refused => 2,
+                Verdict::Sound => SOUND,
+                Verdict::Mendable => MENDABLE,
+                Verdict::Refused => REFUSED,
             };
             say(&text, status)
         }
-        Err(error) => complain(&format!("ragansils-inspect: {}: {error}\n", path.display())),
+        Err(error) => complain(&format!("ragansils-inspect: {}: {error}\n", path.display()), FAILED),
     }
 }
 
 /// Writes to standard output; a reader that went away is no reason to panic.
 fn say(text: &str, status: u8) -> ExitCode {
-    let written = std::io::stdout().write_all(text.as_bytes());
-    ExitCode::from(if written.is_ok() { status } else { CANNOT })
+    let mut output = std::io::stdout().lock();
+    match output.write_all(text.as_bytes()).and_then(|()| output.flush()) {
+        Ok(()) => ExitCode::from(status),
+        Err(error) => complain(&format!("ragansils-inspect: standard output: {error}\n"), FAILED),
+    }
 }
 
-fn complain(text: &str) -> ExitCode {
-    // Where standard error is closed too, the status is all that is left to tell.
+fn complain(text: &str, status: u8) -> ExitCode {
+    // Where standard error fails too, the status is all that is left to tell.
     let _ = std::io::stderr().write_all(text.as_bytes());
-    ExitCode::from(CANNOT)
+    ExitCode::from(status)
 }

@@ -11,6 +11,13 @@ use ragansils_compare::runner::built;
 
 const MARKED: Creation = Creation { capacity: 2, first_top: 1, multipliers: [4294967297, 12884901889] };
 
+/// The exit statuses.
+const SOUND: i32 = 0;
+const FAILED: i32 = 1;
+const WRONG_USAGE: i32 = 2;
+const MENDABLE: i32 = 3;
+const REFUSED: i32 = 4;
+
 /// A file of its own for each test.
 fn path(name: &str) -> PathBuf {
     Path::new(env!("CARGO_TARGET_TMPDIR")).join(name)
@@ -70,7 +77,7 @@ fn with(mut words: Vec<u64>, changes: &[(usize, u64)]) -> Vec<u64> {
 fn a_sound_table_is_drawn() {
     has(
         told_of("sound", &table([1, 3, 5, 7, 9])),
-        0,
+        SOUND,
         &[
             "state        1: k = 1, at rest",
             "top             2 buckets,        4 of        8 slots taken,  50.0 % [##########..........]",
@@ -95,7 +102,7 @@ fn a_large_level_is_drawn_with_several_buckets_to_a_digit() {
     let dots = ".".repeat(62);
     has(
         told_of("large", &words),
-        0,
+        SOUND,
         &[
             "buckets, each by its taken slots (up to 4 together, rounded up):",
             &format!("top      |1{dots}1|"),
@@ -108,7 +115,7 @@ fn an_update_that_was_cut_would_be_made_again() {
     let cut = with(table([1, 3, 5, 7]), &[(6, 36), (7, 30), (8, 40), (5, 1), (37, 30)]);
     has(
         told_of("flagged", &cut),
-        1,
+        MENDABLE,
         &[
             "update log   target 36, function 30, place 40",
             "- the update flag is 1: an update of key 1 (address 0x0, depth 1) was cut",
@@ -126,7 +133,7 @@ fn the_later_of_two_copies_would_go() {
     let doubled = with(table([3]), &[(9, 1), (10, 3), (11, 103), (12, 203)]);
     has(
         told_of("doubled", &doubled),
-        1,
+        MENDABLE,
         &[
             "- key 3 (address 0x0, depth 3) stands in 2 slots with equal records: slot 0 of top bucket 2, slot 0 of bottom bucket 0",
             "would clear the later of two equal copies of key 3 (address 0x0, depth 3): slot 0 of bottom bucket 0",
@@ -166,7 +173,11 @@ fn what_is_damaged_is_named() {
     for (name, words, fault) in rows {
         let refusal = Refusal::NoKind;
         let refused = format!("would refuse and change nothing: {refusal}");
-        has(told_of(name, &words), 2, &[&format!("- {fault}"), "damaged, and not by a cut alone:", &refused]);
+        has(
+            told_of(name, &words),
+            REFUSED,
+            &[&format!("- {fault}"), "damaged, and not by a cut alone:", &refused],
+        );
     }
 }
 
@@ -174,7 +185,7 @@ fn what_is_damaged_is_named() {
 fn many_faults_of_a_kind_are_counted() {
     let tokens: Vec<(usize, u64)> = (0..20).map(|bucket| (9 + 13 * bucket, 16)).collect();
     let words = with(empty(&Creation { capacity: 4, ..MARKED }), &tokens);
-    has(told_of("many", &words), 2, &["- and 12 more of this kind"]);
+    has(told_of("many", &words), REFUSED, &["- and 12 more of this kind"]);
 }
 
 #[test]
@@ -204,7 +215,7 @@ fn a_bad_header_is_named() {
         let refused = format!("would refuse and change nothing: {}", Refusal::BadHeader);
         has(
             told_of(&format!("header-{name}"), &words),
-            2,
+            REFUSED,
             &[&format!("- {fault}"), "this is no table:", &refused],
         );
     }
@@ -214,16 +225,16 @@ fn a_bad_header_is_named() {
 fn bytes_that_are_no_words_are_told() {
     has(
         told_of_bytes("empty", b""),
-        2,
+        REFUSED,
         &["- the length 0 bytes is no table's length; a table of c = 1 has 384"],
     );
     let too_short = ["capacity     missing", "- the file is too short for a header of 9 words"];
-    has(told_of_bytes("letter", b"a letter"), 2, &too_short);
+    has(told_of_bytes("letter", b"a letter"), REFUSED, &too_short);
     let mut odd = bytes_of(&table([1]));
     odd.push(0);
     has(
         told_of_bytes("odd", &odd),
-        2,
+        REFUSED,
         &["- the length 801 bytes is no table's length; a table of c = 2 has 800"],
     );
 }
@@ -232,17 +243,17 @@ fn bytes_that_are_no_words_are_told() {
 fn usage_and_missing_files_are_told() {
     for arguments in [&[][..], &["one", "two"], &["--unknown"]] {
         let output = run(arguments);
-        assert_eq!(output.status.code(), Some(3));
+        assert_eq!(output.status.code(), Some(WRONG_USAGE));
         assert!(String::from_utf8(output.stderr).unwrap().starts_with("usage: "));
     }
     let missing = path("missing-file");
     for name in [missing.to_str().unwrap(), env!("CARGO_TARGET_TMPDIR"), "/dev/null"] {
         let output = run(&[name]);
-        assert_eq!(output.status.code(), Some(3));
+        assert_eq!(output.status.code(), Some(FAILED));
         assert!(String::from_utf8(output.stderr).unwrap().contains(name));
     }
     let help = run(&["--help"]);
-    assert_eq!(help.status.code(), Some(0));
+    assert_eq!(help.status.code(), Some(SOUND));
     assert!(String::from_utf8(help.stdout).unwrap().contains("exit status"));
 }
 
@@ -250,7 +261,7 @@ fn usage_and_missing_files_are_told() {
 #[test]
 fn random_damage_is_explained() {
     let mut random = Random::new(1);
-    let mut seen = [0; 3];
+    let mut seen = [0; REFUSED as usize + 1];
     for round in 0..400 {
         let mut words = table((1..16).step_by(2).take(round % 9));
         damage(&mut random, &mut words);
@@ -260,13 +271,13 @@ fn random_damage_is_explained() {
         }
         let (told, status) = told_of("damaged", &words);
         let expected = match calls::recover(&words) {
-            Ok(list) if list.count() == 0 => 0,
-            Ok(_) => 1,
-            Err(_) => 2,
+            Ok(list) if list.count() == 0 => SOUND,
+            Ok(_) => MENDABLE,
+            Err(_) => REFUSED,
         };
         assert_eq!(status, expected, "{told}");
-        assert_eq!(told.lines().any(|line| line.starts_with("  - ")), status != 0, "{told}");
+        assert_eq!(told.lines().any(|line| line.starts_with("  - ")), status != SOUND, "{told}");
         seen[expected as usize] += 1;
     }
-    assert!(seen.iter().all(|&count| count > 5), "{seen:?}");
+    assert!([SOUND, MENDABLE, REFUSED].iter().all(|&status| seen[status as usize] > 5), "{seen:?}");
 }

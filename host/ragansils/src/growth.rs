@@ -34,9 +34,9 @@ impl<W: AsRef<[u64]> + AsMut<[u64]>, P: Platform> Table<W, P> {
     /// Does at most so many parts of one growth ([`grow_on`](Table::grow_on)), and answers whether it has ended.
     ///
     /// ```
-    /// use ragansils::{Creation, Key, OrdinaryMemory, Record, Refusal, Table};
+    /// use ragansils::{Creation, Key, OrdinaryMemory, Record, Refusal, Table, MULTIPLIER_1, MULTIPLIER_2};
     ///
-    /// let creation = Creation { capacity: 5, first_top: 1, multipliers: [0x9e37_79b9_7f4a_7c15, 0xc2b2_ae3d_27d4_eb4f] };
+    /// let creation = Creation { capacity: 5, first_top: 1, multipliers: [MULTIPLIER_1, MULTIPLIER_2] };
     /// let mut table = Table::create(vec![0; creation.words().unwrap()], &creation, OrdinaryMemory)?;
     /// for line in 0..100 {
     ///     let key = Key::new(0x5555_0000_1000 + 4 * line, 0).unwrap();

@@ -16,13 +16,13 @@
 //! - [`MappedFile`]: words in a file, with [`words_of`] and [`bytes_of`] for a file that is only read.
 //!
 //! ```
-//! use ragansils::{Creation, Key, MappedFile, OrdinaryMemory, Record, Table};
+//! use ragansils::{Creation, Key, MappedFile, OrdinaryMemory, Record, Table, MULTIPLIER_1, MULTIPLIER_2};
 //!
 //! # let folder = std::env::temp_dir().join(format!("ragansils-doc-{}", std::process::id()));
 //! # std::fs::create_dir_all(&folder)?;
 //! # let path = folder.join("positions.table");
 //! // Once:
-//! let creation = Creation { capacity: 8, first_top: 1, multipliers: [0x9e37_79b9_7f4a_7c15, 0xc2b2_ae3d_27d4_eb4f] };
+//! let creation = Creation { capacity: 8, first_top: 1, multipliers: [MULTIPLIER_1, MULTIPLIER_2] };
 //! MappedFile::create(&path, &creation)?;
 //!
 //! // At each start of the collector; what a cut left is mended here:
@@ -49,7 +49,7 @@ mod stores;
 mod table;
 
 pub use bytes::{bytes_of, words_of};
-pub use creation::Creation;
+pub use creation::{Creation, MULTIPLIER_1, MULTIPLIER_2};
 pub use growth::Growth;
 #[cfg(all(target_os = "linux", target_pointer_width = "64"))]
 pub use mapped::{FileError, MappedFile};

@@ -10,9 +10,9 @@ use crate::{calls, Creation, Key, Lookup, Platform, Record, Refusal, StoreList};
 /// after it. A change that is refused leaves everything as it was.
 ///
 /// ```
-/// use ragansils::{Creation, Key, OrdinaryMemory, Record, Refusal, Table};
+/// use ragansils::{Creation, Key, OrdinaryMemory, Record, Refusal, Table, MULTIPLIER_1, MULTIPLIER_2};
 ///
-/// let creation = Creation { capacity: 4, first_top: 1, multipliers: [0x9e37_79b9_7f4a_7c15, 0xc2b2_ae3d_27d4_eb4f] };
+/// let creation = Creation { capacity: 4, first_top: 1, multipliers: [MULTIPLIER_1, MULTIPLIER_2] };
 /// let mut words = vec![0; creation.words().unwrap()];
 /// let mut table = Table::create(words.as_mut_slice(), &creation, OrdinaryMemory)?;
 ///
