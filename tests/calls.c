@@ -1,6 +1,7 @@
 /*
- * Calls each of the ten functions through include/ragansils.h, on document 01's marked examples, and meets each refusal number. The
- * answers differ for any two arguments taken for each other. Says how many checks there were; exit status 0 only where all held.
+ * Calls each of the ten functions through include/ragansils.h, on the marked examples of document 01, the paper that fixes the table,
+ * and meets each refusal number. The answers differ for any two arguments taken for each other. Says how many checks there were; exit
+ * status 0 only where all held.
  */
 #include <inttypes.h>
 #include <stdio.h>

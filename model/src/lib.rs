@@ -1,4 +1,4 @@
-//! An independent model of the level hashing table of document 01.
+//! An independent model of the level hashing table of document 01, the paper that fixes the table and its calls.
 //!
 //! From the bottom up:
 //! - `layout`: where words, buckets, slots and levels stand;

@@ -12,7 +12,7 @@
 ///
 /// A hash is what the product of key and multiplier has above 2^32, so small multipliers are no good: with 3 and 5 the first refusal
 /// comes at 8 slots of 24, and of 98,304 too. Keys that are made of an address ([`Key::new`](crate::Key::new)) stay as well spread in
-/// larger tables: 0.93 of the slots and more at c = 18. The keys 0, 1, 2, .. do not: 0.39 there.
+/// larger tables: 0.92 of the slots and more at c = 18. The keys 0, 1, 2, .. do not: 0.39 there.
 pub const MULTIPLIER_1: u64 = 0x9e37_79b9_7f4a_7c15;
 
 /// The second of two multipliers that spread keys well; [`MULTIPLIER_1`] tells how well.

@@ -1,4 +1,4 @@
-/* The search for a key, in document 01's probe order. */
+/* The search for a key, in the probe order of document 01, the paper that fixes the table. */
 #ifndef RAGANSILS_TWIN_LOOKUP_H
 #define RAGANSILS_TWIN_LOOKUP_H
 
