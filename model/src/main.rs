@@ -3,14 +3,15 @@
 #![forbid(unsafe_code)]
 
 use std::fs::File;
-use std::io::{self, BufReader, BufWriter};
+use std::io::{self, BufReader, BufWriter, Write};
 use std::process::ExitCode;
 
 fn main() -> ExitCode {
     match run(std::env::args_os().nth(1)) {
         Ok(()) => ExitCode::SUCCESS,
         Err(error) => {
-            eprintln!("model: {error}");
+            // Where standard error fails too, the exit status is all that is left to tell.
+            let _ = writeln!(io::stderr(), "model: {error}");
             ExitCode::FAILURE
         }
     }
