@@ -253,6 +253,9 @@ int main(void)
     cut_update();
     growth();
     lengths();
-    int written = printf("%u checks of the ten functions from C, %u failed\n", checks, failures);
-    return failures != 0 || checks < LEAST_CHECKS || written < 0 || fflush(stdout) != 0;
+    if (printf("%u checks of the ten functions from C, %u failed\n", checks, failures) < 0 || fflush(stdout) != 0) {
+        fprintf(stderr, "calls: standard output could not be written\n");
+        return 1;
+    }
+    return failures != 0 || checks < LEAST_CHECKS;
 }
