@@ -5,7 +5,7 @@ use ragansils_model::{Event, Slot, Table};
 
 use crate::random::Random;
 
-/// The multipliers of document 01's marked examples.
+/// The multipliers of the marked examples of document 01, the paper that fixes the table.
 const MARKED_1: u64 = 4294967297;
 const MARKED_2: u64 = 12884901889;
 

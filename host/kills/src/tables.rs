@@ -12,7 +12,7 @@ use crate::records::sealed;
 /// A kind of change: its call and its number of stores.
 pub type Kind = (&'static str, u64);
 
-/// Document 01's table of store lists.
+/// The table of store lists of document 01, the paper that fixes the table.
 pub const KINDS: [Kind; 9] = [
     ("insert", 4),
     ("insert", 9),

@@ -4,7 +4,7 @@ use std::panic::{catch_unwind, AssertUnwindSafe};
 
 use ragansils::{calls, Creation, Growth, Key, OrdinaryMemory, Record, Refusal, Store, StoreList, Table};
 
-/// The table of document 01's marked examples.
+/// The table of the marked examples of document 01, the paper that fixes the table.
 const MARKED: Creation = Creation { capacity: 2, first_top: 1, multipliers: [4294967297, 12884901889] };
 const NEW: Record = Record { function: 30, place: 40 };
 

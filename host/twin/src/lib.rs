@@ -15,7 +15,7 @@ use ragansils_model::Event;
 /// The compiler of the twin, with its options.
 pub const TWIN_COMPILER: &str = env!("RAGANSILS_TWIN_CC");
 
-/// A side of the comparison. Every answer is document 01's number, 0 for success.
+/// A side of the comparison. Every answer is a number of document 01, the paper that fixes the table; 0 is success.
 pub trait Side {
     fn create(&mut self, table: &mut [u64], c: u64, k: u64, mul1: u64, mul2: u64) -> u64;
 
