@@ -4,8 +4,9 @@
 # A script that compiles, or starts what was built, sources this file. Before that it sets 'here' to the top folder of the repository
 # and defines 'fail MESSAGE', which ends the script. Afterwards it has:
 #   need COMMAND ..         looks for a command, and installs it; one that makes code then makes it for x86-64
-#   need_runner             looks for what runs a built program, and installs it; comes before the next two
+#   need_runner             looks for what runs a built program, and installs it; comes before the next three
 #   run PROGRAM ..          runs a built program
+#   run_within SECONDS ..   the same, for so long at most
 #   run_instead PROGRAM ..  runs it in place of the script
 #   emulated                tells whether an emulator runs it
 # Rust programs that start built programs read the emulator from the variable that cargo itself reads (compare/src/runner.rs).
@@ -22,6 +23,14 @@ emulated() {
 run() { # PROGRAM ARGUMENT..
     can_run "$1" || return 127
     $runner "$@"
+}
+
+# the same for so many seconds at most; then the status is 124
+run_within() { # SECONDS PROGRAM ARGUMENT..
+    seconds=$1
+    shift
+    can_run "$1" || return 127
+    timeout "$seconds" $runner "$@"
 }
 
 run_instead() { # PROGRAM ARGUMENT..

@@ -67,3 +67,4 @@ pub mod InterimBits
 pub mod InterimKept
 pub mod GrowthCost
 pub mod Figures
+pub mod Mission

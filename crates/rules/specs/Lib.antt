@@ -11,4 +11,5 @@ pub mod Results
 pub mod NoPlace
 pub mod Histories
 pub mod Demands
+pub mod Mission
 pub mod Examples

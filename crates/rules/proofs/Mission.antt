@@ -1,0 +1,57 @@
+-- The user's three demands, proved: one theorem. Each field is the law of the same name.
+-- Assumes nothing.
+use Rattle.rules.specs.Mission.{Mission}
+use Rattle.rules.proofs.Sound.{soundnessIsTested}
+use Rattle.rules.proofs.Maps.{mapExists}
+use Rattle.rules.proofs.Findings.{recoverAnswers, recoveryAccepts}
+use Rattle.rules.proofs.Queries.{queryIsACall, queryAnswers, queryCounts, probesAreFew, probesAreDistinct}
+use Rattle.rules.proofs.Refusals.{refusalsInOrder}
+use Rattle.rules.proofs.StoreLists.{storesAsWritten}
+use Rattle.rules.proofs.StoreNumbers.{storeNumbers}
+use Rattle.rules.proofs.LentLists.{changeAnswers}
+use Rattle.rules.proofs.Making.{makeAnswers}
+use Rattle.rules.proofs.Creating.{createAnswers, createdIsEmpty}
+use Rattle.rules.proofs.StepPlacing.{stepIsACall}
+use Rattle.rules.proofs.Inside.{storesInside, tokenStoresLow}
+use Rattle.rules.proofs.Inserting.{insertAnswers}
+use Rattle.rules.proofs.Updating.{updateAnswers, deleteAnswers}
+use Rattle.rules.proofs.GrowthSteps.{stepAnswers}
+use Rattle.rules.proofs.BeginEnd.{beginAnswers, endAnswers}
+use Rattle.rules.proofs.MadeLists.{makeTakesTheList}
+use Rattle.rules.proofs.Recurring.{recoveryMayBeCut}
+use Rattle.rules.proofs.MadeCuts.{cutsAreSafe}
+use Rattle.rules.proofs.GrowthCost.{growthBound}
+
+pub mission : Mission
+mission =
+    record {
+      refusalsInOrder = refusalsInOrder;
+      storesInside = storesInside;
+      tokenStoresLow = tokenStoresLow;
+      changeAnswers = changeAnswers;
+      createAnswers = createAnswers;
+      makeAnswers = makeAnswers;
+      stepIsACall = stepIsACall;
+      queryIsACall = queryIsACall;
+      soundnessIsTested = soundnessIsTested;
+      mapExists = mapExists;
+      createdIsEmpty = createdIsEmpty;
+      queryAnswers = queryAnswers;
+      insertAnswers = insertAnswers;
+      updateAnswers = updateAnswers;
+      deleteAnswers = deleteAnswers;
+      beginAnswers = beginAnswers;
+      stepAnswers = stepAnswers;
+      endAnswers = endAnswers;
+      recoverAnswers = recoverAnswers;
+      storeNumbers = storeNumbers;
+      storesAsWritten = storesAsWritten;
+      makeTakesTheList = makeTakesTheList;
+      cutsAreSafe = cutsAreSafe;
+      recoveryAccepts = recoveryAccepts;
+      recoveryMayBeCut = recoveryMayBeCut;
+      growthBound = growthBound;
+      probesAreFew = probesAreFew;
+      probesAreDistinct = probesAreDistinct;
+      queryCounts = queryCounts;
+    }

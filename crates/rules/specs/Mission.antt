@@ -1,0 +1,49 @@
+-- All that is proved of the rules, in one place: the user's three demands, sentence by sentence. Each field is a statement of
+-- `Demands`, which says it in full. One law proves them all: `mission`, in proofs/Mission.
+-- That the code does what the rules say is promised call by call, in the `ensures` of each.
+-- Assumes nothing.
+use Rattle.rules.specs.Demands.{ChangeAnswers, CreateAnswers, MakeAnswers, RefusalsInOrder, StepIsACall, QueryIsACall, StoresInside, TokenStoresLow, SoundnessIsTested, MapExists, CreatedIsEmpty, QueryAnswers, InsertAnswers, UpdateAnswers, DeleteAnswers, BeginAnswers, StepAnswers, EndAnswers, RecoverAnswers, StoresAsWritten, StoreNumbers, MakeTakesTheList, CutsAreSafe, RecoveryMayBeCut, RecoveryAccepts, GrowthBound, QueryCounts, ProbesAreFew, ProbesAreDistinct}
+
+pub record Mission : Type 0 where
+  -- Demand 1. "Any words, keys and lengths may be handed in. Every call ends, stays within its buffers and checks its own input."
+  pub refusalsInOrder : RefusalsInOrder
+  pub storesInside : StoresInside
+  pub tokenStoresLow : TokenStoresLow
+  -- "A refusal carries its number, reports zero stores and changes neither table nor list."
+  pub changeAnswers : ChangeAnswers
+  pub createAnswers : CreateAnswers
+  pub makeAnswers : MakeAnswers
+  pub stepIsACall : StepIsACall
+  pub queryIsACall : QueryIsACall
+  -- Demand 2. "On a sound table": what that is, and its map, of which there is one
+  pub soundnessIsTested : SoundnessIsTested
+  pub mapExists : MapExists
+  pub createdIsEmpty : CreatedIsEmpty
+  -- "with a list of 20 words or more, query, insert, update and delete answer as a plain map does". "For an absent key, insert
+  -- says "no place" exactly when every candidate slot is taken and no single permitted move frees one."
+  pub queryAnswers : QueryAnswers
+  pub insertAnswers : InsertAnswers
+  pub updateAnswers : UpdateAnswers
+  pub deleteAnswers : DeleteAnswers
+  -- "and growing keeps the map"
+  pub beginAnswers : BeginAnswers
+  pub stepAnswers : StepAnswers
+  pub endAnswers : EndAnswers
+  pub recoverAnswers : RecoverAnswers
+  -- Demand 3. "From a sound table an accepted change lists at most ten stores; made in order they give the sound table that document
+  -- 01 fixes, with demand 2's map."
+  pub storeNumbers : StoreNumbers
+  pub storesAsWritten : StoresAsWritten
+  pub makeTakesTheList : MakeTakesTheList
+  -- "A cut after any number of them is accepted by recovery (list of 20 words or more), which lists at most three stores and brings
+  -- back exactly the map before or the map after"
+  pub cutsAreSafe : CutsAreSafe
+  pub recoveryAccepts : RecoveryAccepts
+  -- "also when recovery is cut, however often"
+  pub recoveryMayBeCut : RecoveryMayBeCut
+  -- "One whole growth from N top buckets .. spends at most 20N + 2 stores in its own calls, whatever but creation is called between."
+  pub growthBound : GrowthBound
+  -- "A query looks at no more than four buckets, six while growing, and reports the number truly looked at."
+  pub probesAreFew : ProbesAreFew
+  pub probesAreDistinct : ProbesAreDistinct
+  pub queryCounts : QueryCounts
