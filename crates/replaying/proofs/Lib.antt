@@ -1,4 +1,5 @@
 pub mod Made
 pub mod Rooms
 pub mod Taken
+pub mod Sentences
 pub mod Only

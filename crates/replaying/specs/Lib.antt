@@ -1,2 +1,3 @@
 pub mod Events
 pub mod Replays
+pub mod Sentences

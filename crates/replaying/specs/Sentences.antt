@@ -1,0 +1,75 @@
+-- Document 01, "Script program", said a second time, in facts: what is answered to each event, which of its stores are made, and what
+-- is counted. No code leans on this. The definitions of `Events` and `Replays` are proved to keep it.
+-- Assumes nothing.
+use Prim.Native.Nat.{ℕ, _+_, _%_, _^_, _≤_, _<_}
+use mathlib.Core.Path.{_≡_}
+use mathlib.Core.List.{List, [], _∷_, _++_}
+use mathlib.Core.Logic.{_⊎_}
+use lib.ListN.{take, drop}
+use Rattle.rules.specs.Words.{Table, wordsFor}
+use Rattle.rules.specs.Answers.{Meaning, changeMeans, queryMeans, verdictMeans}
+use Rattle.rules.specs.Results.{changeResult, queryResult, createResult, makeResult}
+use Rattle.following.specs.declared.Act.{Act}
+use Rattle.following.specs.declared.Cut.{Cut}
+use Rattle.following.specs.declared.Cut.the-variants.{None as noCut, After as cutAfter}
+use Rattle.following.specs.declared.Due.the-variants.{Nothing as noMore}
+use Rattle.following.specs.declared.Script.{Script}
+use Rattle.following.specs.declared.Asked.the-variants.{Table as askTable, Query as askQuery, Change as askChange}
+use Rattle.replaying.specs.Events.{callOf, lent}
+use Rattle.replaying.specs.Replays.{Turned, tableOf, askedOf}
+use Rattle.replaying.specs.declared.Answer.{Answer}
+use Rattle.replaying.specs.declared.Answer.the-variants.{Made, Unmade, Changed, Kept, Found}
+use Rattle.replaying.specs.declared.Replay.{Replay}
+
+-- ---- changing events and recover
+
+-- the event's call on the table, with its own list of 20 words: its number and its stores, and the list as it left it
+abbrev pub Tells : List ℕ → Replay → Act → ℕ → ℕ → Type 0
+Tells room p a number stores = changeMeans (changeResult (tableOf p room) lent (callOf a) .0) ≡ record { number = number; values = stores ∷ [] }
+
+abbrev pub listAfter : List ℕ → Replay → Act → List ℕ
+listAfter room p a = changeResult (tableOf p room) lent (callOf a) .1
+
+-- this is answered, so many of its stores are made, in the table's words alone, and one event more is counted
+pub record Answered (room : List ℕ) (p : Replay) (next : Script) (a : Act) (under : Cut) (answer : Answer) (made : ℕ) : Type 0 where
+  pub said : askedOf room p next (askChange a under) .answer ≡ answer
+  pub words : askedOf room p next (askChange a under) .room ≡ makeResult (tableOf p room) (listAfter room p a) made .1 ++ drop (p .words) room
+  pub count : askedOf room p next (askChange a under) .replay .events ≡ (p .events + 1) % 2 ^ 64
+
+-- "answer=0, stores=4": the number and the stores, all of which are made
+abbrev pub ChangesAnswered : Type 0
+ChangesAnswered = (room : List ℕ) (p : Replay) (next : Script) (a : Act) (number stores : ℕ) → Tells room p a number stores → Answered room p next a noCut (Changed number stores) stores
+
+-- "lets only that many of its stores be made, or all if there are fewer": as many as these
+abbrev pub LetsMake : ℕ → ℕ → ℕ → Type 0
+LetsMake n stores made = ((made ≡ n) × (n ≤ stores)) ⊎ ((made ≡ stores) × (stores ≤ n))
+
+-- "An event under a cut line adds `kept=`, the stores made, after `stores=`"
+abbrev pub CutChangesAnswered : Type 0
+CutChangesAnswered = (room : List ℕ) (p : Replay) (next : Script) (a : Act) (n line number stores made : ℕ) → Tells room p a number stores → LetsMake n stores made
+    → Answered room p next a (cutAfter n line) (Kept number stores made) made
+
+-- ---- queries
+
+-- "answer=0, fn=10, at=20, probes=1": the number, the record and the count. The words stay, and one event more is counted
+abbrev pub QueriesAnswered : Type 0
+QueriesAnswered = (room : List ℕ) (p : Replay) (next : Script) (key number f place count : ℕ) → queryMeans (queryResult (tableOf p room) key) ≡ record { number = number; values = f ∷ place ∷ count ∷ [] }
+    → (askedOf room p next (askQuery key) .answer ≡ Found number f place count) × (askedOf room p next (askQuery key) .room ≡ room)
+    × (askedOf room p next (askQuery key) .replay .events ≡ (p .events + 1) % 2 ^ 64)
+
+-- ---- the table
+
+-- creation in the first of the lent words answers this number
+abbrev pub Verdicts : List ℕ → ℕ → ℕ → ℕ → ℕ → ℕ → Type 0
+Verdicts room c k mul1 mul2 number = verdictMeans (createResult (take (wordsFor c) room) c k mul1 mul2 .0) ≡ record { number = number; values = [] }
+
+-- `made=0`: the table has its words, and events are read
+abbrev pub TableMade : Type 0
+TableMade = (room : List ℕ) (p : Replay) (next : Script) (c k mul1 mul2 : ℕ) → c ≤ 8 → Verdicts room c k mul1 mul2 0
+    → (askedOf room p next (askTable c k mul1 mul2) .answer ≡ Made) × (askedOf room p next (askTable c k mul1 mul2) .replay .words ≡ wordsFor c)
+    × (askedOf room p next (askTable c k mul1 mul2) .replay .script ≡ next)
+
+-- "Program cap is at most 8; a larger one gives `made=13`." "and no event line is read": nothing more is due
+abbrev pub TableNotMade : Type 0
+TableNotMade = (room : List ℕ) (p : Replay) (next : Script) (c k mul1 mul2 : ℕ) → (8 < c) ⊎ ((c ≤ 8) × Verdicts room c k mul1 mul2 13)
+    → (askedOf room p next (askTable c k mul1 mul2) .answer ≡ Unmade 13) × (askedOf room p next (askTable c k mul1 mul2) .replay .script .due ≡ noMore)
