@@ -1,16 +1,16 @@
 -- A bucket's records, and what its token word says of its slots.
 -- Assumes nothing.
-use Prim.Native.Nat.{ℕ, zero, suc, _*_, _/_, _%_, _^_, _≤_, _<_}
-use mathlib.Core.Path.{_≡_, refl, sym, _∙_}
-use mathlib.Core.Bool.{not}
+use Prim.Native.Nat.{ℕ, _*_, _/_, _%_, _^_, _≤_, _<_}
+use mathlib.Core.Path.{_≡_, refl, sym, ap, _∙_}
+use mathlib.Core.Bool.{Bool, true, false, not, cond}
 use mathlib.Core.List.{List, [], _∷_}
-use mathlib.Core.Option.{none, some, Option·map}
+use mathlib.Core.Option.{Option, none, some, Option·map, Option·getD}
 use native.Mathlib.Omega.{arith}
 use borrow.Author.Tests.{eqb-true, lt-ltb, le-ltb}
 use lib.Dec.{eqb}
-use lib.ListN.{length, getD}
-use Rattle.rules.specs.Choice.{given, select}
-use Rattle.rules.specs.Words.{Table, slotAt, slotsIn, keyIn, tokenOf, tidy, isTaken, taken}
+use lib.ListN.{length}
+use Rattle.rules.specs.Choice.{given, orElse, select, firstOf}
+use Rattle.rules.specs.Words.{Table, slotAt, slotsIn, tokenOf, tidy, isTaken, taken}
 use Rattle.rules.specs.Places.{firstPlace, secondPlace}
 use Rattle.rules.specs.Placing.{takenIn, freeSlot, fewer, emptier, roomIn}
 use Rattle.rules.specs.declared.Header.{Header}
@@ -24,7 +24,7 @@ use Rattle.rules.proofs.Tokens.{taken-tidy, tidy-tested}
 use Rattle.rules.proofs.FreeSlots.{taken-count}
 use Rattle.reading.specs.Levels.{placeIn}
 use Rattle.rules.proofs.Lowest.{lowest-some, lowest-none}
-use Rattle.placing.specs.Buckets.{itemIn, itemsIn, slots, freeIn, takenOf, lowestFree}
+use Rattle.placing.specs.Buckets.{itemIn, itemsIn, slots, takenOf, lowestFree}
 
 -- ---- the four records
 
@@ -33,17 +33,6 @@ module _ (t : Table) (p : Place) where
       → a ≡ itemIn t x₀ → b ≡ itemIn t x₁ → c ≡ itemIn t x₂ → d ≡ itemIn t x₃ → a ∷ b ∷ c ∷ d ∷ [] ≡ itemsIn t p
   unfolding itemsIn slotsIn
   records e₀ e₁ e₂ e₃ f₀ f₁ f₂ f₃ = rw (f₀, f₁, f₂, f₃, e₀, e₁, e₂, e₃)
-
-  key-of : (s : ℕ) → s < 4 → getD (getD (itemsIn t p) s []) 0 0 ≡ keyIn t (slotAt p s)
-  unfolding itemsIn itemIn slotsIn
-  key-of zero l = refl
-  key-of (suc zero) l = refl
-  key-of (suc (suc zero)) l = refl
-  key-of (suc (suc (suc zero))) l = refl
-  key-of (suc (suc (suc (suc s)))) l = absurd (omega arith)
-
-  pub record-key : {items : List (List ℕ)} → items ≡ itemsIn t p → (s : ℕ) → s < 4 → getD (getD items s []) 0 0 ≡ keyIn t (slotAt p s)
-  record-key e s l = rw e (key-of s l)
 
 -- ---- the slots of a token word
 
@@ -62,14 +51,37 @@ module _ (h : Header) (word : ℕ) where
   unfolding takenOf isTaken tidy
   taken-counted e = rw e (eqb-true _ _ (tidy-tested h (λ v. eqb (counts / 2 ^ (4 * v) % 16) (takenOf h v)) refl word) ∙ taken-tidied)
 
+  -- the first free slot, and as a number the first free record of any four
+  unfoldable pub freeIn : Option ℕ
+  freeIn = firstOf (λ (s : ℕ). given (not (isTaken h word s)) s) slots
+
+  abbrev orNext : Bool → ℕ → Option ℕ → Option ℕ
+  orNext b s rest = orElse (given (not b) s) rest
+
+  of-four : (a b c d : Bool) → Option·getD (orNext a 0 (orNext b 1 (orNext c 2 (orNext d 3 none)))) 4 ≡ cond a (cond b (cond c (cond d 4 3) 2) 1) 0
+  of-four false b c d = refl
+  of-four true false c d = refl
+  of-four true true false d = refl
+  of-four true true true false = refl
+  of-four true true true true = refl
+
+  pub first-record : (items : List (List ℕ)) → length items ≡ 4 → Option·getD freeIn 4 ≡ lowestFree h word items
+  unfolding freeIn lowestFree
+  first-record (i₀ ∷ i₁ ∷ i₂ ∷ i₃ ∷ []) l = of-four (isTaken h word 0) (isTaken h word 1) (isTaken h word 2) (isTaken h word 3)
+  first-record [] l = absurd (omega arith)
+  first-record (i₀ ∷ []) l = absurd (omega arith)
+  first-record (i₀ ∷ i₁ ∷ []) l = absurd (omega arith)
+  first-record (i₀ ∷ i₁ ∷ i₂ ∷ []) l = absurd (omega arith)
+  first-record (i₀ ∷ i₁ ∷ i₂ ∷ i₃ ∷ i₄ ∷ is) l = absurd (omega arith)
+
   -- the number tells whether there is a free slot
-  module _ {s : ℕ} (e : s ≡ lowestFree h word) where
-    pub no-free : s ≡ 4 → freeIn h word ≡ none
-    unfolding freeIn lowestFree
+  module _ {s : ℕ} (e : s ≡ Option·getD freeIn 4) where
+    pub no-free : s ≡ 4 → freeIn ≡ none
+    unfolding freeIn
     no-free q = lowest-none (λ (z : ℕ). not (isTaken h word z)) s e (omega arith)
 
-    pub one-free : s < 4 → freeIn h word ≡ some s
-    unfolding freeIn lowestFree
+    pub one-free : s < 4 → freeIn ≡ some s
+    unfolding freeIn
     one-free l = lowest-some (λ (z : ℕ). not (isTaken h word z)) s e l
 
 -- ---- the slots of a place
@@ -87,12 +99,16 @@ module _ (t : Table) (h : Header) (p : Place) where
 
 -- ---- the free slot of a place, and of a level
 
-module _ (t : Table) (h : Header) (p : Place) {word s : ℕ} (w : word ≡ tokenOf t (p .bucket)) (e : s ≡ lowestFree h word) where
+module _ (t : Table) (h : Header) (p : Place) {word s : ℕ} {items : List (List ℕ)} (w : word ≡ tokenOf t (p .bucket)) (b : items ≡ itemsIn t p) (e : s ≡ lowestFree h word items) where
+  number : s ≡ Option·getD (freeIn h word) 4
+  unfolding itemsIn slotsIn
+  number = e ∙ sym (first-record h word items (ap length b))
+
   pub place-full : s ≡ 4 → none ≡ Option·map Free (freeSlot t h p)
-  place-full q = rw (free-in t h p, ← w, no-free h word e q)
+  place-full q = rw (free-in t h p, ← w, no-free h word number q)
 
   pub place-free : {x : Slot} → s ≤ 4 → (s ≡ 4 → ⊥) → x ≡ slotAt p s → some (Free x) ≡ Option·map Free (freeSlot t h p)
-  place-free l n g = rw (free-in t h p, ← w, one-free h word e (omega arith), g)
+  place-free l n g = rw (free-in t h p, ← w, one-free h word number (omega arith), g)
 
 module _ (t : Table) (h : Header) (f s : Place) {v w m n : ℕ} (a : v ≡ tokenOf t (f .bucket)) (b : m ≡ takenOf h v) (c : w ≡ tokenOf t (s .bucket)) (d : n ≡ takenOf h w) where
   counted : (r : Place) {z k : ℕ} → z ≡ tokenOf t (r .bucket) → k ≡ takenOf h z → takenIn t h r ≡ k

@@ -3,10 +3,11 @@
 use Prim.Native.Nat.{ℕ, _-_}
 use mathlib.Core.Path.{_≡_, refl, _∙_}
 use mathlib.Core.Bool.{true, false}
-use mathlib.Core.List.{List, _++_, flatMap}
+use mathlib.Core.List.{List, [], _++_, flatMap}
 use mathlib.Core.Option.{Option, none, some}
+use lib.ListN.{getD}
 use Rattle.rules.specs.Choice.{orElse, firstOf}
-use Rattle.rules.specs.Words.{Table, topOf, bottomOf, slotsIn, slotAt, keyIn}
+use Rattle.rules.specs.Words.{Table, topOf, bottomOf, slotsIn, slotAt}
 use Rattle.rules.specs.Places.{hashesOf, placesIn}
 use Rattle.rules.specs.Placing.{freeSlot, itemsOf, candidates, moveOf}
 use Rattle.rules.specs.declared.Header.{Header}
@@ -18,13 +19,14 @@ use Rattle.rules.specs.declared.Placing.the-variants.{Move}
 use Rattle.rules.proofs.Lists.{firstOf-append, firstOf-map, firstOf-flatMap}
 use Rattle.reading.specs.Levels.{levelOf}
 use Rattle.rules.proofs.Along.{along}
-use Rattle.placing.specs.Search.{optional, goalsOf, itemMove, bucketMove, placesMove}
+use Rattle.placing.specs.Search.{optional, goalsOf, itemMove, bucketMove, placeMove, placesMove}
+use Rattle.placing.specs.Buckets.{itemIn, itemsIn, keyAmong}
 use Rattle.placing.specs.declared.moves.Way.{Way}
 
 module _ (t : Table) (h : Header) where
   -- one part of the candidates
   part : (w : Way) (ps : List Place) → firstOf (moveOf t h) (itemsOf t h ps (goalsOf w)) ≡ placesMove t h w ps
-  unfolding itemsOf placesMove bucketMove itemMove
+  unfolding itemsOf placesMove placeMove bucketMove itemMove itemsIn itemIn keyAmong slotsIn slotAt
   part w ps = firstOf-map (moveOf t h) _ (flatMap slotsIn ps) ∙ firstOf-flatMap _ slotsIn ps
 
   -- one item along its goals
@@ -43,17 +45,22 @@ module _ (t : Table) (h : Header) where
         → moveOf t h (record { item = from; goals = goals }) ≡ moveOf t h (record { item = from; goals = goalsOf w (hashesOf h key) from })
     item-goals key from e g = rw (g, e)
 
-    -- an item of a bucket
-    pub item-of : (p : Place) (s : ℕ) {x : Slot} {key : ℕ} → x ≡ slotAt p s → key ≡ keyIn t (slotAt p s)
-        → moveOf t h (record { item = x; goals = goalsOf w (hashesOf h key) x }) ≡ itemMove t h w (slotAt p s)
-    unfolding itemMove
-    item-of p s e f = rw (e, f)
+    -- the item in slot s of a bucket by value
+    pub item-of : (p : Place) (items : List (List ℕ)) (s : ℕ) {x : Slot} → x ≡ slotAt p s
+        → moveOf t h (record { item = x; goals = goalsOf w (hashesOf h (getD (getD items s []) 0 0)) x }) ≡ itemMove t h w items (slotAt p s)
+    unfolding itemMove keyAmong slotAt
+    item-of p items s e = rw e
 
-    pub bucket-all : (p : Place) → bucketMove t h w p ≡ along (itemMove t h w) (slotsIn p) 0
+    pub bucket-all : (p : Place) (items : List (List ℕ)) → bucketMove t h w p items ≡ along (itemMove t h w items) (slotsIn p) 0
     unfolding bucketMove along
-    bucket-all p = refl
+    bucket-all p items = refl
 
-    pub places-all : (ps : List Place) → placesMove t h w ps ≡ along (bucketMove t h w) ps 0
+    -- the bucket at p, as it was read
+    pub place-move : (p : Place) {items : List (List ℕ)} → items ≡ itemsIn t p → bucketMove t h w p items ≡ placeMove t h w p
+    unfolding placeMove
+    place-move p e = rw e
+
+    pub places-all : (ps : List Place) → placesMove t h w ps ≡ along (placeMove t h w) ps 0
     unfolding placesMove along
     places-all ps = refl
 

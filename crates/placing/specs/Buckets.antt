@@ -1,11 +1,10 @@
--- A bucket by value, and what slot choice reads off its token word.
+-- A bucket by value, and what slot choice makes of it and of its token word.
 -- Assumes nothing.
-use Prim.Native.Nat.{ℕ}
-use mathlib.Core.Bool.{not}
+use Prim.Native.Nat.{ℕ, suc}
+use mathlib.Core.Bool.{cond}
 use mathlib.Core.List.{List, [], _∷_, map}
-use mathlib.Core.Option.{Option, Option·getD}
-use lib.ListN.{length}
-use Rattle.rules.specs.Choice.{given, select, firstOf, from}
+use lib.ListN.{length, getD}
+use Rattle.rules.specs.Choice.{select, from}
 use Rattle.rules.specs.Words.{Table, slotsIn, keyIn, recordIn, isTaken}
 use Rattle.rules.specs.declared.Header.{Header}
 use Rattle.rules.specs.declared.Place.{Place}
@@ -18,17 +17,22 @@ itemIn t x = keyIn t x ∷ recordIn t x .function ∷ recordIn t x .place ∷ []
 unfoldable pub itemsIn : Table → Place → List (List ℕ)
 itemsIn t p = map (itemIn t) (slotsIn p)
 
+-- the key of the record in slot s: its first word
+unfoldable pub keyAmong : List (List ℕ) → ℕ → ℕ
+keyAmong items s = getD (getD items s []) 0 0
+
+-- "lowest free slot": of a bucket's records, the first whose slot its token word calls free; their number where there is none
+abbrev pub freeFrom : Header → ℕ → ℕ → List (List ℕ) → ℕ
+freeFrom h word s [] = s
+freeFrom h word s (item ∷ items) = cond (isTaken h word s) (freeFrom h word (suc s) items) s
+
+unfoldable pub lowestFree : Header → ℕ → List (List ℕ) → ℕ
+lowestFree h word items = freeFrom h word 0 items
+
 -- "slots 0 to 3"
 abbrev pub slots : List ℕ
 slots = from 0 4
 
--- of a token word: the lowest free slot, and how many are taken
-unfoldable pub freeIn : Header → ℕ → Option ℕ
-freeIn h word = firstOf (λ (s : ℕ). given (not (isTaken h word s)) s) slots
-
+-- how many slots a token word calls taken
 unfoldable pub takenOf : Header → ℕ → ℕ
 takenOf h word = length (select (isTaken h word) slots)
-
--- the lowest free slot as a number, 4 where there is none
-unfoldable pub lowestFree : Header → ℕ → ℕ
-lowestFree h word = Option·getD (freeIn h word) 4

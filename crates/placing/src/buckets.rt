@@ -1,5 +1,5 @@
-// "A slot is handled as one record of three words, a bucket as four such records." Buckets by value, and what slot choice
-// asks of them.
+// "A slot is handled as one record of three words, a bucket as four such records." Buckets by value, and the choice of a free
+// slot in one.
 use reading::slots::key_at;
 use reading::slots::record_at;
 use reading::tokens::is_taken;
@@ -47,10 +47,11 @@ pub fn bucket(t: &[u64], p: Place) -> [[u64; 3]; 4]
     ]
 }
 
-// The "lowest free slot" of a bucket with that token word: its number, or 4, one past the last record, where there is none. Every
-// bit is asked, from the highest down, and none ends the loop: which slot is free first is not to be foreseen.
+// Slot choice where a slot is free: the "lowest free slot" of a bucket with that token word. Its number is that of the first free
+// record, or 4, one past the last record, where there is none. Every bit is asked, from the highest down, and none ends the loop:
+// which slot is free first is not to be foreseen.
 pub fn lowest_free(h: Header, word: u64, items: [[u64; 3]; 4]) -> usize
-    ensures { λ r. ⌜ (r ≡ lowestFree h word) × (r ≤ 4) ⌝ }
+    ensures { λ r. ⌜ (r ≡ lowestFree h word items) × (r ≤ 4) ⌝ }
 {
     let mut lowest = items.len();
     for i in 0..items.len() {

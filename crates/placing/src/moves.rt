@@ -23,7 +23,6 @@ ghost use Rattle.rules.specs.Placing.{moveOf, candidates};
 ghost use Rattle.reading.specs.Levels.{levelOf, placed};
 ghost use Rattle.reading.specs.Within.{BucketWithin, SlotWithin, AllWithin, PlacingWithin};
 ghost use Rattle.placing.specs.Within.{LevelWithin};
-ghost use Rattle.placing.specs.Buckets.{itemsIn};
 ghost use Rattle.placing.specs.Search.{optional, goalsOf, bucketMove, placesMove};
 
 // Where the items of a part may go, in the level of that name with 2^e buckets: up to either of their places there, or else
@@ -84,10 +83,11 @@ fn move_item(t: &[u64], h: Header, from: Slot, key: u64, way: Way) -> Placing
     move_to(t, h, from, list, goals.n)
 }
 
-// The items of a bucket, "slots 0 to 3". None is asked whether it is taken: moves are tried only where all are.
+// Slot choice where all are taken: the first item of a bucket, "slots 0 to 3", that can give up its slot. Its records tell the
+// keys, and so the places of each item; none is asked whether it is taken, since moves are tried only where all are.
 fn moves_of_bucket(t: &[u64], h: Header, p: Place, items: [[u64; 3]; 4], way: Way) -> Placing
-    requires { ⌜ BucketWithin (now t) (p .bucket) × (items ≡ itemsIn (now t) p) × LevelWithin (now t) (way .e) ⌝ }
-    ensures { λ r. ⌜ (optional r ≡ bucketMove (now (t .entry)) h way p) × PlacingWithin (now (t .entry)) r ⌝ }
+    requires { ⌜ BucketWithin (now t) (p .bucket) × LevelWithin (now t) (way .e) ⌝ }
+    ensures { λ r. ⌜ (optional r ≡ bucketMove (now (t .entry)) h way p items) × PlacingWithin (now (t .entry)) r ⌝ }
 {
     for s in 0..items.len() {
         let found = move_item(t, h, slot_of(p, s), items[s][0], way);

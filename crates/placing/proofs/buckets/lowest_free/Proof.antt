@@ -5,7 +5,7 @@ use mathlib.Core.Logic.{⊎-elim}
 use mathlib.Core.Bool.{not}
 use Prim.Native.Nat.{_+_, _-_, _≤_, _<_}
 use native.Mathlib.Omega.{arith}
-use Rattle.placing.specs.Buckets.{freeIn, lowestFree}
+use Rattle.placing.proofs.Choosing.{freeIn, first-record}
 use Rattle.rules.specs.Words.{isTaken}
 use Rattle.rules.proofs.Lowest.{lowestFrom, lowest-all, lowest-here, lowest-next, lowest-over}
 use Rattle.placing.proofs.buckets.lowest_free.Statement.{statement}
@@ -51,11 +51,11 @@ loop-again c =
     (c .if1 .came)
 
 returns : tie.Need-returns Inv-loop μ-loop
-unfolding lowestFree freeIn
+unfolding freeIn
 returns c =
     let v = c .before .loop .inv in
     let over : 4 - c .before .loop .i ≡ 0 = omega (arith, c .loop-test .left) in
-    (rw over at (v .0) ∙ sym (lowest-all _), v .1)
+    (rw over at (v .0) ∙ sym (lowest-all _) ∙ first-record _ _ _ (omega (arith, c .before .before .good .1 .1 .0 .1 .0 .1)), v .1)
 
 pub lowest-free-spec : {M : Type 1} → statement M
 lowest-free-spec =

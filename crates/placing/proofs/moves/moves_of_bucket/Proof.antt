@@ -9,14 +9,13 @@ use Rattle.rules.specs.Words.{slotAt, slotsIn}
 use Rattle.rules.proofs.Walks.{slots-next, slots-end}
 use Rattle.placing.specs.Search.{optional, itemMove, bucketMove}
 use Rattle.rules.proofs.Along.{along, along-pass, along-hit, along-over}
-use Rattle.placing.proofs.Choosing.{record-key}
 use Rattle.placing.proofs.Placings.{nowhere, somewhere}
 use Rattle.placing.proofs.Moving.{item-of, bucket-all}
 use Rattle.placing.proofs.moves.moves_of_bucket.Statement.{statement}
 use Rattle.placing.proofs.moves.moves_of_bucket.Tie as tie
 
 abbrev Inv-loop : tie.InvT-loop
-Inv-loop t h p way items s₀ s = bucketMove t h way p ≡ along (itemMove t h way) (slotsIn p) s
+Inv-loop t h p way items s₀ s = bucketMove t h way p items ≡ along (itemMove t h way items) (slotsIn p) s
 
 abbrev μ-loop : tie.MeasureT-loop
 μ-loop t h p way items s₀ s = 4 - s
@@ -25,13 +24,13 @@ abbrev μ-loop : tie.MeasureT-loop
 moved : (c : tie.After-move-item Inv-loop μ-loop) →
     let d = c .before .before .before in
     let a = d .before .before .before .args in
-    optional (c .move-item .result) ≡ itemMove (now (a .t)) (a .h) (a .way) (slotAt (a .p) (d .before .loop .s))
+    optional (c .move-item .result) ≡ itemMove (now (a .t)) (a .h) (a .way) (a .t4) (slotAt (a .p) (d .before .loop .s))
 moved c =
     let d = c .before .before .before in
-    c .move-item .ensures .0 ∙ item-of _ _ _ _ _ (c .before .before .slot-of .ensures .0) (record-key _ _ (d .before .before .before .pre .1) _ (d .loop-test .taken))
+    c .move-item .ensures .0 ∙ item-of _ _ _ _ _ _ (c .before .before .slot-of .ensures .0)
 
 loop-holds : tie.Need-loop-holds Inv-loop μ-loop
-loop-holds c = bucket-all _ _ _ _
+loop-holds c = bucket-all _ _ _ _ _
 
 slot-of-requires : tie.Need-slot-of-requires Inv-loop μ-loop
 slot-of-requires c κs = omega arith

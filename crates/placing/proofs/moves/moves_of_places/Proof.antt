@@ -8,16 +8,16 @@ use denote.Ref.{now}
 use lib.ListN.{length, take, getD}
 use Rattle.rules.proofs.Walks.{among-first}
 use Rattle.reading.specs.Within.{BucketWithin}
-use Rattle.placing.specs.Search.{bucketMove, placesMove}
+use Rattle.placing.specs.Search.{optional, placeMove, placesMove}
 use Rattle.rules.proofs.Along.{along, first-pass, first-hit, first-over}
 use Rattle.placing.proofs.Goals.{past}
 use Rattle.placing.proofs.Placings.{nowhere, somewhere}
-use Rattle.placing.proofs.Moving.{places-all}
+use Rattle.placing.proofs.Moving.{place-move, places-all}
 use Rattle.placing.proofs.moves.moves_of_places.Statement.{statement}
 use Rattle.placing.proofs.moves.moves_of_places.Tie as tie
 
 abbrev Inv-loop : tie.InvT-loop
-Inv-loop t h n way places i₀ i = placesMove t h way (take n places) ≡ along (bucketMove t h way) (take n places) i
+Inv-loop t h n way places i₀ i = placesMove t h way (take n places) ≡ along (placeMove t h way) (take n places) i
 
 abbrev μ-loop : tie.MeasureT-loop
 μ-loop t h n way places i₀ i = n - i
@@ -33,6 +33,13 @@ within c =
     let d = c .before .before .before in
     d .pre .1 _ (among-first past _ _ (fits d) _ (c .loop-test .taken))
 
+-- the items of that place were tried
+moved : (c : tie.After-moves-of-bucket Inv-loop μ-loop) →
+    let d = c .before .before .before in
+    let a = d .before .before .before .args in
+    optional (c .moves-of-bucket .result) ≡ placeMove (now (a .t)) (a .h) (a .way) (getD (a .t3) (d .before .loop .i) past)
+moved c = c .moves-of-bucket .ensures .0 ∙ place-move _ _ _ _ (c .before .bucket .ensures)
+
 loop-holds : tie.Need-loop-holds Inv-loop μ-loop
 loop-holds c = places-all _ _ _ _
 
@@ -46,7 +53,7 @@ bucket-requires : tie.Need-bucket-requires Inv-loop μ-loop
 bucket-requires c κs = within (c .before)
 
 moves-of-bucket-requires : tie.Need-moves-of-bucket-requires Inv-loop μ-loop
-moves-of-bucket-requires c κs = (within (c .before .before), c .bucket .ensures, c .before .before .before .before .before .pre .2)
+moves-of-bucket-requires c κs = (within (c .before .before), c .before .before .before .before .before .pre .2)
 
 enum-told : tie.Need-enum-told Inv-loop μ-loop
 enum-told c = search needs
@@ -56,7 +63,7 @@ returns c =
     let d = c .before .before .before .before in
     let m = c .before .moves-of-bucket in
     let s = somewhere (m .result) (c .match .keys2) in
-    (s ∙ sym (d .before .loop .inv ∙ first-hit _ past _ _ (fits (d .before .before .before)) _ (d .loop-test .taken) (sym (m .ensures .0) ∙ s)), m .ensures .1)
+    (s ∙ sym (d .before .loop .inv ∙ first-hit _ past _ _ (fits (d .before .before .before)) _ (d .loop-test .taken) (sym (moved (c .before)) ∙ s)), m .ensures .1)
 
 add-i : tie.Need-add-i Inv-loop μ-loop
 add-i c = omega arith
@@ -68,7 +75,7 @@ loop-again : tie.Need-loop-again Inv-loop μ-loop
 loop-again c =
     let d = c .before .before .before .before .before in
     let m = c .before .before .moves-of-bucket in
-    d .before .loop .inv ∙ first-pass _ past _ _ (fits (d .before .before .before)) _ (d .loop-test .taken) (sym (m .ensures .0) ∙ nowhere (m .result) (c .before .match .keys1))
+    d .before .loop .inv ∙ first-pass _ past _ _ (fits (d .before .before .before)) _ (d .loop-test .taken) (sym (moved (c .before .before)) ∙ nowhere (m .result) (c .before .match .keys1))
 
 returns-2 : tie.Need-returns-2 Inv-loop μ-loop
 returns-2 c = (sym (c .before .loop .inv ∙ first-over _ past _ _ (fits (c .before .before .before)) _ (c .loop-test .left)), tt)
