@@ -68,10 +68,6 @@ module _ (t : Table) (h : Header) (key : ℕ) (r : Record) {p : Placing} (q : p 
   pub take-listed : (x : Slot) → Takes t p x → listed (placingStores t h p key r) ≡ insertIn t h (Absent 0) key r
   take-listed x k = rw (← q) (placed-listed t p x (placingStores t h p key r) k)
 
-  pub take-free : {y : Slot} → p ≡ Free y → listed (putStores h (tokenOf t (y .bucket)) y key r) ≡ insertIn t h (Absent 0) key r
-  unfolding placingStores putStores
-  take-free e = rw (← q, e)
-
 -- ---- an update's stores
 
 module _ (t : Table) (h : Header) (l : List ℕ) (x : Slot) (key : ℕ) (r : Record) (p : Placing) (o : optional p ≡ Option·map Free (freeSlot t h (placeOf x))) where

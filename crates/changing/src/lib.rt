@@ -4,9 +4,8 @@ use listing::log;
 use listing::placed;
 use listing::put;
 use listing::redo;
-use placing::moves::moving;
+use placing::placing;
 use placing::room::free_slot;
-use placing::room::room;
 use querying::lookup::lookup;
 use querying::lookup::lookup_by;
 use reading::gate::Gate;
@@ -26,14 +25,14 @@ use rules::Slot;
 ghost use mathlib.Core.Path.{_≡_};
 ghost use Prim.Native.Nat.{_^_, _≤_, _<_};
 ghost use lib.ListN.{length};
-ghost use Rattle.rules.specs.Words.{tokenOf, GoodHeader};
+ghost use Rattle.rules.specs.Words.{GoodHeader};
 ghost use Rattle.rules.specs.Places.{hashesOf, lookup as lookupOf};
-ghost use Rattle.rules.specs.Stores.{putStores, updateStores};
-ghost use Rattle.rules.specs.Calls.{listed, insertIn, updateIn, deleteIn, insert as insertCall, update as updateCall, delete as deleteCall};
+ghost use Rattle.rules.specs.Stores.{placingStores, updateStores};
+ghost use Rattle.rules.specs.Calls.{insertIn, updateIn, deleteIn, insert as insertCall, update as updateCall, delete as deleteCall};
 ghost use Rattle.rules.specs.declared.Lookup.the-variants.{Absent};
-ghost use Rattle.reading.specs.Within.{SlotWithin};
-ghost use Rattle.placing.specs.Search.{NoRoom};
-ghost use Rattle.listing.specs.Listing.{Run};
+ghost use Rattle.rules.specs.declared.Placing.the-variants.{Move as move};
+ghost use Rattle.reading.specs.Within.{SlotWithin, PlacingWithin};
+ghost use Rattle.listing.specs.Listing.{Run, Takes};
 ghost use Rattle.listing.specs.Promises.{Changed, Did};
 
 // "delete | token cleared"
@@ -109,42 +108,55 @@ pub fn update(t: &[u64], list: &mut [u64], key: u64, r: Record) -> Change
     }
 }
 
-// "If all are full, one move." "Otherwise there is no place": the placing is taken apart, and the new item takes its slot y.
-fn insert_by_move(t: &[u64], list: &mut [u64], h: Header, key: u64, x: Hashes, r: Record) -> Change
-    requires { ⌜ (20 ≤ length (now list)) × GoodHeader (length (now t)) h × (x ≡ hashesOf h key) × NoRoom (now t) h x 2 ⌝ }
-    ensures { λ a. ⌜ Did (insertIn (now (t .entry)) h (Absent 0) key r) (now (list .entry)) a (now (list .exit)) ⌝ }
+// "insert with move": the new item takes the slot that the move frees.
+fn insert_by_move(
+    t: &[u64],
+    list: &mut [u64],
+    h: Header,
+    from: Slot,
+    to: Slot,
+    key: u64,
+    r: Record,
+) -> usize
+    requires { ⌜ (20 ≤ length (now list)) × (length (now t) < 2 ^ 32) × PlacingWithin (now t) (move from to) ⌝ }
+    ensures { λ n. ⌜ Run n (now (list .entry)) (now (list .exit)) (placingStores (now (t .entry)) h (move from to) key r) × (n ≤ 9) ⌝ }
 {
-    let p = moving(t, h, x);
-    let (Placing::Free(y) | Placing::Move(y, _)) = p else {
-        return Change::Refused(Refusal::NoPlace);
-    };
-    let n = placed(t, list, h, p, y, key, r);
-    Change::Listed(n as u64)
+    placed(t, list, h, Placing::Move(from, to), from, key, r)
 }
 
-// A key that stands nowhere, in the free slot y: "key, function, place, token".
-fn insert_free(t: &[u64], list: &mut [u64], h: Header, y: Slot, key: u64, r: Record) -> Change
-    requires { ⌜ (20 ≤ length (now list)) × (length (now t) < 2 ^ 32) × SlotWithin (now t) y ⌝ }
-    ensures { λ a. ⌜ Did (listed (putStores h (tokenOf (now (t .entry)) (y .bucket)) y key r)) (now (list .entry)) a (now (list .exit)) ⌝ }
+// The stores of a placing by which a new item takes slot y. Free slots are what there mostly is: their four stores are written here,
+// and only a move is handed on.
+fn insert_stores(
+    t: &[u64],
+    list: &mut [u64],
+    h: Header,
+    p: Placing,
+    y: Slot,
+    key: u64,
+    r: Record,
+) -> usize
+    requires { ⌜ (20 ≤ length (now list)) × (length (now t) < 2 ^ 32) × Takes (now t) p y ⌝ }
+    ensures { λ n. ⌜ Run n (now (list .entry)) (now (list .exit)) (placingStores (now (t .entry)) h p key r) × (n ≤ 9) ⌝ }
 {
-    let filled = put(list, 0, h, token(t, y.bucket), y, key, r);
-    Change::Listed(filled as u64)
+    if let Placing::Move(from, to) = p {
+        return insert_by_move(t, list, h, from, to, key, r);
+    }
+    put(list, 0, h, token(t, y.bucket), y, key, r)
 }
 
-// "In the top, the place with fewer taken slots (tie: first place), lowest free slot. If both are full, the same in the bottom."
-// Free slots are what there mostly is, so one is put to use as soon as it is found, and no placing is handed on. How many buckets
-// the lookup looked at before it found the key absent plays no part: the promise says 0.
+// "So a placing is a free slot, a move of one slot to another, or nothing." The new item takes slot y, the free one or the one
+// that the move frees; "Otherwise there is no place". How many buckets the lookup looked at before it found the key absent plays no
+// part: the promise says 0.
 fn insert_absent(t: &[u64], list: &mut [u64], h: Header, key: u64, x: Hashes, r: Record) -> Change
     requires { ⌜ (20 ≤ length (now list)) × GoodHeader (length (now t)) h × (x ≡ hashesOf h key) ⌝ }
     ensures { λ a. ⌜ Did (insertIn (now (t .entry)) h (Absent 0) key r) (now (list .entry)) a (now (list .exit)) ⌝ }
 {
-    for level in 0..2 {
-        let found = room(t, h, x, level, h.state.k - level);
-        if let Placing::Free(y) = found {
-            return insert_free(t, list, h, y, key, r);
-        }
-    }
-    insert_by_move(t, list, h, key, x, r)
+    let p = placing(t, h, key, x);
+    let (Placing::Free(y) | Placing::Move(y, _)) = p else {
+        return Change::Refused(Refusal::NoPlace);
+    };
+    let n = insert_stores(t, list, h, p, y, key, r);
+    Change::Listed(n as u64)
 }
 
 // "for insert 4 before 6"

@@ -7,7 +7,7 @@ use interim::first_item;
 use listing::clear;
 use listing::placed;
 use listing::store;
-use placing::placing as place_for;
+use placing::interim_placing;
 use reading::gate::Gate;
 use reading::gate::change_gate;
 use reading::places::hashes;
@@ -79,7 +79,7 @@ fn step_item(t: &[u64], list: &mut [u64], h: Header, x: Slot) -> Stepped
     ensures { λ r. ⌜ DidStep (now (t .entry)) h (stepIn (now (t .entry)) h (some x)) (now (list .entry)) r (now (list .exit)) ⌝ }
 {
     let key = key_at(t, x);
-    let p = place_for(t, h, key, hashes(h, key));
+    let p = interim_placing(t, h, key, hashes(h, key));
     let (Placing::Free(y) | Placing::Move(y, _)) = p else {
         return unplaced(Refusal::NoPlace);
     };

@@ -1,12 +1,11 @@
 -- The places tried for an item: which they are, and that they lie in the table.
 -- Assumes nothing.
-use Prim.Native.Nat.{ℕ, zero, suc, _-_, _*_, _^_, _≤_, _<_}
+use Prim.Native.Nat.{ℕ, zero, suc, _-_, _*_, _^_, _≤_}
 use mathlib.Core.Path.{_≡_}
 use mathlib.Core.Bool.{Bool, true, false, not, cond}
 use mathlib.Core.List.{List, [], _∷_, List·Memᴰ as In, List·Memᴰ·head as here, List·Memᴰ·tail as there, List·Memᴰ·not-nil, List·Memᴰ·cases-cons}
 use mathlib.Core.Logic.{⊎-elim}
 use native.Mathlib.Omega.{arith}
-use native.Mathlib.Numerals.{unary-clauses}
 use lib.ListN.{length, take}
 use lib.Pow.{pow-pos}
 use lib.Dec.{eqb}
@@ -73,11 +72,6 @@ top-and-bottom t h g = let z = sizes (length t) h g in record { two = omega (ari
         let z = sizes (length t) h g in
         let last = bucket-fits (length t) h g e (2 * 2 ^ e - 2) (omega (arith, z .most)) (omega (arith, pow-pos e)) in
         (omega (arith, z .most, z .cap), omega (arith, pow-pos e))
-
-pub level-within : (t : Table) (h : Header) → GoodHeader (length t) h → (level : ℕ) → level < 2 → (level ≤ h .state .k) × LevelWithin t (h .state .k - level)
-level-within t h g zero l = (omega arith, simp unary-clauses (top-and-bottom t h g .top))
-level-within t h g (suc zero) l = (top-and-bottom t h g .two, top-and-bottom t h g .bottom)
-level-within t h g (suc (suc level)) l = absurd (omega arith)
 
 module _ (t : Table) (name e : ℕ) (l : LevelWithin t e) (y : Hashes) where
   pub level-places : AllWithin t (placesIn y (levelOf name e))

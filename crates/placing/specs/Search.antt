@@ -1,14 +1,13 @@
 -- The search for a place as the code goes through it: item by item, bucket by bucket, part by part.
 -- Assumes nothing.
-use Prim.Native.Nat.{ℕ, _-_, _<_}
-use mathlib.Core.Path.{_≡_}
+use Prim.Native.Nat.{ℕ}
 use mathlib.Core.Bool.{cond}
 use mathlib.Core.List.{List}
 use mathlib.Core.Option.{Option, none, some}
 use Rattle.rules.specs.Choice.{firstOf}
 use Rattle.rules.specs.Words.{Table, slotsIn}
 use Rattle.rules.specs.Places.{hashesOf, placesIn}
-use Rattle.rules.specs.Placing.{roomIn, otherPlace, moveOf}
+use Rattle.rules.specs.Placing.{otherPlace, moveOf}
 use Rattle.rules.specs.declared.Header.{Header}
 use Rattle.rules.specs.declared.Hashes.{Hashes}
 use Rattle.rules.specs.declared.Place.{Place}
@@ -43,7 +42,3 @@ placeMove t h w p = bucketMove t h w p (itemsIn t p)
 
 unfoldable pub placesMove : Table → Header → Way → List Place → Option Placing
 placesMove t h w ps = firstOf (placeMove t h w) ps
-
--- of the levels from the top down, the first n have no room for a key
-abbrev pub NoRoom : Table → Header → Hashes → ℕ → Type 0
-NoRoom t h x n = (level : ℕ) → level < n → roomIn t h x (levelOf level (h .state .k - level)) ≡ none

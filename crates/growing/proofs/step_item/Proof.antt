@@ -13,9 +13,9 @@ use Rattle.growing.proofs.step_item.Statement.{statement}
 use Rattle.growing.proofs.step_item.Tie as tie
 
 -- the placing as it was taken apart, and the slot of its new item
-taken : (c : tie.At-match-came) → (c .match .p ≡ c .before .placing .result) × Takes (now (c .before .before .before .before .before .before .args .t)) (c .match .p) (c .match .y)
+taken : (c : tie.At-match-came) → (c .match .p ≡ c .before .interim-placing .result) × Takes (now (c .before .before .before .before .before .before .args .t)) (c .match .p) (c .match .y)
 taken c =
-    let w = c .before .placing .ensures .1 in
+    let w = c .before .interim-placing .ensures .1 in
     ⊎-elim (λ u. apart-free _ (u .1 .given .1) (u .3) (u .4) w) (λ u. apart-move _ (u .1 .given .1) (u .3) (u .4) w) (c .match .came)
 
 key-at-requires : tie.Need-key-at-requires
@@ -24,8 +24,8 @@ key-at-requires c κs = search needs
 hashes-requires : tie.Need-hashes-requires
 hashes-requires c κs = search needs
 
-placing-requires : tie.Need-placing-requires
-placing-requires c κs = (c .before .before .before .before .pre .1, c .hashes .ensures)
+interim-placing-requires : tie.Need-interim-placing-requires
+interim-placing-requires c κs = (c .before .before .before .before .pre .1, c .hashes .ensures)
 
 enum-known-p : tie.Need-enum-known-p
 enum-known-p c = search needs
@@ -43,7 +43,7 @@ returns : tie.Need-returns
 returns c =
     let m = c .before .before in
     let p = m .before in
-    did-step-refuse _ _ _ (step-nowhere _ _ _ (p .before .before .key-at .ensures) (p .placing .result) (p .placing .ensures .0) (m .match .keys3)) (c .unplaced .ensures)
+    did-step-refuse _ _ _ (step-nowhere _ _ _ (p .before .before .key-at .ensures) (p .interim-placing .result) (p .interim-placing .ensures .0) (m .match .keys3)) (c .unplaced .ensures)
 
 record-at-requires : tie.Need-record-at-requires
 record-at-requires c κs = search needs
@@ -74,7 +74,7 @@ returns-2 c =
     let k = p .before .before in
     let s = k .before .before .before in
     let z = taken m in
-    let q = z .0 ∙ p .placing .ensures .0 in
+    let q = z .0 ∙ p .interim-placing .ensures .0 in
     did-step _ _ _ _ (s .pre .3) (k .key-at .ensures) (r .record-at .ensures) q (u .before .token .ensures) (s .pre .0) (d .placed .ensures) (u .clear .ensures) (step-listed _ _ _ (k .key-at .ensures) _ q _ (z .1))
 
 pub step-item-spec : {M : Type 1} → statement M
@@ -83,7 +83,7 @@ step-item-spec =
     (tie.spec
     key-at-requires
     hashes-requires
-    placing-requires
+    interim-placing-requires
     enum-known-p
     enum-known-p-2
     enum-told
