@@ -14,10 +14,12 @@ ghost use Rattle.rules.specs.Choice.{firstOf};
 ghost use Rattle.rules.specs.Words.{GoodHeader};
 ghost use Rattle.rules.specs.Places.{hashesOf};
 ghost use Rattle.rules.specs.Placing.{moveOf, candidates, placing as placingOf};
+ghost use Rattle.rules.specs.Answers.{PlacingTells};
 ghost use Rattle.reading.specs.Within.{PlacingWithin};
 ghost use Rattle.placing.specs.Search.{optional};
 
-// "If all are full, one move." "Otherwise there is no place."
+// "If all are full, one move." "Otherwise there is no place." It stands between `placing` and the search so that header and hashes
+// are handed through memory here alone.
 fn one_move(t: &[u64], h: Header, x: Hashes) -> Placing
     requires { ⌜ GoodHeader (length (now t)) h ⌝ }
     ensures { λ r. ⌜ (optional r ≡ firstOf (moveOf (now (t .entry)) h) (candidates (now (t .entry)) h x)) × PlacingWithin (now (t .entry)) r ⌝ }
@@ -31,10 +33,10 @@ fn one_move(t: &[u64], h: Header, x: Hashes) -> Placing
 
 // "In the top, the place with fewer taken slots (tie: first place), lowest free slot. If both are full, the same in the bottom.
 // If all are full, one move." Level 0 is the top, of 2^k buckets, and level 1 the bottom. The key's hashes x are handed in: whoever
-// asks has them already.
+// asks has them already. A free slot is written out as the answer, and no enum copied: so an insert keeps it in registers.
 pub fn placing(t: &[u64], h: Header, key: u64, x: Hashes) -> Placing
     requires { ⌜ GoodHeader (length (now t)) h × (x ≡ hashesOf h key) ⌝ }
-    ensures { λ r. ⌜ (r ≡ placingOf (now (t .entry)) h key) × PlacingWithin (now (t .entry)) r ⌝ }
+    ensures { λ r. ⌜ PlacingTells r (placingOf (now (t .entry)) h key) × PlacingWithin (now (t .entry)) r ⌝ }
 {
     let k = h.state.k;
     let in_top = room(t, h, x, 0, k);
@@ -52,7 +54,7 @@ pub fn placing(t: &[u64], h: Header, key: u64, x: Hashes) -> Placing
 // part of the call that asks, and so an insert hands its placing through no memory.
 pub fn interim_placing(t: &[u64], h: Header, key: u64, x: Hashes) -> Placing
     requires { ⌜ GoodHeader (length (now t)) h × (x ≡ hashesOf h key) ⌝ }
-    ensures { λ r. ⌜ (r ≡ placingOf (now (t .entry)) h key) × PlacingWithin (now (t .entry)) r ⌝ }
+    ensures { λ r. ⌜ PlacingTells r (placingOf (now (t .entry)) h key) × PlacingWithin (now (t .entry)) r ⌝ }
 {
     let k = h.state.k;
     let above = room(t, h, x, 0, k);

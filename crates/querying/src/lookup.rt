@@ -14,6 +14,7 @@ ghost use mathlib.Core.Path.{_≡_};
 ghost use lib.ListN.{length};
 ghost use Rattle.rules.specs.Words.{GoodHeader};
 ghost use Rattle.rules.specs.Places.{hashesOf, probes, hitIn, seek, lookup as lookupOf};
+ghost use Rattle.rules.specs.Answers.{LookupTells};
 ghost use Rattle.reading.specs.Within.{Standing};
 
 // "A query stops at the first taken slot with the key. Its probe count is the number of buckets looked at up to and
@@ -54,14 +55,14 @@ fn find(t: &[u64], h: Header, key: u64, x: Hashes) -> Lookup
 // The lookup of a key whose hashes are known.
 pub fn lookup_by(t: &[u64], h: Header, key: u64, x: Hashes) -> Lookup
     requires { ⌜ GoodHeader (length (now t)) h × (x ≡ hashesOf h key) ⌝ }
-    ensures { λ r. ⌜ (r ≡ lookupOf (now (t .entry)) h key) × Standing (now (t .entry)) r ⌝ }
+    ensures { λ r. ⌜ LookupTells r (lookupOf (now (t .entry)) h key) × Standing (now (t .entry)) r ⌝ }
 {
     find(t, h, key, x)
 }
 
 pub fn lookup(t: &[u64], h: Header, key: u64) -> Lookup
     requires { ⌜ GoodHeader (length (now t)) h ⌝ }
-    ensures { λ r. ⌜ (r ≡ lookupOf (now (t .entry)) h key) × Standing (now (t .entry)) r ⌝ }
+    ensures { λ r. ⌜ LookupTells r (lookupOf (now (t .entry)) h key) × Standing (now (t .entry)) r ⌝ }
 {
     lookup_by(t, h, key, hashes(h, key))
 }

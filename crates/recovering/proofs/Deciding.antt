@@ -15,6 +15,7 @@ use borrow.Author.Tests.{eq-eqb, ne-eqb}
 use Rattle.rules.specs.Choice.{all}
 use Rattle.rules.specs.Words.{Table, headerOf, GoodHeader, flagOf, allBuckets, unusedBuckets, recordIn}
 use Rattle.rules.specs.Soundness.{takenSlots, TakenSlot, tokensTidy, unusedEmpty, inPlace, orderlyTests, twins, sameRecord, whenStill, target, whenFlagged, finding}
+use Rattle.rules.specs.Answers.{FindingTells}
 use Rattle.rules.specs.declared.Header.{Header}
 use Rattle.rules.specs.declared.Slot.{Slot}
 use Rattle.rules.specs.declared.Finding.{Finding}
@@ -22,6 +23,7 @@ use Rattle.rules.specs.declared.Finding.the-variants.{Doubled, Flagged, Neither
 use Rattle.rules.specs.declared.Record.{Record}
 use Rattle.rules.proofs.Headers.{header-passes}
 use Rattle.rules.proofs.Tests.{all-no}
+use Rattle.rules.proofs.Meanings.{finding-tells}
 use Rattle.rules.proofs.PlacesInUse.{slot-within}
 use Rattle.rules.proofs.Twins.{taken-in, twins-ordered}
 use Rattle.rules.proofs.Copies.{copies, copy-twins, linear, still-alike, flagged-alike, target-some}
@@ -130,13 +132,13 @@ module _ (t : Table) (g : GoodHeader (length t) (headerOf t)) where
 
 -- an answer, with its slots in the table
 abbrev pub Answer : Table → Finding → Type 0
-Answer t r = (r ≡ finding t) × FindingWithin t r
+Answer t r = FindingTells r (finding t) × FindingWithin t r
 
 module _ (t : Table) {h : Header} (own : h ≡ headerOf t) where
   -- one test that fails with every flag
   neither : ((f : ℕ) → all (orderlyTests f t) ≡ false) → Answer t Neither
   unfolding finding
-  neither e = (rw (e 0, e 1), tt)
+  neither e = (finding-tells (rw (e 0, e 1)), tt)
 
   pub find-untidy : all (map (tidyToken t h) (allBuckets h)) ≡ false → Answer t Neither
   unfolding orderlyTests tokensTidy tidyToken
@@ -153,7 +155,7 @@ module _ (t : Table) {h : Header} (own : h ≡ headerOf t) where
 
   pub find-misflagged : (flagOf t ≡ 0 → ⊥) → (flagOf t ≡ 1 → ⊥) → Answer t Neither
   unfolding finding
-  find-misflagged n m = (rw (misflagged 0 n, misflagged 1 m), tt)
+  find-misflagged n m = (finding-tells (rw (misflagged 0 n, misflagged 1 m)), tt)
 
   module _ (g : GoodHeader (length t) h) (tidy : all (map (tidyToken t h) (allBuckets h)) ≡ true) (unused : all (map (zeroToken t) (unusedBuckets h)) ≡ true) where
     good : GoodHeader (length t) (headerOf t)
@@ -186,8 +188,8 @@ module _ (t : Table) {h : Header} (own : h ≡ headerOf t) where
 
     pub find-still : {scan : Scan} {r : Finding} → scan ≡ scanOf t h → flagOf t ≡ 0 → r ≡ stillOf t scan → Answer t r
     find-still {scan} q e f =
-        (f ∙ ap (stillOf t) (q ∙ ap (scanOf t) own) ∙ still-found e, rw f (still-within t good scan (rw (q, own) (scan-within t good))))
+        (finding-tells (f ∙ ap (stillOf t) (q ∙ ap (scanOf t) own) ∙ still-found e), rw f (still-within t good scan (rw (q, own) (scan-within t good))))
 
     pub find-flagged : {scan : Scan} {o : Option Slot} {r : Finding} → scan ≡ scanOf t h → o ≡ target t → flagOf t ≡ 1 → r ≡ flaggedOf o scan → Answer t r
     find-flagged {scan} q k e f =
-        (f ∙ rw (k, q, own) (flagged-found e), rw (f, k) (flagged-within t good scan))
+        (finding-tells (f ∙ rw (k, q, own) (flagged-found e)), rw (f, k) (flagged-within t good scan))

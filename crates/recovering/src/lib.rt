@@ -25,6 +25,7 @@ ghost use Prim.Native.Nat.{_≤_};
 ghost use lib.ListN.{length};
 ghost use Rattle.rules.specs.Words.{headerOf, GoodHeader};
 ghost use Rattle.rules.specs.Soundness.{finding as findingOf, sameRecord};
+ghost use Rattle.rules.specs.Answers.{FindingTells};
 ghost use Rattle.rules.specs.Calls.{recoverOf, recover as recoverCall};
 ghost use Rattle.listing.specs.Promises.{Changed, Did};
 ghost use Rattle.recovering.specs.Found.{ScanWithin, FindingWithin, targetMeans, stillOf, flaggedOf};
@@ -71,7 +72,7 @@ fn flagged(scan: Scan, target: Target) -> Finding
 // "Recovery accepts exactly three kinds of table": which one this is.
 pub fn finding(t: &[u64], h: Header) -> Finding
     requires { ⌜ GoodHeader (length (now t)) h × (h ≡ headerOf (now t)) ⌝ }
-    ensures { λ r. ⌜ (r ≡ findingOf (now (t .entry))) × FindingWithin (now (t .entry)) r ⌝ }
+    ensures { λ r. ⌜ FindingTells r (findingOf (now (t .entry))) × FindingWithin (now (t .entry)) r ⌝ }
 {
     if !tokens_tidy(t, h) {
         return Finding::Neither;

@@ -11,7 +11,7 @@ use Rattle.rules.specs.Words.{Table}
 use Rattle.rules.specs.Stores.{Store, clearStores, redoStores}
 use Rattle.rules.specs.Calls.{placedBy, recoverOf}
 use Rattle.rules.specs.Results.{changeOf, queryAt}
-use Rattle.rules.specs.Answers.{numberOf, Meaning, changeMeans, queryMeans, verdictMeans, lookupMeans, placingMeans, findingMeans, steppedMeans}
+use Rattle.rules.specs.Answers.{numberOf, Meaning, changeMeans, queryMeans, verdictMeans, lookupMeans, placingMeans, findingMeans, LookupTells, PlacingTells, FindingTells, steppedMeans}
 use Rattle.rules.specs.declared.Header.{Header}
 use Rattle.rules.specs.declared.Slot.{Slot}
 use Rattle.rules.specs.declared.Lookup.{Lookup}
@@ -181,6 +181,32 @@ stepped-back a = stepped-of (a .change) (a .placing)
 
 pub stepped-one : (a b : Stepped) → steppedMeans a ≡ steppedMeans b → a ≡ b
 stepped-one a b e = told steppedMeans readStepped stepped-back a b e
+
+-- ---- what the promise of a search tells: which answer it gave
+
+pub lookup-tells : {a b : Lookup} → a ≡ b → LookupTells a b
+unfolding LookupTells
+lookup-tells e = ap lookupMeans e
+
+pub lookup-told-by : {a b : Lookup} → LookupTells a b → a ≡ b
+unfolding LookupTells
+lookup-told-by {a} {b} e = lookup-one a b e
+
+pub placing-tells : {a b : Placing} → a ≡ b → PlacingTells a b
+unfolding PlacingTells
+placing-tells e = ap placingMeans e
+
+pub placing-told-by : {a b : Placing} → PlacingTells a b → a ≡ b
+unfolding PlacingTells
+placing-told-by {a} {b} e = placing-one a b e
+
+pub finding-tells : {a b : Finding} → a ≡ b → FindingTells a b
+unfolding FindingTells
+finding-tells e = ap findingMeans e
+
+pub finding-told-by : {a b : Finding} → FindingTells a b → a ≡ b
+unfolding FindingTells
+finding-told-by {a} {b} e = finding-one a b e
 
 -- ---- what a call's own search answers means what the call answers by it
 

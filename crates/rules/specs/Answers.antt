@@ -1,6 +1,7 @@
 -- Document 01, "Refusal numbers": what each case of an answer means as this paper's number and values.
 -- Assumes nothing.
 use Prim.Native.Nat.{ℕ}
+use mathlib.Core.Path.{_≡_}
 use mathlib.Core.List.{List, [], _∷_, _++_}
 use Rattle.rules.specs.declared.Slot.{Slot}
 use Rattle.rules.specs.declared.Lookup.{Lookup}
@@ -77,6 +78,16 @@ findingMeans Sound = record { number = 0; values = 0 ∷ [] }
 findingMeans (Doubled kept later) = record { number = 0; values = 1 ∷ slotMeans kept ++ slotMeans later }
 findingMeans (Flagged x) = record { number = 0; values = 3 ∷ slotMeans x }
 findingMeans Neither = record { number = numberOf NoKind; values = 0 ∷ [] }
+
+-- what such a search promises of its answer a, where b is the rules': the same number and values
+unfoldable pub LookupTells : Lookup → Lookup → Type 0
+LookupTells a b = lookupMeans a ≡ lookupMeans b
+
+unfoldable pub PlacingTells : Placing → Placing → Type 0
+PlacingTells a b = placingMeans a ≡ placingMeans b
+
+unfoldable pub FindingTells : Finding → Finding → Type 0
+FindingTells a b = findingMeans a ≡ findingMeans b
 
 -- a step's answer: its number and stores, then its placing
 unfoldable pub steppedMeans : Stepped → Meaning

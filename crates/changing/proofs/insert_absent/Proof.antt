@@ -5,6 +5,7 @@ use mathlib.Core.Path.{_≡_, _∙_}
 use denote.Ref.{now}
 use native.Mathlib.Omega.{arith}
 use Rattle.rules.proofs.Headers.{table-small}
+use Rattle.rules.proofs.Meanings.{placing-told-by}
 use Rattle.listing.specs.Listing.{Takes}
 use Rattle.listing.proofs.Placings.{apart-free, apart-move}
 use Rattle.listing.proofs.Outcomes.{did-list, did-refuse, did-as}
@@ -32,7 +33,7 @@ enum-told : tie.Need-enum-told
 enum-told c = search needs
 
 returns : tie.Need-returns
-returns c = let p = c .before .before in did-as (take-nowhere _ _ _ _ (p .placing .ensures .0) (c .before .match .keys3)) (did-refuse _ _)
+returns c = let p = c .before .before in did-as (take-nowhere _ _ _ _ (placing-told-by (p .placing .ensures .0)) (c .before .match .keys3)) (did-refuse _ _)
 
 insert-stores-requires : tie.Need-insert-stores-requires
 insert-stores-requires c κs = let s = c .before .before .before .before .before in (s .pre .0, table-small _ _ (s .pre .1), taken (c .before) .1)
@@ -46,7 +47,7 @@ returns-2 c =
     let j = d .before .before in
     let p = j .before in
     let k = taken j in
-    did-as (take-listed _ _ _ _ (k .0 ∙ p .placing .ensures .0) _ (k .1))
+    did-as (take-listed _ _ _ _ (k .0 ∙ placing-told-by (p .placing .ensures .0)) _ (k .1))
     (did-list (d .insert-stores .ensures .0) (p .before .before .before .pre .0) (omega (arith, d .insert-stores .ensures .0 .0, d .insert-stores .ensures .1)))
 
 pub insert-absent-spec : {M : Type 1} → statement M

@@ -5,6 +5,7 @@ use mathlib.Core.Logic.{⊎-elim}
 use native.Mathlib.Omega.{arith}
 use denote.Ref.{now}
 use Rattle.rules.proofs.Headers.{table-small}
+use Rattle.rules.proofs.Meanings.{placing-told-by}
 use Rattle.listing.specs.Listing.{Takes}
 use Rattle.listing.proofs.Placings.{apart-free, apart-move}
 use Rattle.growing.proofs.Stepping.{step-nowhere, step-listed, did-step-refuse, did-step}
@@ -43,7 +44,7 @@ returns : tie.Need-returns
 returns c =
     let m = c .before .before in
     let p = m .before in
-    did-step-refuse _ _ _ (step-nowhere _ _ _ (p .before .before .key-at .ensures) (p .interim-placing .result) (p .interim-placing .ensures .0) (m .match .keys3)) (c .unplaced .ensures)
+    did-step-refuse _ _ _ (step-nowhere _ _ _ (p .before .before .key-at .ensures) (p .interim-placing .result) (placing-told-by (p .interim-placing .ensures .0)) (m .match .keys3)) (c .unplaced .ensures)
 
 record-at-requires : tie.Need-record-at-requires
 record-at-requires c κs = search needs
@@ -74,7 +75,7 @@ returns-2 c =
     let k = p .before .before in
     let s = k .before .before .before in
     let z = taken m in
-    let q = z .0 ∙ p .interim-placing .ensures .0 in
+    let q = z .0 ∙ placing-told-by (p .interim-placing .ensures .0) in
     did-step _ _ _ _ (s .pre .3) (k .key-at .ensures) (r .record-at .ensures) q (u .before .token .ensures) (s .pre .0) (d .placed .ensures) (u .clear .ensures) (step-listed _ _ _ (k .key-at .ensures) _ q _ (z .1))
 
 pub step-item-spec : {M : Type 1} → statement M

@@ -2,6 +2,7 @@
 -- Assumes nothing.
 use mathlib.Core.Logic.{inr}
 use denote.Ref.{now}
+use Rattle.rules.proofs.Meanings.{placing-tells}
 use Rattle.placing.proofs.Goals.{TopAndBottom, top-and-bottom}
 use Rattle.placing.proofs.Placings.{somewhere, not-free, by-top, by-bottom, by-move}
 use borrow.Author.Needs.{needs}
@@ -20,7 +21,7 @@ enum-told c = search needs
 returns : tie.Need-returns
 returns c =
     let p = c .before .room in
-    (by-top _ _ _ (c .before .before .before .pre .1) (p .result) (p .ensures .0) (somewhere (p .result) (c .match .keys2)), p .ensures .1)
+    (placing-tells (by-top _ _ _ (c .before .before .before .pre .1) (p .result) (p .ensures .0) (somewhere (p .result) (c .match .keys2))), p .ensures .1)
 
 sub-room : tie.Need-sub-room
 sub-room c = levels (c .before .before .before .before) .two
@@ -37,7 +38,7 @@ returns-2 c =
     let d = c .before .before .before in
     let p = d .before .room in
     let n = not-free (p .result) (inr (d .match .keys1)) _ (p .ensures .0) in
-    (by-bottom _ _ _ (d .before .before .before .pre .1) n (q .result) (q .ensures .0) (somewhere (q .result) (c .match2 .keys2)), q .ensures .1)
+    (placing-tells (by-bottom _ _ _ (d .before .before .before .pre .1) n (q .result) (q .ensures .0) (somewhere (q .result) (c .match2 .keys2))), q .ensures .1)
 
 moving-requires : tie.Need-moving-requires
 moving-requires c κs = search needs
@@ -51,7 +52,7 @@ returns-3 c =
     let p = d .before .room in
     let n = not-free (p .result) (inr (d .match .keys1)) _ (p .ensures .0) in
     let m = not-free (q .result) (inr (b .match2 .keys1)) _ (q .ensures .0) in
-    (by-move _ _ _ (d .before .before .before .pre .1) n m (r .result) (r .ensures .0), r .ensures .1)
+    (placing-tells (by-move _ _ _ (d .before .before .before .pre .1) n m (r .result) (r .ensures .0)), r .ensures .1)
 
 pub interim-placing-spec : {M : Type 1} → statement M
 interim-placing-spec =

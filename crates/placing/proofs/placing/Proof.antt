@@ -2,6 +2,7 @@
 -- Assumes nothing.
 use mathlib.Core.Path.{sym, _∙_}
 use denote.Ref.{now}
+use Rattle.rules.proofs.Meanings.{placing-tells}
 use Rattle.placing.proofs.Goals.{TopAndBottom, top-and-bottom}
 use Rattle.placing.proofs.Placings.{free-somewhere, not-free, by-top, by-bottom, by-move}
 use borrow.Author.Needs.{needs}
@@ -22,7 +23,7 @@ returns c =
     let f = c .before in
     let q = f .in-top .given .1 in
     let p = f .before .before .room in
-    (sym q ∙ by-top _ _ _ (f .before .before .before .before .pre .1) (p .result) (p .ensures .0) (free-somewhere q), rw q at (p .ensures .1))
+    (placing-tells (sym q ∙ by-top _ _ _ (f .before .before .before .before .pre .1) (p .result) (p .ensures .0) (free-somewhere q)), rw q at (p .ensures .1))
 
 sub-room : tie.Need-sub-room
 sub-room c = levels (c .before .before .before) .two
@@ -41,7 +42,7 @@ returns-2 c =
     let d = f .before .before .before in
     let p = d .before .room in
     let n = not-free (p .result) (d .match .keys2) _ (p .ensures .0) in
-    (sym q ∙ by-bottom _ _ _ (d .before .before .before .pre .1) n (r .result) (r .ensures .0) (free-somewhere q), rw q at (r .ensures .1))
+    (placing-tells (sym q ∙ by-bottom _ _ _ (d .before .before .before .pre .1) n (r .result) (r .ensures .0) (free-somewhere q)), rw q at (r .ensures .1))
 
 one-move-requires : tie.Need-one-move-requires
 one-move-requires c κs = search needs
@@ -55,7 +56,7 @@ returns-3 c =
     let p = d .before .room in
     let n = not-free (p .result) (d .match .keys2) _ (p .ensures .0) in
     let m = not-free (q .result) (b .match2 .keys2) _ (q .ensures .0) in
-    (by-move _ _ _ (d .before .before .before .pre .1) n m (r .result) (r .ensures .0), r .ensures .1)
+    (placing-tells (by-move _ _ _ (d .before .before .before .pre .1) n m (r .result) (r .ensures .0)), r .ensures .1)
 
 pub placing-spec : {M : Type 1} → statement M
 placing-spec =

@@ -5,6 +5,7 @@ use denote.Ref.{now}
 use Rattle.rules.specs.Places.{hitIn, seek, probes, placesOf, lookup}
 use Rattle.rules.specs.declared.Hashes.{Hashes}
 use Rattle.rules.proofs.PlacesWithin.{places-within}
+use Rattle.rules.proofs.Meanings.{lookup-tells}
 use Rattle.querying.proofs.Standings.{seek-within}
 use Rattle.querying.proofs.lookup.lookup_by.Statement.{statement}
 use Rattle.querying.proofs.lookup.lookup_by.Tie as tie
@@ -17,7 +18,7 @@ unfolding lookup placesOf
 returns c =
     let s = c .before .before in
     let a = s .args in (
-      c .find .ensures ∙ ap (λ (x : Hashes). seek (hitIn (now (a .t)) (a .h) (a .key)) 0 (probes (a .h .state) x)) (s .pre .1),
+      lookup-tells (c .find .ensures ∙ ap (λ (x : Hashes). seek (hitIn (now (a .t)) (a .h) (a .key)) 0 (probes (a .h .state) x)) (s .pre .1)),
       rw (c .find .ensures) (seek-within (now (a .t)) (a .h) (a .key) (probes (a .h .state) (a .x)) 0 (λ p i. places-within _ _ (s .pre .0) _ p i)),
     )
 
