@@ -10,6 +10,7 @@ use types.Run.{OneOf}
 use Rattle.rules.specs.Words.{Table, placeOf, keyWord, tokenOf, hide}
 use Rattle.rules.specs.Places.{lookup}
 use Rattle.rules.specs.Placing.{freeSlot, placing}
+use Rattle.rules.specs.Answers.{LookupTells}
 use Rattle.rules.specs.Stores.{putStores, clearStores, placingStores, redoStores, updateStores}
 use Rattle.rules.specs.Calls.{refused, listed, insertIn, updateIn, deleteIn}
 use Rattle.rules.specs.declared.Header.{Header}
@@ -20,6 +21,7 @@ use Rattle.rules.specs.declared.Lookup.the-variants.{Stands, Absent}
 use Rattle.rules.specs.declared.Placing.{Placing}
 use Rattle.rules.specs.declared.Placing.the-variants.{Free}
 use Rattle.rules.specs.declared.Refusal.the-variants.{KeyPresent, KeyAbsent, NoPlace}
+use Rattle.rules.proofs.Meanings.{lookup-told-by}
 use Rattle.rules.proofs.Lookup.{the-type as lookup-type}
 use Rattle.rules.proofs.Placing.{the-type as placing-type}
 use Rattle.placing.specs.Search.{optional}
@@ -39,24 +41,24 @@ pub is-standing : (f : Lookup) → OneOf (0 ∷ []) (tagOf lookup-type f) → (x
 is-standing (Stands x n) e = (x, n, refl)
 is-standing (Absent n) e = absurd (omega arith)
 
-module _ (t : Table) (h : Header) (key : ℕ) {f : Lookup} (l : f ≡ lookup t h key) where
+module _ (t : Table) (h : Header) (key : ℕ) {f : Lookup} (l : LookupTells f (lookup t h key)) where
   pub delete-absent : {n : ℕ} → f ≡ Absent n → refused KeyAbsent ≡ deleteIn t h (lookup t h key)
-  delete-absent e = rw (← l, e)
+  delete-absent e = rw (← lookup-told-by l, e)
 
   pub delete-listed : {x : Slot} {n w : ℕ} → f ≡ Stands x n → w ≡ tokenOf t (x .bucket) → listed (clearStores h w x) ≡ deleteIn t h (lookup t h key)
-  delete-listed e q = rw (← l, e, q)
+  delete-listed e q = rw (← lookup-told-by l, e, q)
 
   pub update-absent : {n : ℕ} (r : Record) → f ≡ Absent n → refused KeyAbsent ≡ updateIn t h (lookup t h key) key r
-  update-absent r e = rw (← l, e)
+  update-absent r e = rw (← lookup-told-by l, e)
 
   pub update-listed : {x : Slot} {n : ℕ} (r : Record) → f ≡ Stands x n → listed (updateStores t h x key r) ≡ updateIn t h (lookup t h key) key r
-  update-listed r e = rw (← l, e)
+  update-listed r e = rw (← lookup-told-by l, e)
 
   pub insert-present : {x : Slot} {n : ℕ} (r : Record) → f ≡ Stands x n → refused KeyPresent ≡ insertIn t h (lookup t h key) key r
-  insert-present r e = rw (← l, e)
+  insert-present r e = rw (← lookup-told-by l, e)
 
   pub insert-absent : {n : ℕ} (r : Record) → f ≡ Absent n → insertIn t h (Absent 0) key r ≡ insertIn t h (lookup t h key) key r
-  insert-absent r e = rw (← l, e)
+  insert-absent r e = rw (← lookup-told-by l, e)
 
 -- ---- an insert's stores
 

@@ -9,7 +9,7 @@ use lib.ListN.{length}
 use Rattle.rules.specs.Words.{Table, headerOf, recordIn}
 use Rattle.rules.specs.Places.{hashesOf, placesOf, hitIn, lookup}
 use Rattle.rules.specs.Calls.{headerGood, flagClear, queryTests}
-use Rattle.rules.specs.Answers.{queryMeans}
+use Rattle.rules.specs.Answers.{queryMeans, LookupTells}
 use Rattle.rules.specs.Results.{queryAt, queryResult}
 use Rattle.rules.specs.declared.Header.{Header}
 use Rattle.rules.specs.declared.Slot.{Slot}
@@ -21,7 +21,7 @@ use Rattle.rules.specs.declared.Refusal.the-variants.{BadHeader, FlagSet, KeyAb
 use Rattle.rules.specs.declared.Query.{Query}
 use Rattle.rules.specs.declared.Query.the-variants.{Known, Unknown}
 use Rattle.rules.proofs.Few.{four-at-rest, six-at-most}
-use Rattle.rules.proofs.Meanings.{query-one}
+use Rattle.rules.proofs.Meanings.{query-one, lookup-told-by}
 use Rattle.reading.specs.Gates.{gateOf}
 use Rattle.reading.specs.declared.gate.Gate.{Gate}
 use Rattle.reading.specs.declared.gate.Gate.the-variants.{Open, Shut}
@@ -79,10 +79,10 @@ module _ (t : Table) (key : ℕ) where
     unfolding queryResult
     refused q = queried (gate-shut t (queryTests t) e (λ (r : Refusal). Unknown r 0) _ q)
 
-    module _ {h : Header} (q : g ≡ Open h) (same : h ≡ headerOf t) {f : Lookup} (l : f ≡ lookup t h key) where
+    module _ {h : Header} (q : g ≡ Open h) (same : h ≡ headerOf t) {f : Lookup} (l : LookupTells f (lookup t h key)) where
       through : queryAt t f ≡ queryResult t key
       unfolding queryResult
-      through = ap (queryAt t) (l ∙ ap (λ (z : Header). lookup t z key) same) ∙ gate-open t (queryTests t) e (λ (r : Refusal). Unknown r 0) _ q
+      through = ap (queryAt t) (lookup-told-by l ∙ ap (λ (z : Header). lookup t z key) same) ∙ gate-open t (queryTests t) e (λ (r : Refusal). Unknown r 0) _ q
 
       pub present : {x : Slot} {n : ℕ} {r : Record} → f ≡ Stands x n → r ≡ recordIn t x → Queried t key (Known r n) t
       present {x} {n} p w = queried (ap (λ (z : Record). Known z n) w ∙ sym (ap (queryAt t) p) ∙ through)

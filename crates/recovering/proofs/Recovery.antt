@@ -9,6 +9,8 @@ use types.Run.{OneOf}
 use Rattle.rules.specs.Words.{Table, tokenOf, loggedOf}
 use Rattle.rules.specs.Stores.{written, clearStores, redoStores}
 use Rattle.rules.specs.Soundness.{finding}
+use Rattle.rules.specs.Answers.{FindingTells}
+use Rattle.rules.proofs.Meanings.{finding-told-by}
 use Rattle.rules.specs.Calls.{refused, listed, recoverOf}
 use Rattle.rules.specs.declared.Header.{Header}
 use Rattle.rules.specs.declared.Slot.{Slot}
@@ -38,15 +40,15 @@ is-neither (Doubled x y) e = absurd (omega arith)
 is-neither (Flagged x) e = absurd (omega arith)
 is-neither Neither e = refl
 
-module _ (t : Table) (h : Header) (f : Finding) (e : f ≡ finding t) where
+module _ (t : Table) (h : Header) (f : Finding) (e : FindingTells f (finding t)) where
   pub recover-sound : OneOf (0 ∷ []) (tagOf the-type f) → listed [] ≡ recoverOf t h (finding t)
-  recover-sound k = rw (← e, is-sound f k)
+  recover-sound k = rw (← finding-told-by e, is-sound f k)
 
   pub recover-neither : OneOf (3 ∷ []) (tagOf the-type f) → refused NoKind ≡ recoverOf t h (finding t)
-  recover-neither k = rw (← e, is-neither f k)
+  recover-neither k = rw (← finding-told-by e, is-neither f k)
 
   pub recover-doubled : {x y : Slot} {w : ℕ} → f ≡ Doubled x y → w ≡ tokenOf t (y .bucket) → listed (clearStores h w y) ≡ recoverOf t h (finding t)
-  recover-doubled k q = rw (← e, k, q)
+  recover-doubled k q = rw (← finding-told-by e, k, q)
 
   pub recover-flagged : {x : Slot} {r : Record} → f ≡ Flagged x → r ≡ loggedOf t → listed (redoStores x r) ≡ recoverOf t h (finding t)
-  recover-flagged k q = rw (← e, k, q)
+  recover-flagged k q = rw (← finding-told-by e, k, q)

@@ -185,28 +185,22 @@ stepped-one a b e = told steppedMeans readStepped stepped-back a b e
 -- ---- what the promise of a search tells: which answer it gave
 
 pub lookup-tells : {a b : Lookup} → a ≡ b → LookupTells a b
-unfolding LookupTells
-lookup-tells e = ap lookupMeans e
+lookup-tells e = record { same = ap lookupMeans e }
 
 pub lookup-told-by : {a b : Lookup} → LookupTells a b → a ≡ b
-unfolding LookupTells
-lookup-told-by {a} {b} e = lookup-one a b e
+lookup-told-by {a} {b} e = lookup-one a b (e .same)
 
 pub placing-tells : {a b : Placing} → a ≡ b → PlacingTells a b
-unfolding PlacingTells
-placing-tells e = ap placingMeans e
+placing-tells e = record { same = ap placingMeans e }
 
 pub placing-told-by : {a b : Placing} → PlacingTells a b → a ≡ b
-unfolding PlacingTells
-placing-told-by {a} {b} e = placing-one a b e
+placing-told-by {a} {b} e = placing-one a b (e .same)
 
 pub finding-tells : {a b : Finding} → a ≡ b → FindingTells a b
-unfolding FindingTells
-finding-tells e = ap findingMeans e
+finding-tells e = record { same = ap findingMeans e }
 
 pub finding-told-by : {a b : Finding} → FindingTells a b → a ≡ b
-unfolding FindingTells
-finding-told-by {a} {b} e = finding-one a b e
+finding-told-by {a} {b} e = finding-one a b (e .same)
 
 -- ---- what a call's own search answers means what the call answers by it
 

@@ -80,14 +80,14 @@ findingMeans (Flagged x) = record { number = 0; values = 3 ∷ slotMeans x }
 findingMeans Neither = record { number = numberOf NoKind; values = 0 ∷ [] }
 
 -- what such a search promises of its answer a, where b is the rules': the same number and values
-unfoldable pub LookupTells : Lookup → Lookup → Type 0
-LookupTells a b = lookupMeans a ≡ lookupMeans b
+pub record LookupTells (a b : Lookup) : Type 0 where
+  pub same : lookupMeans a ≡ lookupMeans b
 
-unfoldable pub PlacingTells : Placing → Placing → Type 0
-PlacingTells a b = placingMeans a ≡ placingMeans b
+pub record PlacingTells (a b : Placing) : Type 0 where
+  pub same : placingMeans a ≡ placingMeans b
 
-unfoldable pub FindingTells : Finding → Finding → Type 0
-FindingTells a b = findingMeans a ≡ findingMeans b
+pub record FindingTells (a b : Finding) : Type 0 where
+  pub same : findingMeans a ≡ findingMeans b
 
 -- a step's answer: its number and stores, then its placing
 unfoldable pub steppedMeans : Stepped → Meaning

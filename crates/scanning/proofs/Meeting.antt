@@ -11,6 +11,8 @@ use native.Mathlib.Omega.{arith}
 use Rattle.rules.specs.Choice.{any, from}
 use Rattle.rules.specs.Words.{Table, atRest, topOf, bottomOf, interimOf, levelsInUse, bucketsOf, slotAt, slotsIn, placeOf, placeAt, slotsOf, slotsInUse, isTaken, tokenOf, taken, keyIn}
 use Rattle.rules.specs.Places.{hashesOf, samePlace, probes, placesOf, lookup}
+use Rattle.rules.specs.Answers.{LookupTells}
+use Rattle.rules.proofs.Meanings.{lookup-told-by}
 use Rattle.rules.specs.declared.Header.{Header}
 use Rattle.rules.specs.declared.Hashes.{Hashes}
 use Rattle.rules.specs.declared.Place.{Place}
@@ -74,19 +76,19 @@ module _ (n : ℕ) (ps : List Place) (most : n ≤ 6) (six : length ps ≡ 6) (i
 -- ---- a taken slot
 
 module _ (t : Table) (h : Header) (x : Slot) (found : Scan) {key : ℕ} (k : key ≡ keyIn t x) where
-  pub item-absent : {n : ℕ} {o : Lookup} → o ≡ lookup t h key → o ≡ Absent n → Spoilt ≡ itemMet t h found x
+  pub item-absent : {n : ℕ} {o : Lookup} → LookupTells o (lookup t h key) → o ≡ Absent n → Spoilt ≡ itemMet t h found x
   unfolding itemMet
-  item-absent e q = rw (← k, ← e, q)
+  item-absent e q = rw (← k, ← lookup-told-by e, q)
 
-  module _ {y : Slot} {n : ℕ} {o : Lookup} (e : o ≡ lookup t h key) (q : o ≡ Stands y n) where
+  module _ {y : Slot} {n : ℕ} {o : Lookup} (e : LookupTells o (lookup t h key)) (q : o ≡ Stands y n) where
     pub item-itself : sameSlot x y ≡ true → found ≡ itemMet t h found x
     unfolding itemMet
-    item-itself f = rw (← k, ← e, q, f)
+    item-itself f = rw (← k, ← lookup-told-by e, q, f)
 
     pub item-copied : {a : Hashes} → a ≡ hashesOf h key → sameSlot x y ≡ false
         → cond (any (map (samePlace (placeOf x)) (probes (h .state) a))) (metOf found (inOrder x y)) Spoilt ≡ itemMet t h found x
     unfolding itemMet placesOf
-    item-copied g f = rw (← k, ← e, q, f, g)
+    item-copied g f = rw (← k, ← lookup-told-by e, q, f, g)
 
 -- slot s of a bucket with this token word
 module _ (t : Table) (h : Header) (p : Place) (s : ℕ) (found : Scan) {word : ℕ} (w : word ≡ tokenOf t (p .bucket)) where

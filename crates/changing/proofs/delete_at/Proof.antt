@@ -5,7 +5,6 @@ use native.Mathlib.Omega.{arith}
 use denote.Ref.{now}
 use Rattle.reading.specs.Within.{SlotWithin}
 use Rattle.rules.proofs.Headers.{table-small}
-use Rattle.rules.proofs.Meanings.{lookup-told-by}
 use Rattle.listing.proofs.Outcomes.{did-list, did-refuse, did-as}
 use Rattle.changing.proofs.Changes.{is-absent, delete-absent, delete-listed}
 use borrow.Author.Needs.{needs}
@@ -32,7 +31,7 @@ clear-requires : tie.Need-clear-requires
 clear-requires c κs = let f = c .before .before .before in let w = within f in let s = f .before .before .before .before .before in let m = table-small _ _ (s .pre .1) in omega (arith, s .pre .0, m, w .0, w .1)
 
 returns : tie.Need-returns
-returns c = let d = c .before .before in did-as (delete-absent _ _ _ (lookup-told-by (d .lookup .ensures .0)) (is-absent _ (c .before .match .keys1) .1)) (did-refuse _ _)
+returns c = let d = c .before .before in did-as (delete-absent _ _ _ (d .lookup .ensures .0) (is-absent _ (c .before .match .keys1) .1)) (did-refuse _ _)
 
 same-length : tie.Need-same-length
 same-length c = search needs
@@ -42,7 +41,7 @@ unfolding clearStores
 returns-2 c =
     let d = c .before .before in
     let f = d .before .before .before .before in
-    did-as (delete-listed _ _ _ (lookup-told-by (f .before .before .lookup .ensures .0)) (f .found .given .1) (d .before .token .ensures))
+    did-as (delete-listed _ _ _ (f .before .before .lookup .ensures .0) (f .found .given .1) (d .before .token .ensures))
     (did-list (d .clear .ensures) (f .before .before .before .before .before .pre .0) (omega arith))
 
 pub delete-at-spec : {M : Type 1} → statement M

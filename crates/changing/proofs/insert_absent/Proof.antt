@@ -15,7 +15,9 @@ use Rattle.changing.proofs.insert_absent.Statement.{statement}
 use Rattle.changing.proofs.insert_absent.Tie as tie
 
 -- the placing as it was taken apart, and the slot of its new item
-taken : (c : tie.At-match-came) → (c .match .p ≡ c .before .placing .result) × Takes (now (c .before .before .before .before .args .t)) (c .match .p) (c .match .y)
+taken : (c : tie.At-match-came) →
+    let s = c .before .before .before .before in
+    (c .match .p ≡ c .before .placing .result) × Takes (now (s .args .t)) (c .match .p) (c .match .y)
 taken c =
     let w = c .before .placing .ensures .1 in
     ⊎-elim (λ u. apart-free _ (u .1 .given .1) (u .3) (u .4) w) (λ u. apart-move _ (u .1 .given .1) (u .3) (u .4) w) (c .match .came)

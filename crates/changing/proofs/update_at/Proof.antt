@@ -2,7 +2,6 @@
 -- Assumes nothing.
 use native.Mathlib.Omega.{arith}
 use Rattle.rules.proofs.Headers.{table-small}
-use Rattle.rules.proofs.Meanings.{lookup-told-by}
 use Rattle.listing.proofs.Outcomes.{did-list, did-refuse, did-as}
 use Rattle.changing.proofs.Changes.{is-absent, update-absent, update-listed}
 use borrow.Author.Needs.{needs}
@@ -25,7 +24,7 @@ renewed-requires c κs =
     (s .pre .0, table-small _ _ (s .pre .1), rw (f .found .given .1) at (f .before .before .lookup .ensures .1))
 
 returns : tie.Need-returns
-returns c = let d = c .before .before in did-as (update-absent _ _ _ (lookup-told-by (d .lookup .ensures .0)) _ (is-absent _ (c .before .match .keys1) .1)) (did-refuse _ _)
+returns c = let d = c .before .before in did-as (update-absent _ _ _ (d .lookup .ensures .0) _ (is-absent _ (c .before .match .keys1) .1)) (did-refuse _ _)
 
 same-length : tie.Need-same-length
 same-length c = search needs
@@ -34,7 +33,7 @@ returns-2 : tie.Need-returns-2
 returns-2 c =
     let d = c .before .before in
     let f = d .before .before .before in
-    did-as (update-listed _ _ _ (lookup-told-by (f .before .before .lookup .ensures .0)) _ (f .found .given .1))
+    did-as (update-listed _ _ _ (f .before .before .lookup .ensures .0) _ (f .found .given .1))
     (did-list (d .renewed .ensures .0) (f .before .before .before .before .before .pre .0) (omega (arith, d .renewed .ensures .0 .0, d .renewed .ensures .1)))
 
 pub update-at-spec : {M : Type 1} → statement M

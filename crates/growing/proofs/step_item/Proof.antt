@@ -14,7 +14,9 @@ use Rattle.growing.proofs.step_item.Statement.{statement}
 use Rattle.growing.proofs.step_item.Tie as tie
 
 -- the placing as it was taken apart, and the slot of its new item
-taken : (c : tie.At-match-came) → (c .match .p ≡ c .before .interim-placing .result) × Takes (now (c .before .before .before .before .before .before .args .t)) (c .match .p) (c .match .y)
+taken : (c : tie.At-match-came) →
+    let s = c .before .before .before .before .before .before in
+    (c .match .p ≡ c .before .interim-placing .result) × Takes (now (s .args .t)) (c .match .p) (c .match .y)
 taken c =
     let w = c .before .interim-placing .ensures .1 in
     ⊎-elim (λ u. apart-free _ (u .1 .given .1) (u .3) (u .4) w) (λ u. apart-move _ (u .1 .given .1) (u .3) (u .4) w) (c .match .came)
@@ -44,7 +46,8 @@ returns : tie.Need-returns
 returns c =
     let m = c .before .before in
     let p = m .before in
-    did-step-refuse _ _ _ (step-nowhere _ _ _ (p .before .before .key-at .ensures) (p .interim-placing .result) (placing-told-by (p .interim-placing .ensures .0)) (m .match .keys3)) (c .unplaced .ensures)
+    let q = placing-told-by (p .interim-placing .ensures .0) in
+    did-step-refuse _ _ _ (step-nowhere _ _ _ (p .before .before .key-at .ensures) (p .interim-placing .result) q (m .match .keys3)) (c .unplaced .ensures)
 
 record-at-requires : tie.Need-record-at-requires
 record-at-requires c κs = search needs

@@ -1,6 +1,5 @@
 -- `querying::query` meets its contract.
 -- Assumes nothing.
-use Rattle.rules.proofs.Meanings.{lookup-told-by}
 use Rattle.querying.proofs.Answered.{refused, present, absent}
 use borrow.Author.Needs.{needs}
 use Rattle.querying.proofs.query.Statement.{statement}
@@ -36,7 +35,7 @@ returns-2 c =
     let g = f .before .before in
     let q = g .before .before .query-gate .ensures in
     let y = rw (g .gate2 .given .1) at (q .1) in
-    present _ _ (q .0) (g .gate2 .given .1) (y .0) (lookup-told-by (f .lookup .ensures .0)) (c .before .before .found .given .1) (c .record-at .ensures)
+    present _ _ (q .0) (g .gate2 .given .1) (y .0) (f .lookup .ensures .0) (c .before .before .found .given .1) (c .record-at .ensures)
 
 returns-3 : tie.Need-returns-3
 returns-3 c =
@@ -44,7 +43,7 @@ returns-3 c =
     let g = f .before .before in
     let q = g .before .before .query-gate .ensures in
     let y = rw (g .gate2 .given .1) at (q .1) in
-    absent _ _ (q .0) (g .gate2 .given .1) (y .0) (lookup-told-by (f .lookup .ensures .0)) (c .before .found2 .given .1)
+    absent _ _ (q .0) (g .gate2 .given .1) (y .0) (f .lookup .ensures .0) (c .before .found2 .given .1)
 
 pub query-spec : {M : Type 1} → statement M
 query-spec =

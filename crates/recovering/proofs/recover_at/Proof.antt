@@ -8,7 +8,6 @@ use lib.ListN.{length}
 use Rattle.rules.specs.Words.{wordsFor, loggedOf}
 use Rattle.rules.specs.Stores.{clearStores, redoStores}
 use Rattle.rules.proofs.Headers.{table-small}
-use Rattle.rules.proofs.Meanings.{finding-told-by}
 use Rattle.reading.specs.Within.{SlotWithin}
 use Rattle.listing.proofs.Outcomes.{did-list, did-refuse, did-as}
 use Rattle.recovering.proofs.Recovery.{did-nothing, recover-sound, recover-neither, recover-doubled, recover-flagged}
@@ -59,7 +58,7 @@ enum-told-2 : tie.Need-enum-told-2
 enum-told-2 c = search needs
 
 returns : tie.Need-returns
-returns c = let f = c .before .before .finding in did-as (recover-sound _ _ (f .result) (finding-told-by (f .ensures .0)) (c .before .match .keys1)) (did-nothing _)
+returns c = let f = c .before .before .finding in did-as (recover-sound _ _ (f .result) (f .ensures .0) (c .before .match .keys1)) (did-nothing _)
 
 same-length : tie.Need-same-length
 same-length c = search needs
@@ -70,7 +69,7 @@ returns-2 c =
     let d = c .before .before in
     let k = d .before .before .before .before in
     let f = k .before .before .finding in
-    did-as (recover-doubled _ _ (f .result) (finding-told-by (f .ensures .0)) (k .found .given .1) (d .before .token .ensures)) (did-list (d .clear .ensures) (k .before .before .before .before .before .pre .0) (omega arith))
+    did-as (recover-doubled _ _ (f .result) (f .ensures .0) (k .found .given .1) (d .before .token .ensures)) (did-list (d .clear .ensures) (k .before .before .before .before .before .pre .0) (omega arith))
 
 same-length-2 : tie.Need-same-length-2
 same-length-2 c = search needs
@@ -81,10 +80,10 @@ returns-3 c =
     let d = c .before .before in
     let k = d .before .before .before .before .before in
     let f = k .before .before .finding in
-    did-as (recover-flagged _ _ (f .result) (finding-told-by (f .ensures .0)) (k .found2 .given .1) refl) (did-list (d .redo .ensures) (k .before .before .before .before .before .pre .0) (omega arith))
+    did-as (recover-flagged _ _ (f .result) (f .ensures .0) (k .found2 .given .1) refl) (did-list (d .redo .ensures) (k .before .before .before .before .before .pre .0) (omega arith))
 
 returns-4 : tie.Need-returns-4
-returns-4 c = let f = c .before .before .finding in did-as (recover-neither _ _ (f .result) (finding-told-by (f .ensures .0)) (c .before .match .keys4)) (did-refuse _ _)
+returns-4 c = let f = c .before .before .finding in did-as (recover-neither _ _ (f .result) (f .ensures .0) (c .before .match .keys4)) (did-refuse _ _)
 
 pub recover-at-spec : {M : Type 1} → statement M
 recover-at-spec =

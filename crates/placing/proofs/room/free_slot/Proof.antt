@@ -16,7 +16,9 @@ lowest-free-requires : tie.Need-lowest-free-requires
 lowest-free-requires c κs = search needs
 
 returns : tie.Need-returns
-returns c = (place-full _ _ _ (c .before .before .before .token .ensures) (c .before .before .bucket .ensures) (c .before .lowest-free .ensures .0) (c .if1 .taken), tt)
+returns c =
+    let b = c .before .before in
+    (place-full _ _ _ (b .before .token .ensures) (b .bucket .ensures) (c .before .lowest-free .ensures .0) (c .if1 .taken), tt)
 
 slot-of-requires : tie.Need-slot-of-requires
 slot-of-requires c κs = search needs
@@ -24,7 +26,8 @@ slot-of-requires c κs = search needs
 returns-2 : tie.Need-returns-2
 returns-2 c =
     let l = c .before .before .lowest-free .ensures in
-    (place-free _ _ _ (c .before .before .before .before .token .ensures) (c .before .before .before .bucket .ensures) (l .0) (l .1) (c .before .if1 .left) (c .slot-of .ensures .0), omega arith)
+    let b = c .before .before .before in
+    (place-free _ _ _ (b .before .token .ensures) (b .bucket .ensures) (l .0) (l .1) (c .before .if1 .left) (c .slot-of .ensures .0), omega arith)
 
 pub free-slot-spec : {M : Type 1} → statement M
 free-slot-spec =

@@ -1,6 +1,5 @@
 -- `scanning::items::item` meets its contract.
 -- Assumes nothing.
-use Rattle.rules.proofs.Meanings.{lookup-told-by}
 use mathlib.Core.Path.{sym, _∙_}
 use native.Mathlib.Omega.{arith}
 use borrow.Author.Needs.{needs}
@@ -27,7 +26,7 @@ is-same-requires c κs = search needs
 returns : tie.Need-returns
 returns c =
     let l = c .before .before .before .before .before in
-    item-itself _ _ _ _ (l .before .before .key-at .ensures) (lookup-told-by (l .lookup-by .ensures .0)) (c .before .before .before .end .given .1) (sym (c .before .is-same .ensures) ∙ c .if1 .taken)
+    item-itself _ _ _ _ (l .before .before .key-at .ensures) (l .lookup-by .ensures .0) (c .before .before .before .end .given .1) (sym (c .before .is-same .ensures) ∙ c .if1 .taken)
 
 copied-requires : tie.Need-copied-requires
 copied-requires c κs = omega (arith, sizes _ _ (c .before .before .before .before .before .before .before .before .before .pre .0))
@@ -40,12 +39,12 @@ returns-2 c =
     let d = c .before in
     let l = d .before .before .before .before .before in
     c .copied .ensures
-    ∙ item-copied _ _ _ _ (l .before .before .key-at .ensures) (lookup-told-by (l .lookup-by .ensures .0)) (d .before .before .before .end .given .1) (l .before .hashes .ensures) (sym (d .before .is-same .ensures) ∙ d .if1 .left)
+    ∙ item-copied _ _ _ _ (l .before .before .key-at .ensures) (l .lookup-by .ensures .0) (d .before .before .before .end .given .1) (l .before .hashes .ensures) (sym (d .before .is-same .ensures) ∙ d .if1 .left)
 
 returns-3 : tie.Need-returns-3
 returns-3 c =
     let l = c .before .before in
-    item-absent _ _ _ _ (l .before .before .key-at .ensures) (lookup-told-by (l .lookup-by .ensures .0)) (c .enum-told .given .1)
+    item-absent _ _ _ _ (l .before .before .key-at .ensures) (l .lookup-by .ensures .0) (c .enum-told .given .1)
 
 pub item-spec : {M : Type 1} → statement M
 item-spec =
