@@ -87,7 +87,8 @@ pub record Waits (s : Script) (lines : List Line) (name : Name) (number : ℕ) :
   pub next : nextLine (readAll s lines .0) ≡ number
 
 -- a line that makes a script stop is bad after the lines before it
-bad-after : (s : Script) (lines : List Line) (l : Line) (number : ℕ) → readAll s lines .1 ≡ [] → readingOf (readAll s lines .0) l .asked ≡ askEnd number → readingOf (readAll s lines .0) l .script .due ≡ noMore
+bad-after : (s : Script) (lines : List Line) (l : Line) (number : ℕ) → readAll s lines .1 ≡ [] → readingOf (readAll s lines .0) l .asked ≡ askEnd number
+    → readingOf (readAll s lines .0) l .script .due ≡ noMore
     → BadAfter s lines l number
 bad-after s lines l number none bad over =
     let both = read-more s lines (l ∷ []) in
@@ -104,7 +105,8 @@ module _ {s : Script} {lines : List Line} {name : Name} {number : ℕ} (w : Wait
   waits-bad : (l : Line) → NotNamed name l → BadAfter s lines l number
   unfolding here
   waits-bad l h =
-      bad-after s lines l number (w .nothing) (ap (λ (r : Reading). r .asked) (number-stray l h) ∙ ap askEnd (w .next)) (ap (λ (r : Reading). r .script .due) (number-stray l h))
+      bad-after s lines l number (w .nothing) (ap (λ (r : Reading). r .asked) (number-stray l h)
+      ∙ ap askEnd (w .next)) (ap (λ (r : Reading). r .script .due) (number-stray l h))
 
   waits-ends : EndsBad s lines number
   unfolding endingOf
@@ -122,11 +124,13 @@ no-name : (given : List Name) (vs : List ℕ) {name : Name} {later : List Name} 
 no-name given vs {name} {later} l e =
     let z : _≡_ {A = ℕ} 0 (length (name ∷ later)) = ap length (sym (drop-of-length-le given {i = length vs} l) ∙ e) in omega (arith, z)
 
-waits-as : (s : Script) (lines : List Line) (w : Wanted) {name : Name} (number : ℕ) → readAll s lines .1 ≡ [] → readAll s lines .0 .due ≡ aNumber w → nameFor w ≡ name → nextLine (readAll s lines .0) ≡ number
+waits-as : (s : Script) (lines : List Line) (w : Wanted) {name : Name} (number : ℕ) → readAll s lines .1 ≡ [] → readAll s lines .0 .due ≡ aNumber w
+    → nameFor w ≡ name → nextLine (readAll s lines .0) ≡ number
     → Waits s lines name number
 waits-as s lines w number a b c d = record { wanted = w; nothing = a; due = b; named = c; next = d }
 
-header-waits : (vs : List ℕ) (name : Name) (later : List Name) → drop (length vs) headerNames ≡ name ∷ later → Waits start (numbered headerNames vs) name (length vs + 1)
+header-waits : (vs : List ℕ) (name : Name) (later : List Name) → drop (length vs) headerNames ≡ name ∷ later
+    → Waits start (numbered headerNames vs) name (length vs + 1)
 unfolding readingOf
 header-waits [] name later e = waits-as _ _ WantCap _ refl refl (head-one e) refl
 header-waits (a ∷ []) name later e = waits-as _ _ WantTop _ refl refl (head-one e) refl
@@ -151,18 +155,21 @@ op-line : (s : Script) (o : Op) → Begins s o → (lines : List Line)
     → readAll s (Event o ∷ lines) ≡ (readAll (eventBegun s o .script) lines .0, asking (eventBegun s o .asked) (readAll (eventBegun s o .script) lines .1))
 op-line s o b lines = ap (λ (r : Reading). (readAll (r .script) lines .0, asking (r .asked) (readAll (r .script) lines .1))) b
 
-first-line : (s : Script) (o : Op) → Begins s o → eventBegun s o .asked ≡ askNothing → (lines : List Line) → readAll s (Event o ∷ lines) ≡ readAll (eventBegun s o .script) lines
+first-line : (s : Script) (o : Op) → Begins s o → eventBegun s o .asked ≡ askNothing → (lines : List Line)
+    → readAll s (Event o ∷ lines) ≡ readAll (eventBegun s o .script) lines
 first-line s o b none lines =
     let later = readAll (eventBegun s o .script) lines in
     op-line s o b lines ∙ ap (λ (a : Asked). (later .0, asking a (later .1))) none
 
-begun-waits : (s : Script) (o : Op) → Begins s o → eventBegun s o .asked ≡ askNothing → {lines : List Line} {name : Name} {number : ℕ} → Waits (eventBegun s o .script) lines name number
+begun-waits : (s : Script) (o : Op) → Begins s o → eventBegun s o .asked ≡ askNothing → {lines : List Line} {name : Name} {number : ℕ}
+    → Waits (eventBegun s o .script) lines name number
     → Waits s (Event o ∷ lines) name number
 begun-waits s o b none {lines} w =
     let same = first-line s o b none lines in
     waits-as _ _ (w .wanted) _ (ap (λ x. x .1) same ∙ w .nothing) (ap (λ x. x .0 .due) same ∙ w .due) (w .named) (ap (λ x. nextLine (x .0)) same ∙ w .next)
 
-event-waits : (s : Script) (o : Op) → Begins s o → (vs : List ℕ) (name : Name) (later : List Name) → drop (length vs) (namesAfter o) ≡ name ∷ later → Waits s (eventLines o vs) name (lineFrom s (length vs + 2))
+event-waits : (s : Script) (o : Op) → Begins s o → (vs : List ℕ) (name : Name) (later : List Name) → drop (length vs) (namesAfter o) ≡ name ∷ later
+    → Waits s (eventLines o vs) name (lineFrom s (length vs + 2))
 unfolding readingOf
 event-waits s Insert b [] name later e = begun-waits s Insert b refl (waits-as _ [] InsertKey _ refl refl (head-one e) (omega arith))
 event-waits s Insert b (k ∷ []) name later e = begun-waits s Insert b refl (waits-as _ (Number Key k ∷ []) InsertFn _ refl refl (head-one e) (omega arith))
@@ -186,7 +193,8 @@ event-waits s Recover b vs name later e = absurd (no-name [] vs (omega arith) e)
 -- ---- whole events
 
 asks-by : (s : Script) (o : Op) → Begins s o → (lines : List Line) {asked : Asked} → let r = eventBegun s o in let later = readAll (r .script) lines in
-    (asking (r .asked) (later .1) ≡ asked ∷ []) → EventDue (later .0) → later .0 .lines ≡ lineFrom s (length (Event o ∷ lines)) → Asks s (Event o ∷ lines) asked
+    (asking (r .asked) (later .1) ≡ asked ∷ []) → EventDue (later .0) → later .0 .lines ≡ lineFrom s (length (Event o ∷ lines))
+    → Asks s (Event o ∷ lines) asked
 asks-by s o b lines alone next count =
     let whole = op-line s o b lines in
     record {
@@ -276,7 +284,8 @@ module _ (s : Script) (d : EventDue s) (n : ℕ) where
 
   cut-bad : (l : Line) → NoChange l → BadAfter s (cutLines n) l (lineFrom s 1)
   cut-bad l h =
-      let bad : readingOf (readAll s (cutLines n) .0) l ≡ stopsAt (underCut s n) (lineFrom s 1) = ap (λ (x : Script × List Asked). readingOf (x .0) l) (cut-read s d n) ∙ no-change l h in
+      let bad : readingOf (readAll s (cutLines n) .0) l ≡ stopsAt (underCut s n) (lineFrom s 1) = ap (λ (x : Script
+      × List Asked). readingOf (x .0) l) (cut-read s d n) ∙ no-change l h in
       bad-after s (cutLines n) l _ (ap (λ x. x .1) (cut-read s d n)) (ap (λ (r : Reading). r .asked) bad) (ap (λ (r : Reading). r .script .due) bad)
 
   cut-ends : EndsBad s (cutLines n) (lineFrom s 1)

@@ -148,7 +148,8 @@ CutEventsRead = (s : Script) → EventDue s → (n : ℕ) (a : Act) → Asks s (
 
 -- "(else the cut line is the bad line)": before a query, another cut line, any other line, and at the end
 abbrev pub CutLineElseBad : Type 0
-CutLineElseBad = (s : Script) → EventDue s → (n : ℕ) → ((l : Line) → NoChange l → BadAfter s (cutLines n) l (lineFrom s 1)) × EndsBad s (cutLines n) (lineFrom s 1)
+CutLineElseBad = (s : Script) → EventDue s → (n : ℕ)
+    → ((l : Line) → NoChange l → BadAfter s (cutLines n) l (lineFrom s 1)) × EndsBad s (cutLines n) (lineFrom s 1)
 
 -- "First bad line: `bad=` its number, from 1, and stop." "and so is the line missing where input ends too soon". In the header: what
 -- is not the next number of it
@@ -163,13 +164,15 @@ NumbersInOrder = (s : Script) → EventDue s → (o : Op) (vs : List ℕ) (name 
 
 -- the same of an event under a cut line
 abbrev pub CutNumbersInOrder : Type 0
-CutNumbersInOrder = (s : Script) → EventDue s → (n : ℕ) (a : Act) (vs : List ℕ) (name : Name) (later : List Name) → drop (length vs) (namesAfter (opOf a)) ≡ name ∷ later
+CutNumbersInOrder = (s : Script) → EventDue s → (n : ℕ) (a : Act) (vs : List ℕ) (name : Name) (later : List Name)
+    → drop (length vs) (namesAfter (opOf a)) ≡ name ∷ later
     → ((l : Line) → NotNamed name l → BadAfter s (cutLines n ++ eventLines (opOf a) vs) l (lineFrom s (length vs + 4)))
     × EndsBad s (cutLines n ++ eventLines (opOf a) vs) (lineFrom s (length vs + 4))
 
 -- where an event is due: what begins none, and a torn line. An input that ends there ends well
 abbrev pub EventElseBad : Type 0
-EventElseBad = (s : Script) → EventDue s → ((l : Line) → NoEvent l → BadAfter s [] l (lineFrom s 1)) × (endingOf s true ≡ Torn (lineFrom s 1)) × (endingOf s false ≡ Whole)
+EventElseBad = (s : Script) → EventDue s → ((l : Line) → NoEvent l
+    → BadAfter s [] l (lineFrom s 1)) × (endingOf s true ≡ Torn (lineFrom s 1)) × (endingOf s false ≡ Whole)
 
 -- "and stop": no later line asks for anything, and the end says nothing more
 abbrev pub StopsForGood : Type 0

@@ -67,17 +67,21 @@ cutChangesAnswered room p next a n line number stores made tells lets =
     let s = told-stores room p a tells in
     let k : min n (reported r) ≡ made = ap (min n) s ∙ lets-min n stores made lets in
     record {
-      said = ap (λ (x : ℕ). Kept x (reported r) (min n (reported r))) (told-number room p a tells) ∙ ap (λ (x : ℕ). Kept number x (min n (reported r))) s ∙ ap (Kept number stores) k;
+      said = ap (λ (x : ℕ). Kept x (reported r) (min n (reported r))) (told-number room p a tells) ∙ ap (λ (x : ℕ). Kept number x (min n (reported r))) s
+          ∙ ap (Kept number stores) k;
       words = ap (λ (x : ℕ). makeResult (tableOf p room) (listAfter room p a) x .1 ++ drop (p .words) room) k;
       count = refl;
     }
 
 -- ---- queries
 
-query-told : (q : Query) (number f place count : ℕ) → queryMeans q ≡ record { number = number; values = f ∷ place ∷ count ∷ [] } → queryAnswer q ≡ Found number f place count
-query-told q number f place count e = as-meant q ∙ ap (λ (m : Meaning). Found (m .number) (getD (m .values) 0 0) (getD (m .values) 1 0) (getD (m .values) 2 0)) e
+query-told : (q : Query) (number f place count : ℕ) → queryMeans q ≡ record { number = number; values = f ∷ place ∷ count ∷ [] }
+    → queryAnswer q ≡ Found number f place count
+query-told q number f place count e = as-meant q
+    ∙ ap (λ (m : Meaning). Found (m .number) (getD (m .values) 0 0) (getD (m .values) 1 0) (getD (m .values) 2 0)) e
   where
-    as-meant : (x : Query) → queryAnswer x ≡ Found (queryMeans x .number) (getD (queryMeans x .values) 0 0) (getD (queryMeans x .values) 1 0) (getD (queryMeans x .values) 2 0)
+    as-meant : (x : Query) → queryAnswer x
+        ≡ Found (queryMeans x .number) (getD (queryMeans x .values) 0 0) (getD (queryMeans x .values) 1 0) (getD (queryMeans x .values) 2 0)
     as-meant (Known r n) = refl
     as-meant (Unknown r n) = refl
 
@@ -90,7 +94,8 @@ module _ (room : List ℕ) (p : Replay) (next : Script) (c k mul1 mul2 : ℕ) wh
   small-table : c ≤ 8 → askedOf room p next (askTable c k mul1 mul2) ≡ created p next room c (createResult (take (wordsFor c) room) c k mul1 mul2)
   small-table small = rw (le-leb c 8 small)
 
-  verdict-told : (v : Verdict) (u : Table) → verdictMeans v ≡ record { number = 13; values = [] } → (created p next room c (v, u) .answer ≡ Unmade 13) × (created p next room c (v, u) .replay .script .due ≡ noMore)
+  verdict-told : (v : Verdict) (u : Table) → verdictMeans v ≡ record { number = 13; values = [] }
+      → (created p next room c (v, u) .answer ≡ Unmade 13) × (created p next room c (v, u) .replay .script .due ≡ noMore)
   verdict-told Done u e = absurd (let z : _≡_ {A = ℕ} 0 13 = ap (λ (m : Meaning). m .number) e in omega (arith, z))
   verdict-told (Denied r) u e = (ap (λ (m : Meaning). Unmade (m .number)) e, refl)
 
@@ -103,10 +108,12 @@ tableMade room p next c k mul1 mul2 small e =
 pub tableNotMade : TableNotMade
 tableNotMade room p next c k mul1 mul2 h = ⊎-elim large denied h
   where
-    large : 8 < c → (askedOf room p next (askTable c k mul1 mul2) .answer ≡ Unmade 13) × (askedOf room p next (askTable c k mul1 mul2) .replay .script .due ≡ noMore)
+    large : 8 < c → (askedOf room p next (askTable c k mul1 mul2) .answer ≡ Unmade 13)
+        × (askedOf room p next (askTable c k mul1 mul2) .replay .script .due ≡ noMore)
     large l = (rw (lt-leb c 8 l), rw (lt-leb c 8 l))
 
-    denied : (c ≤ 8) × Verdicts room c k mul1 mul2 13 → (askedOf room p next (askTable c k mul1 mul2) .answer ≡ Unmade 13) × (askedOf room p next (askTable c k mul1 mul2) .replay .script .due ≡ noMore)
+    denied : (c ≤ 8) × Verdicts room c k mul1 mul2 13
+        → (askedOf room p next (askTable c k mul1 mul2) .answer ≡ Unmade 13) × (askedOf room p next (askTable c k mul1 mul2) .replay .script .due ≡ noMore)
     denied d =
         let r = createResult (take (wordsFor c) room) c k mul1 mul2 in
         let same = small-table room p next c k mul1 mul2 (d .0) in

@@ -38,7 +38,8 @@ pub record Answered (room : List ℕ) (p : Replay) (next : Script) (a : Act) (un
 
 -- "answer=0, stores=4": the number and the stores, all of which are made
 abbrev pub ChangesAnswered : Type 0
-ChangesAnswered = (room : List ℕ) (p : Replay) (next : Script) (a : Act) (number stores : ℕ) → Tells room p a number stores → Answered room p next a noCut (Changed number stores) stores
+ChangesAnswered = (room : List ℕ) (p : Replay) (next : Script) (a : Act) (number stores : ℕ) → Tells room p a number stores
+    → Answered room p next a noCut (Changed number stores) stores
 
 -- "lets only that many of its stores be made, or all if there are fewer": as many as these
 abbrev pub LetsMake : ℕ → ℕ → ℕ → Type 0
@@ -46,14 +47,16 @@ LetsMake n stores made = ((made ≡ n) × (n ≤ stores)) ⊎ ((made ≡ stores)
 
 -- "An event under a cut line adds `kept=`, the stores made, after `stores=`"
 abbrev pub CutChangesAnswered : Type 0
-CutChangesAnswered = (room : List ℕ) (p : Replay) (next : Script) (a : Act) (n line number stores made : ℕ) → Tells room p a number stores → LetsMake n stores made
+CutChangesAnswered = (room : List ℕ) (p : Replay) (next : Script) (a : Act) (n line number stores made : ℕ) → Tells room p a number stores
+    → LetsMake n stores made
     → Answered room p next a (cutAfter n line) (Kept number stores made) made
 
 -- ---- queries
 
 -- "answer=0, fn=10, at=20, probes=1": the number, the record and the count. The words stay, and one event more is counted
 abbrev pub QueriesAnswered : Type 0
-QueriesAnswered = (room : List ℕ) (p : Replay) (next : Script) (key number f place count : ℕ) → queryMeans (queryResult (tableOf p room) key) ≡ record { number = number; values = f ∷ place ∷ count ∷ [] }
+QueriesAnswered = (room : List ℕ) (p : Replay) (next : Script) (key number f place count : ℕ)
+    → queryMeans (queryResult (tableOf p room) key) ≡ record { number = number; values = f ∷ place ∷ count ∷ [] }
     → (askedOf room p next (askQuery key) .answer ≡ Found number f place count) × (askedOf room p next (askQuery key) .room ≡ room)
     × (askedOf room p next (askQuery key) .replay .events ≡ (p .events + 1) % 2 ^ 64)
 

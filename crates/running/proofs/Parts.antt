@@ -65,7 +65,8 @@ module _ (p : Replay) (d : p .script .due ≡ noMore) (room : List ℕ) where
   unfolding finishOf endingOf
   end-silent torn = ap (λ (x : Due). finished p (endedAt (p .script) x torn)) d
 
-known-silent : (p : Replay) → p .script .due ≡ noMore → (held : ℕ) (room line input : List ℕ) → spoken (fed (record { replay = p; held = held }) room line input) ≡ []
+known-silent : (p : Replay) → p .script .due ≡ noMore → (held : ℕ) (room line input : List ℕ)
+    → spoken (fed (record { replay = p; held = held }) room line input) ≡ []
 unfolding byteTaken endOf
 known-silent p d held room line [] = rw (end-silent p d room (ltb 0 held))
 known-silent p d held room line (b ∷ bs) =

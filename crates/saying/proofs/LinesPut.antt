@@ -27,7 +27,8 @@ pub last-line : (x : Line) {at r : ℕ} {l m : List ℕ} → Put (named x) at l 
 unfolding flatMap
 last-line x p = rw (append-nil, ← (line-text x)) p
 
-pub line-before : (x : Line) (xs : List Line) {at r₁ r₂ : ℕ} {l m₁ m₂ : List ℕ} → Put (named x) at l r₁ m₁ → Put (flatMap lineText xs) r₁ m₁ r₂ m₂ → Put (flatMap lineText (x ∷ xs)) at l r₂ m₂
+pub line-before : (x : Line) (xs : List Line) {at r₁ r₂ : ℕ} {l m₁ m₂ : List ℕ} → Put (named x) at l r₁ m₁ → Put (flatMap lineText xs) r₁ m₁ r₂ m₂
+    → Put (flatMap lineText (x ∷ xs)) at l r₂ m₂
 unfolding flatMap
 line-before x xs p q = rw (← (line-text x)) (then p q)
 
@@ -36,7 +37,8 @@ unfolding flatMap
 lines-after [] x = rw (append-nil, line-text x)
 lines-after (y ∷ ys) x = rw (append-assoc (lineText y) (flatMap lineText ys) (named x), lines-after ys x)
 
-pub line-after : (xs : List Line) (x : Line) {at r₁ r₂ : ℕ} {l m₁ m₂ : List ℕ} → Put (flatMap lineText xs) at l r₁ m₁ → Put (named x) r₁ m₁ r₂ m₂ → Put (flatMap lineText (xs ++ (x ∷ []))) at l r₂ m₂
+pub line-after : (xs : List Line) (x : Line) {at r₁ r₂ : ℕ} {l m₁ m₂ : List ℕ} → Put (flatMap lineText xs) at l r₁ m₁ → Put (named x) r₁ m₁ r₂ m₂
+    → Put (flatMap lineText (xs ++ (x ∷ []))) at l r₂ m₂
 line-after xs x p q = rw (← (lines-after xs x)) (then p q)
 
 -- ---- from the front
@@ -76,5 +78,6 @@ pub nothing-put : {at : ℕ} (l : List ℕ) → at ≤ length l → Put (textOf 
 unfolding textOf flatMap putAt
 nothing-put l h = record { room = omega (arith, h); next = omega arith; buffer = refl }
 
-pub said-put : {answer : Answer} {n : ℕ} {k m : List ℕ} → Said answer k n m → {at r : ℕ} {l out : List ℕ} → Put (take n (take n m)) at l r out → Put (textOf answer) at l r out
+pub said-put : {answer : Answer} {n : ℕ} {k m : List ℕ} → Said answer k n m → {at r : ℕ} {l out : List ℕ} → Put (take n (take n m)) at l r out
+    → Put (textOf answer) at l r out
 said-put {answer} {n} {k} {m} s p = let same : take n (take n m) ≡ textOf answer = take-take n n m (omega arith) ∙ s .text in rw same at p

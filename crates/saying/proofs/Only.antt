@@ -19,5 +19,6 @@ module _ (answer : Answer) (l : List ℕ) where
       let e : r ≡ s = p .size ∙ sym (q .size) in
       (e, whole p ∙ ap (λ (i : ℕ). textOf answer ++ drop i l) e ∙ sym (whole q))
 
-pub said-at-one : (answer : Answer) (at : ℕ) (l : List ℕ) {r s : ℕ} {m n : List ℕ} → Put (textOf answer) at l r m → Put (textOf answer) at l s n → (r ≡ s) × (m ≡ n)
+pub said-at-one : (answer : Answer) (at : ℕ) (l : List ℕ) {r s : ℕ} {m n : List ℕ} → Put (textOf answer) at l r m → Put (textOf answer) at l s n
+    → (r ≡ s) × (m ≡ n)
 said-at-one answer at l p q = (p .next ∙ sym (q .next), p .buffer ∙ sym (q .buffer))

@@ -28,7 +28,8 @@ module _ (l : List ℕ) (at : ℕ) (text : List ℕ) where
   put-next i h =
       rw (add-one, take-suc text i 0 h, sets-append l at (take i text) (getD text i 0 ∷ []), length-take-le i text (omega arith))
 
-  pub put-all : (i n : ℕ) {m : List ℕ} → i ≤ n → n ≤ i → n ≤ length text → at + n ≤ length l → m ≡ putAt l at (take i text) → Put (take n text) at l (at + n) m
+  pub put-all : (i n : ℕ) {m : List ℕ} → i ≤ n → n ≤ i → n ≤ length text → at + n ≤ length l → m ≡ putAt l at (take i text)
+      → Put (take n text) at l (at + n) m
   put-all i n low high whole room e =
       let same : i ≡ n = omega arith in
       let size : length (take n text) ≡ n = length-take-le n text whole in
@@ -54,5 +55,6 @@ then {xs} {ys} {at} {l = l} p q =
 pub put-text : {text : List ℕ} {at r : ℕ} {l m : List ℕ} → Put text at l r m → take r m ≡ take at l ++ text
 unfolding putAt
 put-text {text} {at} {l = l} p =
-    let size : length (take at l ++ text) ≡ at + length text = length-append (take at l) text ∙ ap (λ (n : ℕ). n + length text) (length-take-le at l (omega (arith, p .room))) in
+    let size : length (take at l ++ text) ≡ at + length text = length-append (take at l) text
+    ∙ ap (λ (n : ℕ). n + length text) (length-take-le at l (omega (arith, p .room))) in
     rw (p .buffer, sets-eq text l at (p .room), p .next) (take-at (take at l ++ text) _ _ size)

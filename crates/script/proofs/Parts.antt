@@ -141,19 +141,22 @@ taking-next {s} {text} {u} {taken} {waiting} {out} t more {r} {left} {held} d {w
     let said : textOf (r .answer) ≡ textIn u (b ∷ []) = ap textOf (d .answer) ∙ sym (one-text u b) in
     record {
       within = omega (arith, more);
-      stand = here ∙ sym (one-after u b) ∙ ap (λ (x : Stand). afterBytes x (b ∷ [])) (t .stand) ∙ sym (after-more s (take taken text) (b ∷ [])) ∙ ap (afterBytes s) (sym grown);
+      stand = here ∙ sym (one-after u b) ∙ ap (λ (x : Stand). afterBytes x (b ∷ [])) (t .stand) ∙ sym (after-more s (take taken text) (b ∷ []))
+          ∙ ap (afterBytes s) (sym grown);
       fits = omega (arith, p .room, p .next, put-length p);
       front = put-text p ∙ rw (t .front, said, t .stand) (sym (text-more s (take taken text) (b ∷ []))) ∙ ap (textIn s) (sym grown);
     }
 
-pub took : {s : Stand} {text : List ℕ} {run : Run} {room line : List ℕ} {taken waiting : ℕ} {out : List ℕ} → Taking s text (record { run = run; room = room; line = line }) taken waiting out
+pub took : {s : Stand} {text : List ℕ} {run : Run} {room line : List ℕ} {taken waiting : ℕ} {out : List ℕ}
+    → Taking s text (record { run = run; room = room; line = line }) taken waiting out
     → (taken < length text → pauses run (length out - waiting) ≡ true)
     → TookSome s text (record { run = run; taken = taken; waiting = waiting }) (record { run = run; room = room; line = line }) out
 took t why = record { within = t .within; stand = t .stand; fits = t .fits; front = t .front; pausing = why }
 
 -- ---- the end of the input
 
-pub end-put : (run : Run) {a : Answer} → a ≡ endOf run → {l m : List ℕ} {r : ℕ} → Put (textOf a) 0 l r m → take (length (textOf (endOf run))) m ≡ textOf (endOf run)
+pub end-put : (run : Run) {a : Answer} → a ≡ endOf run → {l m : List ℕ} {r : ℕ} → Put (textOf a) 0 l r m
+    → take (length (textOf (endOf run))) m ≡ textOf (endOf run)
 end-put run e p =
     let said = ap textOf e in
     let size = p .next ∙ zero-add _ ∙ ap length said in
@@ -162,17 +165,21 @@ end-put run e p =
 -- ---- part by part
 
 -- what is left of a part, as the code lends it
-pub rest-lent : (u : Stand) (part : List ℕ) (taken : ℕ) {r : Some} {v : Stand} {out : List ℕ} → TookSome u (take (length part - taken) (drop taken part)) r v out → TookSome u (drop taken part) r v out
-rest-lent u part taken t = let same : take (length part - taken) (drop taken part) ≡ drop taken part = take-all (length part - taken) (drop taken part) (omega (arith, length-drop taken part)) in rw same at t
+pub rest-lent : (u : Stand) (part : List ℕ) (taken : ℕ) {r : Some} {v : Stand} {out : List ℕ}
+    → TookSome u (take (length part - taken) (drop taken part)) r v out → TookSome u (drop taken part) r v out
+rest-lent u part taken t = let same : take (length part - taken) (drop taken part)
+    ≡ drop taken part = take-all (length part - taken) (drop taken part) (omega (arith, length-drop taken part)) in rw same at t
 
 -- more of a part is taken
-pub part-more : (s : Stand) (part : List ℕ) {u : Stand} (taken : ℕ) → taken ≤ length part → u ≡ afterBytes s (take taken part) → {r : Some} {v : Stand} {out : List ℕ} → TookSome u (drop taken part) r v out
+pub part-more : (s : Stand) (part : List ℕ) {u : Stand} (taken : ℕ) → taken ≤ length part → u ≡ afterBytes s (take taken part)
+    → {r : Some} {v : Stand} {out : List ℕ} → TookSome u (drop taken part) r v out
     → (taken + r .taken ≤ length part) × (v ≡ afterBytes s (take (taken + r .taken) part))
 part-more s part {u} taken within e {r} {v} t =
     let most : r .taken ≤ length part - taken = rw (length-drop taken part) at (t .within) in
     let all : take (taken + r .taken) part ≡ take taken part ++ take (r .taken) (drop taken part) = take-add taken (r .taken) part in (
       omega (arith, most, within),
-      t .stand ∙ ap (λ (x : Stand). afterBytes x (take (r .taken) (drop taken part))) e ∙ sym (after-more s (take taken part) (take (r .taken) (drop taken part))) ∙ ap (afterBytes s) (sym all),
+      t .stand ∙ ap (λ (x : Stand). afterBytes x (take (r .taken) (drop taken part))) e
+          ∙ sym (after-more s (take taken part) (take (r .taken) (drop taken part))) ∙ ap (afterBytes s) (sym all),
     )
 
 -- some of a part is taken, where there is some and there is room
@@ -184,15 +191,18 @@ text-none : (s : Stand) → textIn s [] ≡ []
 unfolding textIn answersIn flatMap
 text-none s = refl
 
-pub some-taken : (u : Stand) (rest : List ℕ) {r : Some} {v : Stand} (out : List ℕ) → TookSome u rest r v out → known (u .run) ≡ false → 0 < length rest → 128 ≤ length out → 0 < r .taken
+pub some-taken : (u : Stand) (rest : List ℕ) {r : Some} {v : Stand} (out : List ℕ) → TookSome u rest r v out → known (u .run) ≡ false → 0 < length rest
+    → 128 ≤ length out → 0 < r .taken
 some-taken u rest {r} {v} out t k more room = go (r .taken) (t .stand) (t .front) (t .pausing)
   where
-    go : (n : ℕ) → v ≡ afterBytes u (take n rest) → take (r .waiting) out ≡ textIn u (take n rest) → (n < length rest → pauses (v .run) (length out - r .waiting) ≡ true) → 0 < n
+    go : (n : ℕ) → v ≡ afterBytes u (take n rest) → take (r .waiting) out ≡ textIn u (take n rest)
+        → (n < length rest → pauses (v .run) (length out - r .waiting) ≡ true) → 0 < n
     go (suc n) e f p = omega arith
     go zero e f p =
         let here : v ≡ u = e ∙ after-none u in
         let none : r .waiting ≡ 0 = sym (length-take-le (r .waiting) out (t .fits)) ∙ ap length (f ∙ text-none u) in
-        let full : cond (known (u .run)) true (ltb (length out - r .waiting) 128) ≡ true = ap (λ (x : Stand). pauses (x .run) (length out - r .waiting)) (sym here) ∙ p more in
+        let full : cond (known (u .run)) true (ltb (length out - r .waiting) 128)
+        ≡ true = ap (λ (x : Stand). pauses (x .run) (length out - r .waiting)) (sym here) ∙ p more in
         absurd (omega (arith, ltb-true (length out - r .waiting) 128 (ap (λ (b : Bool). cond b true (ltb (length out - r .waiting) 128)) (sym k) ∙ full), none, room))
 
 pub part-begun : (s : Stand) → s ≡ afterBytes s []
@@ -202,7 +212,8 @@ module _ {s : Stand} {part : List ℕ} {run : Run} {room line : List ℕ} {taken
   pub part-unwritten : TookPart s part (record { run = run; taken = taken; written = false }) (record { run = run; room = room; line = line })
   part-unwritten = record { within = within; stand = stand; all = λ e. absurd (true-false (sym e)) }
 
-  pub part-stopped : (known run ≡ false → length part ≤ taken) → TookPart s part (record { run = run; taken = taken; written = true }) (record { run = run; room = room; line = line })
+  pub part-stopped : (known run ≡ false → length part ≤ taken)
+      → TookPart s part (record { run = run; taken = taken; written = true }) (record { run = run; room = room; line = line })
   part-stopped why = record { within = within; stand = stand; all = λ _ k. omega (arith, why k, within) }
 
 -- ---- what was read
@@ -227,7 +238,8 @@ not-going Unread k e = differ Unread Going refl e
 not-going Unwritten k e = differ Unwritten Going refl e
 
 -- nothing is taken where the program stops
-pub stopped : (outcome : Outcome) → eqb (place outcome) 1 ≡ false → eqb (place outcome) 0 ≡ false → (s : Stand) (part : List ℕ) → WentOn s part (record { run = s .run; outcome = outcome }) s
+pub stopped : (outcome : Outcome) → eqb (place outcome) 1 ≡ false → eqb (place outcome) 0 ≡ false → (s : Stand) (part : List ℕ)
+    → WentOn s part (record { run = s .run; outcome = outcome }) s
 stopped outcome a b s part = record { taken = 0; stand = sym (after-none s); rightly = λ e. absurd (differ outcome Known a e); all = λ e. absurd (differ outcome Going b e) }
 
 module _ {s : Stand} {part : List ℕ} {t : Part} {u : Stand} (p : TookPart s part t u) where
@@ -250,7 +262,12 @@ read-taken n input {s} {u} {r} w = go (decLe (w .taken) n)
   where
     go : Dec (w .taken ≤ n) → ReadSome s input r u
     go (yes l) = record { taken = w .taken; stand = w .stand ∙ ap (afterBytes s) (take-take (w .taken) n input l); rightly = w .rightly }
-    go (no l) = record { taken = n; stand = w .stand ∙ ap (afterBytes s) (take-all (w .taken) (take n input) (omega (arith, length-take n input))); rightly = w .rightly }
+    go (no l) = record {
+      taken = n;
+      stand = w .stand
+          ∙ ap (afterBytes s) (take-all (w .taken) (take n input) (omega (arith, length-take n input)));
+      rightly = w .rightly;
+    }
 
 -- ---- all parts
 
@@ -267,7 +284,8 @@ behind-next {s} {u} {v} {n} {input} b t =
     record {
       parts = b .parts ++ (part ∷ []);
       counted = length-append (b .parts) (part ∷ []) ∙ ap (λ (k : ℕ). k + 1) (b .counted);
-      stand = t .stand ∙ ap (λ (x : Stand). afterBytes x part) (b .stand) ∙ sym (after-more s (joined (b .parts)) part) ∙ ap (afterBytes s) (sym (joined-last (b .parts) part));
+      stand = t .stand ∙ ap (λ (x : Stand). afterBytes x part) (b .stand) ∙ sym (after-more s (joined (b .parts)) part)
+          ∙ ap (afterBytes s) (sym (joined-last (b .parts) part));
     }
 
 pub ran : {s u v : Stand} {n : ℕ} {input : List ℕ} {r : Turn} → Behind s n u → ReadSome u input r v → (r .outcome ≡ Going → ⊥) → Ran s (r .outcome) v

@@ -35,7 +35,8 @@ pub roomIsEnough : RoomIsEnough
 roomIsEnough room enough c small = length-take-le (wordsFor c) room (omega (arith, enough, words-grow c small))
 
 module _ (room : List ℕ) (p : Replay) (next : Script) (c k mul1 mul2 : ℕ) (small : c ≤ 8) where
-  made-answer : (v : Verdict) (u : Table) → createResult (take (wordsFor c) room) c k mul1 mul2 ≡ (v, u) → v ≡ Done → askedOf room p next (askTable c k mul1 mul2) .answer ≡ Made
+  made-answer : (v : Verdict) (u : Table) → createResult (take (wordsFor c) room) c k mul1 mul2 ≡ (v, u) → v ≡ Done
+      → askedOf room p next (askTable c k mul1 mul2) .answer ≡ Made
   made-answer v u e d = rw (le-leb c 8 small, e, d)
 
 pub roomMakesAll : RoomMakesAll
@@ -46,8 +47,10 @@ roomMakesAll room enough p next c k mul1 mul2 small good =
     made-answer room p next c k mul1 mul2 small (r .0) (r .1) refl (done t long (createAnswers t c k mul1 mul2))
   where
     done : (t : Table) → length t ≡ wordsFor c
-        → (GoodCreation (length t) c k mul1 mul2 × (verdictMeans (createResult t c k mul1 mul2 .0) ≡ record { number = 0; values = [] }) × Created (length t) c k mul1 mul2 (createResult t c k mul1 mul2 .1))
-        ⊎ ((GoodCreation (length t) c k mul1 mul2 → ⊥) × (verdictMeans (createResult t c k mul1 mul2 .0) ≡ record { number = 13; values = [] }) × (createResult t c k mul1 mul2 .1 ≡ t))
+        → (GoodCreation (length t) c k mul1 mul2 × (verdictMeans (createResult t c k mul1 mul2 .0) ≡ record { number = 0; values = [] })
+        × Created (length t) c k mul1 mul2 (createResult t c k mul1 mul2 .1))
+        ⊎ ((GoodCreation (length t) c k mul1 mul2
+        → ⊥) × (verdictMeans (createResult t c k mul1 mul2 .0) ≡ record { number = 13; values = [] }) × (createResult t c k mul1 mul2 .1 ≡ t))
         → createResult t c k mul1 mul2 .0 ≡ Done
     done t long (inl x) = verdict-one (createResult t c k mul1 mul2 .0) Done (x .1)
     done t long (inr x) = absurd (x .0 (rw (← long) at good))

@@ -44,11 +44,13 @@ texts s (p ∷ ps) = textIn s p ++ texts (afterBytes s p) ps
 
 -- the texts of the parts, and where the input has ended that of the end, are what the whole input is answered
 abbrev pub PartsWritten : Type 0
-PartsWritten = (room line : List ℕ) (parts : List (List ℕ)) → length line ≡ 27 → texts (begun room line) parts ++ textOf (endOf (afterBytes (begun room line) (joined parts) .run)) ≡ outputTo room (joined parts)
+PartsWritten = (room line : List ℕ) (parts : List (List ℕ)) → length line ≡ 27
+    → texts (begun room line) parts ++ textOf (endOf (afterBytes (begun room line) (joined parts) .run)) ≡ outputTo room (joined parts)
 
 -- where the answer is known the texts of the parts are all of it, whatever the input has after them
 abbrev pub KnownPartsWritten : Type 0
-KnownPartsWritten = (room line : List ℕ) (parts : List (List ℕ)) (later : List ℕ) → length line ≡ 27 → known (afterBytes (begun room line) (joined parts) .run) ≡ true
+KnownPartsWritten = (room line : List ℕ) (parts : List (List ℕ)) (later : List ℕ) → length line ≡ 27
+    → known (afterBytes (begun room line) (joined parts) .run) ≡ true
     → texts (begun room line) parts ≡ outputTo room (joined parts ++ later)
 
 -- ---- what the program's functions promise. s is where the run stood, and u is where it stands at exit

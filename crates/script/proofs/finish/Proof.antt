@@ -27,7 +27,9 @@ same-length : tie.Need-same-length
 same-length c = search needs
 
 returns : tie.Need-returns
-returns c = end-put (c .before .before .before .before .before .before .before .before .args .run) (c .before .before .before .before .before .before .end .ensures) (c .before .before .before .before .say-at .ensures)
+returns c =
+    let d = c .before .before .before .before in
+    end-put (d .before .before .before .before .args .run) (d .before .before .end .ensures) (d .say-at .ensures)
 
 pub finish-spec : {M : Type 1} → statement M
 finish-spec =

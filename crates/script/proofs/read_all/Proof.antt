@@ -12,7 +12,8 @@ use Rattle.script.proofs.read_all.Tie as tie
 
 abbrev Inv-loop : tie.InvT-loop
 Inv-loop room₀ line₀ input₀ out₀ run₀ parts₀ room line input out run parts =
-    (length room ≡ length room₀) × (length input ≡ length input₀) × (length out ≡ length out₀) × (parts < 2 ^ 64) × Behind (begun room₀ line₀) parts (record { run = run; room = room; line = line })
+    (length room ≡ length room₀) × (length input ≡ length input₀) × (length out ≡ length out₀) × (parts < 2 ^ 64)
+    × Behind (begun room₀ line₀) parts (record { run = run; room = room; line = line })
 
 abbrev μ-loop : tie.MeasureT-loop
 μ-loop room₀ line₀ input₀ out₀ run₀ parts₀ room line input out run parts = 2 ^ 64 - parts
@@ -39,7 +40,9 @@ same-length-3 : tie.Need-same-length-3 Inv-loop μ-loop
 same-length-3 c = search needs
 
 returns : tie.Need-returns Inv-loop μ-loop
-returns c = ran (c .before .before .before .before .before .before .before .before .before .before .before .before .before .before .loop .inv .4) (c .before .before .before .before .before .before .before .before .read-some .ensures) (not-going _ (c .match .keys2))
+returns c =
+    let d = c .before .before .before .before .before .before .before .before in
+    ran (d .before .before .before .before .before .before .loop .inv .4) (d .read-some .ensures) (not-going _ (c .match .keys2))
 
 add-parts : tie.Need-add-parts Inv-loop μ-loop
 add-parts c = search needs
@@ -49,8 +52,9 @@ loop-less c = search needs
 
 loop-again : tie.Need-loop-again Inv-loop μ-loop
 loop-again c =
-    let l = c .before .before .before .before .before .before .before .before .before .before .before .before .before .before .before .loop in
-    (search needs, search needs, search needs, omega (arith, c .before .before .before .before .before .before .before .before .before .before .before .before .before .before .loop-test .taken), behind-next (l .inv .4) (c .before .before .before .before .before .before .before .before .before .read-some .ensures))
+    let d = c .before .before .before .before .before .before .before .before .before in
+    let l = d .before .before .before .before .before .before in
+    (search needs, search needs, search needs, omega (arith, d .before .before .before .before .before .loop-test .taken), behind-next (l .loop .inv .4) (d .read-some .ensures))
 
 same-length-4 : tie.Need-same-length-4 Inv-loop μ-loop
 same-length-4 c = search needs

@@ -43,7 +43,7 @@ same-length-4 : tie.Need-same-length-4
 same-length-4 c = search needs
 
 returns-3 : tie.Need-returns-3
-returns-3 c = read-taken (c .before .before .before .before .before .before .before .before .before .count .result) _ (c .before .before .before .before .take-read .ensures)
+returns-3 c = let d = c .before .before .before .before in read-taken (d .before .before .before .before .before .count .result) _ (d .take-read .ensures)
 
 pub read-some-spec : {M : Type 1} → statement M
 read-some-spec =

@@ -12,7 +12,8 @@ use Rattle.script.proofs.take_part.Statement.{statement}
 use Rattle.script.proofs.take_part.Tie as tie
 
 abbrev Inv-loop : tie.InvT-loop
-Inv-loop room₀ line₀ part out₀ run₀ taken₀ room line out run taken = (length room ≡ length room₀) × (length out ≡ length out₀) × (taken ≤ length part) × (record { run = run; room = room; line = line } ≡ afterBytes (record { run = run₀; room = room₀; line = line₀ }) (take taken part))
+Inv-loop room₀ line₀ part out₀ run₀ taken₀ room line out run taken = (length room ≡ length room₀) × (length out ≡ length out₀) × (taken ≤ length part)
+    × (record { run = run; room = room; line = line } ≡ afterBytes (record { run = run₀; room = room₀; line = line₀ }) (take taken part))
 
 abbrev μ-loop : tie.MeasureT-loop
 μ-loop room₀ line₀ part out₀ run₀ taken₀ room line out run taken = length part - taken
@@ -36,7 +37,12 @@ take-some-requires : tie.Need-take-some-requires Inv-loop μ-loop
 take-some-requires c κs = search needs
 
 add-taken : tie.Need-add-taken Inv-loop μ-loop
-add-taken c = omega (arith, part-more _ _ (c .before .before .before .before .before .before .before .before .before .before .before .before .before .before .loop .taken) (c .before .before .before .before .before .before .before .before .before .before .before .before .before .before .loop .inv .2) (c .before .before .before .before .before .before .before .before .before .before .before .before .before .before .loop .inv .3) (rest-lent _ (c .before .before .before .before .before .before .before .before .before .before .before .before .before .before .before .before .before .before .args .part .now) _ (c .before .before .before .before .before .before .take-some .ensures .0)) .0, c .before .before .before .before .before .before .before .before .before .before .before .before .before .before .before .before .before .before .good .1 .1 .1 .0 .0)
+add-taken c =
+    let d = c .before .before .before .before .before .before in
+    let l = d .before .before .before .before .before .before .before .before in
+    let e = l .before .before .before .before in
+    let more = part-more _ _ (l .loop .taken) (l .loop .inv .2) (l .loop .inv .3) (rest-lent _ (e .args .part .now) _ (d .take-some .ensures .0)) in
+    omega (arith, more .0, e .good .1 .1 .1 .0 .0)
 
 slice-reshare-prefix-write-all : tie.Need-slice-reshare-prefix-write-all Inv-loop μ-loop
 slice-reshare-prefix-write-all c = search needs
@@ -54,19 +60,32 @@ same-length-2 : tie.Need-same-length-2 Inv-loop μ-loop
 same-length-2 c = search needs
 
 returns : tie.Need-returns Inv-loop μ-loop
-returns c = let more = part-more _ _ (c .before .before .before .before .before .before .before .before .before .before .before .before .before .before .before .before .before .loop .taken) (c .before .before .before .before .before .before .before .before .before .before .before .before .before .before .before .before .before .loop .inv .2) (c .before .before .before .before .before .before .before .before .before .before .before .before .before .before .before .before .before .loop .inv .3) (rest-lent _ (c .before .before .before .before .before .before .before .before .before .before .before .before .before .before .before .before .before .before .before .before .before .args .part .now) _ (c .before .before .before .before .before .before .before .before .before .take-some .ensures .0)) in part-unwritten (more .0) (more .1)
+returns c =
+    let d = c .before .before .before .before .before .before .before .before .before in
+    let l = d .before .before .before .before .before .before .before .before in
+    let e = l .before .before .before .before in
+    let more = part-more _ _ (l .loop .taken) (l .loop .inv .2) (l .loop .inv .3) (rest-lent _ (e .args .part .now) _ (d .take-some .ensures .0)) in
+    part-unwritten (more .0) (more .1)
 
 loop-less : tie.Need-loop-less Inv-loop μ-loop
 loop-less c =
-    let l = c .before .before .before .before .before .before .before .before .before .before .before .before .before .before .before .before .before .loop in
-    let more = part-more _ _ (c .before .before .before .before .before .before .before .before .before .before .before .before .before .before .before .before .before .loop .taken) (c .before .before .before .before .before .before .before .before .before .before .before .before .before .before .before .before .before .loop .inv .2) (c .before .before .before .before .before .before .before .before .before .before .before .before .before .before .before .before .before .loop .inv .3) (rest-lent _ (c .before .before .before .before .before .before .before .before .before .before .before .before .before .before .before .before .before .before .before .before .before .args .part .now) _ (c .before .before .before .before .before .before .before .before .before .take-some .ensures .0)) in
-    let going = sym (c .before .before .before .before .before .before .before .before .before .before .before .before .before .before .before .known .ensures) ∙ c .before .before .before .before .before .before .before .before .before .before .before .before .before .before .if1 .left in
-    let left = c .before .before .before .before .before .before .before .before .before .before .before .before .before .before .before .before .loop-test .taken in
-    let some = some-taken _ _ _ (rest-lent _ (c .before .before .before .before .before .before .before .before .before .before .before .before .before .before .before .before .before .before .before .before .before .args .part .now) _ (c .before .before .before .before .before .before .before .before .before .take-some .ensures .0)) going (simp length-drop (omega (arith, left))) (omega (arith, c .before .before .before .before .before .before .before .before .before .take-some .ensures .1, l .inv .1, c .before .before .before .before .before .before .before .before .before .before .before .before .before .before .before .before .before .before .before .before .before .pre)) in
+    let d = c .before .before .before .before .before .before .before .before .before in
+    let l = d .before .before .before .before .before .before .before .before in
+    let e = l .before .before .before .before in
+    let more = part-more _ _ (l .loop .taken) (l .loop .inv .2) (l .loop .inv .3) (rest-lent _ (e .args .part .now) _ (d .take-some .ensures .0)) in
+    let going = sym (d .before .before .before .before .before .before .known .ensures) ∙ d .before .before .before .before .before .if1 .left in
+    let left = d .before .before .before .before .before .before .before .loop-test .taken in
+    let some = some-taken _ _ _ (rest-lent _ (e .args .part .now) _ (d .take-some .ensures .0)) going (simp length-drop (omega (arith, left)))
+    (omega (arith, d .take-some .ensures .1, l .loop .inv .1, e .pre)) in
     omega (arith, some, left, more .0)
 
 loop-again : tie.Need-loop-again Inv-loop μ-loop
-loop-again c = let more = part-more _ _ (c .before .before .before .before .before .before .before .before .before .before .before .before .before .before .before .before .before .loop .taken) (c .before .before .before .before .before .before .before .before .before .before .before .before .before .before .before .before .before .loop .inv .2) (c .before .before .before .before .before .before .before .before .before .before .before .before .before .before .before .before .before .loop .inv .3) (rest-lent _ (c .before .before .before .before .before .before .before .before .before .before .before .before .before .before .before .before .before .before .before .before .before .args .part .now) _ (c .before .before .before .before .before .before .before .before .before .take-some .ensures .0)) in (search needs, search needs, more .0, more .1)
+loop-again c =
+    let d = c .before .before .before .before .before .before .before .before .before in
+    let l = d .before .before .before .before .before .before .before .before in
+    let e = l .before .before .before .before in
+    let more = part-more _ _ (l .loop .taken) (l .loop .inv .2) (l .loop .inv .3) (rest-lent _ (e .args .part .now) _ (d .take-some .ensures .0)) in
+    (search needs, search needs, more .0, more .1)
 
 same-length-3 : tie.Need-same-length-3 Inv-loop μ-loop
 same-length-3 c = search needs

@@ -10,7 +10,8 @@ use Rattle.script.proofs.take_some.Statement.{statement}
 use Rattle.script.proofs.take_some.Tie as tie
 
 abbrev Inv-loop : tie.InvT-loop
-Inv-loop room₀ line₀ text out₀ run₀ taken₀ waiting₀ room line out run taken waiting = (length room ≡ length room₀) × (length out ≡ length out₀) × Taking (record { run = run₀; room = room₀; line = line₀ }) text (record { run = run; room = room; line = line }) taken waiting out
+Inv-loop room₀ line₀ text out₀ run₀ taken₀ waiting₀ room line out run taken waiting = (length room ≡ length room₀) × (length out ≡ length out₀)
+    × Taking (record { run = run₀; room = room₀; line = line₀ }) text (record { run = run; room = room; line = line }) taken waiting out
 
 abbrev μ-loop : tie.MeasureT-loop
 μ-loop room₀ line₀ text out₀ run₀ taken₀ waiting₀ room line out run taken waiting = length text - taken
@@ -32,20 +33,23 @@ take-byte-requires c κs = search needs
 
 say-at-requires : tie.Need-say-at-requires Inv-loop μ-loop
 say-at-requires c κs =
-    let l = c .before .before .before .before .before .before .before .before .before .before .loop in
-    omega (arith, goes-on (l .run) (length (l .out) - l .waiting) (sym (c .before .before .before .before .before .before .before .before .pauses .ensures) ∙ c .before .before .before .before .before .before .before .if1 .left))
+    let d = c .before .before .before .before .before .before .before in
+    let l = d .before .before .before .loop in
+    omega (arith, goes-on (l .run) (length (l .out) - l .waiting) (sym (d .before .pauses .ensures) ∙ d .if1 .left))
 
 add-taken : tie.Need-add-taken Inv-loop μ-loop
-add-taken c = omega (arith, c .before .before .before .before .before .before .before .before .before .before .before .before .before .loop-test .taken, c .before .before .before .before .before .before .before .before .before .before .before .before .before .before .before .before .before .before .good .1 .1 .1 .0 .0)
+add-taken c =
+    let d = c .before .before .before .before .before .before .before .before .before .before .before .before .before in
+    omega (arith, d .loop-test .taken, d .before .before .before .before .before .good .1 .1 .1 .0 .0)
 
 loop-less : tie.Need-loop-less Inv-loop μ-loop
 loop-less c = search needs
 
 loop-again : tie.Need-loop-again Inv-loop μ-loop
 loop-again c =
-    let d = c .before .before .before .before .before .before .before .before .before .before .before .before .before .before in
-    let inv = d .loop .inv in
-    (search needs, search needs, taking-next (inv .2) (c .before .before .before .before .before .before .before .before .before .before .before .before .before .loop-test .taken) (c .before .before .before .before .before .before .before .take-byte .ensures) (c .before .before .before .say-at .ensures))
+    let d = c .before .before .before .before .before .before .before in
+    let l = d .before .before .before .before .before .before in
+    (search needs, search needs, taking-next (l .before .loop .inv .2) (l .loop-test .taken) (d .take-byte .ensures) (c .before .before .before .say-at .ensures))
 
 same-length : tie.Need-same-length Inv-loop μ-loop
 same-length c = search needs
@@ -63,7 +67,11 @@ same-length-4 : tie.Need-same-length-4 Inv-loop μ-loop
 same-length-4 c = search needs
 
 returns-2 : tie.Need-returns-2 Inv-loop μ-loop
-returns-2 c = (took (c .before .before .before .loop .inv .2) (λ _. sym (c .before .pauses .ensures) ∙ c .if1 .taken), c .before .before .before .loop .inv .1)
+returns-2 c = (
+  took (c .before .before .before .loop .inv .2) (λ _. sym (c .before .pauses .ensures)
+      ∙ c .if1 .taken),
+  c .before .before .before .loop .inv .1,
+)
 
 pub take-some-spec : {M : Type 1} → statement M
 take-some-spec =
