@@ -1,6 +1,6 @@
 -- The user's three demands, proved: one theorem. Each field is the law of the same name.
 -- Assumes nothing.
-use Rattle.rules.specs.Mission.{Mission}
+use Rattle.rules.specs.Mission.{Demand1, Demand2, Demand3, Mission}
 use Rattle.rules.proofs.Sound.{soundnessIsTested}
 use Rattle.rules.proofs.Maps.{mapExists}
 use Rattle.rules.proofs.Findings.{recoverAnswers, recoveryAccepts}
@@ -22,8 +22,8 @@ use Rattle.rules.proofs.Recurring.{recoveryMayBeCut}
 use Rattle.rules.proofs.MadeCuts.{cutsAreSafe}
 use Rattle.rules.proofs.GrowthCost.{growthBound}
 
-pub mission : Mission
-mission =
+pub demand1 : Demand1
+demand1 =
     record {
       refusalsInOrder = refusalsInOrder;
       storesInside = storesInside;
@@ -33,6 +33,11 @@ mission =
       makeAnswers = makeAnswers;
       stepIsACall = stepIsACall;
       queryIsACall = queryIsACall;
+    }
+
+pub demand2 : Demand2
+demand2 =
+    record {
       soundnessIsTested = soundnessIsTested;
       mapExists = mapExists;
       createdIsEmpty = createdIsEmpty;
@@ -44,6 +49,11 @@ mission =
       stepAnswers = stepAnswers;
       endAnswers = endAnswers;
       recoverAnswers = recoverAnswers;
+    }
+
+pub demand3 : Demand3
+demand3 =
+    record {
       storeNumbers = storeNumbers;
       storesAsWritten = storesAsWritten;
       makeTakesTheList = makeTakesTheList;
@@ -55,3 +65,6 @@ mission =
       probesAreDistinct = probesAreDistinct;
       queryCounts = queryCounts;
     }
+
+pub mission : Mission
+mission = record { anyInput = demand1; plainMap = demand2; safeCuts = demand3 }

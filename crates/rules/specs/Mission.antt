@@ -1,11 +1,11 @@
--- All that is proved of the rules, in one place: the user's three demands, sentence by sentence. Each field is a statement of
--- `Demands`, which says it in full. One law proves them all: `mission`, in proofs/Mission.
+-- All that is proved of the rules, in one place: the user's three demands, sentence by sentence. Each field of a demand is a
+-- statement of `Demands`, which says it in full. One law proves them all: `mission`, in proofs/Mission.
 -- That the code does what the rules say is promised call by call, in the `ensures` of each.
 -- Assumes nothing.
 use Rattle.rules.specs.Demands.{ChangeAnswers, CreateAnswers, MakeAnswers, RefusalsInOrder, StepIsACall, QueryIsACall, StoresInside, TokenStoresLow, SoundnessIsTested, MapExists, CreatedIsEmpty, QueryAnswers, InsertAnswers, UpdateAnswers, DeleteAnswers, BeginAnswers, StepAnswers, EndAnswers, RecoverAnswers, StoresAsWritten, StoreNumbers, MakeTakesTheList, CutsAreSafe, RecoveryMayBeCut, RecoveryAccepts, GrowthBound, QueryCounts, ProbesAreFew, ProbesAreDistinct}
 
-pub record Mission : Type 0 where
-  -- Demand 1. "Any words, keys and lengths may be handed in. Every call ends, stays within its buffers and checks its own input."
+pub record Demand1 : Type 0 where
+  -- "Any words, keys and lengths may be handed in. Every call ends, stays within its buffers and checks its own input."
   pub refusalsInOrder : RefusalsInOrder
   pub storesInside : StoresInside
   pub tokenStoresLow : TokenStoresLow
@@ -15,7 +15,9 @@ pub record Mission : Type 0 where
   pub makeAnswers : MakeAnswers
   pub stepIsACall : StepIsACall
   pub queryIsACall : QueryIsACall
-  -- Demand 2. "On a sound table": what that is, and its map, of which there is one
+
+pub record Demand2 : Type 0 where
+  -- "On a sound table": what that is, and its map, of which there is one
   pub soundnessIsTested : SoundnessIsTested
   pub mapExists : MapExists
   pub createdIsEmpty : CreatedIsEmpty
@@ -30,7 +32,9 @@ pub record Mission : Type 0 where
   pub stepAnswers : StepAnswers
   pub endAnswers : EndAnswers
   pub recoverAnswers : RecoverAnswers
-  -- Demand 3. "From a sound table an accepted change lists at most ten stores; made in order they give the sound table that document
+
+pub record Demand3 : Type 0 where
+  -- "From a sound table an accepted change lists at most ten stores; made in order they give the sound table that document
   -- 01 fixes, with demand 2's map."
   pub storeNumbers : StoreNumbers
   pub storesAsWritten : StoresAsWritten
@@ -47,3 +51,9 @@ pub record Mission : Type 0 where
   pub probesAreFew : ProbesAreFew
   pub probesAreDistinct : ProbesAreDistinct
   pub queryCounts : QueryCounts
+
+-- the user's three demands
+pub record Mission : Type 0 where
+  pub anyInput : Demand1
+  pub plainMap : Demand2
+  pub safeCuts : Demand3
