@@ -4,7 +4,7 @@ use Prim.Native.Nat.{ℕ, zero, suc, _+_, _-_, _^_, _≤_, _<_}
 use mathlib.Core.Path.{_≡_, refl, sym, ap, subst, _∙_}
 use mathlib.Core.Bool.{Bool, true, false, cond}
 use mathlib.Core.List.{List, [], _∷_, _++_, flatMap, append-nil, append-assoc}
-use mathlib.Core.Logic.{⊎-elim}
+use mathlib.Core.Logic.{⊎-elim, inl, inr}
 use native.Mathlib.Nat.{zero-add}
 use native.Mathlib.Numerals.{add-one}
 use native.Mathlib.Omega.{arith}
@@ -25,8 +25,8 @@ use Rattle.saying.specs.Texts.{textOf}
 use Rattle.saying.specs.Writing.{Put}
 use Rattle.saying.proofs.Puts.{put-length, put-text}
 use Rattle.script.specs.Outputs.{outputTo}
-use Rattle.script.specs.Parts.{begun, textIn, joined, pauses, texts, PartsWritten, KnownPartsWritten, TookSome, TookPart, KnownIs, WentOn, ReadSome, Behind, Ran}
-use Rattle.script.specs.declared.Some.{Some}
+use Rattle.script.specs.Parts.{begun, textIn, joined, pauses, texts, PartsWritten, KnownPartsWritten, TookSome, TookPart, RoomFor, WentOn, ReadSome, Behind, Ran}
+use Rattle.script.specs.declared.Took.{Took}
 use Rattle.script.specs.declared.Part.{Part}
 use Rattle.script.specs.declared.Turn.{Turn}
 use Rattle.script.specs.declared.Outcome.{Outcome}
@@ -165,14 +165,14 @@ end-put run e p =
 -- ---- part by part
 
 -- what is left of a part, as the code lends it
-pub rest-lent : (u : Stand) (part : List ℕ) (taken : ℕ) {r : Some} {v : Stand} {out : List ℕ}
+pub rest-lent : (u : Stand) (part : List ℕ) (taken : ℕ) {r : Took} {v : Stand} {out : List ℕ}
     → TookSome u (take (length part - taken) (drop taken part)) r v out → TookSome u (drop taken part) r v out
 rest-lent u part taken t = let same : take (length part - taken) (drop taken part)
     ≡ drop taken part = take-all (length part - taken) (drop taken part) (omega (arith, length-drop taken part)) in rw same at t
 
 -- more of a part is taken
 pub part-more : (s : Stand) (part : List ℕ) {u : Stand} (taken : ℕ) → taken ≤ length part → u ≡ afterBytes s (take taken part)
-    → {r : Some} {v : Stand} {out : List ℕ} → TookSome u (drop taken part) r v out
+    → {r : Took} {v : Stand} {out : List ℕ} → TookSome u (drop taken part) r v out
     → (taken + r .taken ≤ length part) × (v ≡ afterBytes s (take (taken + r .taken) part))
 part-more s part {u} taken within e {r} {v} t =
     let most : r .taken ≤ length part - taken = rw (length-drop taken part) at (t .within) in
@@ -191,7 +191,7 @@ text-none : (s : Stand) → textIn s [] ≡ []
 unfolding textIn answersIn flatMap
 text-none s = refl
 
-pub some-taken : (u : Stand) (rest : List ℕ) {r : Some} {v : Stand} (out : List ℕ) → TookSome u rest r v out → known (u .run) ≡ false → 0 < length rest
+pub some-taken : (u : Stand) (rest : List ℕ) {r : Took} {v : Stand} (out : List ℕ) → TookSome u rest r v out → known (u .run) ≡ false → 0 < length rest
     → 128 ≤ length out → 0 < r .taken
 some-taken u rest {r} {v} out t k more room = go (r .taken) (t .stand) (t .front) (t .pausing)
   where
@@ -237,37 +237,94 @@ not-going Ended k e = differ Ended Going refl e
 not-going Unread k e = differ Unread Going refl e
 not-going Unwritten k e = differ Unwritten Going refl e
 
--- nothing is taken where the program stops
-pub stopped : (outcome : Outcome) → eqb (place outcome) 1 ≡ false → eqb (place outcome) 0 ≡ false → (s : Stand) (part : List ℕ)
+-- nothing is taken where nothing was read
+pub read-nothing : (outcome : Outcome) → eqb (place outcome) 0 ≡ false → eqb (place outcome) 1 ≡ false → eqb (place outcome) 3 ≡ false → (s : Stand) (part : List ℕ) → length part ≡ 0
     → WentOn s part (record { run = s .run; outcome = outcome }) s
-stopped outcome a b s part = record { taken = 0; stand = sym (after-none s); rightly = λ e. absurd (differ outcome Known a e); all = λ e. absurd (differ outcome Going b e) }
+read-nothing outcome going knows unread s part none =
+    record {
+      taken = 0;
+      within = omega arith;
+      stand = sym (after-none s);
+      all = λ e. absurd (differ outcome Going going e);
+      some = λ e. absurd (differ outcome Going going e);
+      ended = λ _. none;
+      other = (differ outcome Known knows, differ outcome Unread unread);
+    }
 
 module _ {s : Stand} {part : List ℕ} {t : Part} {u : Stand} (p : TookPart s part t u) where
-  pub went-on : t .written ≡ true → WentOn s part (record { run = t .run; outcome = Going }) u
-  went-on w = record { taken = t .taken; stand = p .stand; rightly = λ e. absurd (differ Going Known refl e); all = λ _. p .all w }
+  pub went-on : t .written ≡ true → (length part ≡ 0 → ⊥) → WentOn s part (record { run = t .run; outcome = Going }) u
+  went-on w any =
+      record {
+        taken = t .taken;
+        within = p .within;
+        stand = p .stand;
+        all = λ _. p .all w;
+        some = λ _. omega (arith, any);
+        ended = λ e. absurd (differ Going Ended refl e);
+        other = (differ Going Known refl, differ Going Unread refl);
+      }
 
   pub went-unwritten : WentOn s part (record { run = t .run; outcome = Unwritten }) u
-  went-unwritten = record { taken = t .taken; stand = p .stand; rightly = λ e. absurd (differ Unwritten Known refl e); all = λ e. absurd (differ Unwritten Going refl e) }
+  went-unwritten =
+      record {
+        taken = t .taken;
+        within = p .within;
+        stand = p .stand;
+        all = λ e. absurd (differ Unwritten Going refl e);
+        some = λ e. absurd (differ Unwritten Going refl e);
+        ended = λ e. absurd (differ Unwritten Ended refl e);
+        other = (differ Unwritten Known refl, differ Unwritten Unread refl);
+      }
 
 -- ---- one reading
 
 pub read-known : (s : Stand) (input : List ℕ) → known (s .run) ≡ true → ReadSome s input (record { run = s .run; outcome = Known }) s
-read-known s input k = record { taken = 0; stand = sym (after-none s); rightly = λ _. k }
+read-known s input k = record { stops = λ _. (refl, refl); reads = λ e. absurd (true-false (sym k ∙ e)) }
 
-pub read-failed : (s : Stand) (input : List ℕ) → ReadSome s input (record { run = s .run; outcome = Unread }) s
-read-failed s input = record { taken = 0; stand = sym (after-none s); rightly = λ e. absurd (differ Unread Known refl e) }
+pub read-failed : (s : Stand) (input : List ℕ) → known (s .run) ≡ false → ReadSome s input (record { run = s .run; outcome = Unread }) s
+read-failed s input k = record { stops = λ e. absurd (true-false (sym e ∙ k)); reads = λ _. inl (refl, refl) }
 
-pub read-taken : (n : ℕ) (input : List ℕ) {s u : Stand} {r : Turn} → WentOn s (take n input) r u → ReadSome s input r u
-read-taken n input {s} {u} {r} w = go (decLe (w .taken) n)
+pub read-taken : (n : ℕ) (input : List ℕ) {s u : Stand} {r : Turn} → n ≤ length input → known (s .run) ≡ false → WentOn s (take n input) r u → ReadSome s input r u
+read-taken n input few k w = record { stops = λ e. absurd (true-false (sym e ∙ k)); reads = λ _. inr (n, few, w) }
+
+-- what the loop needs of it: the part that was taken, which is not empty where the program goes on
+record Onward (s : Stand) (r : Turn) (u : Stand) : Type 0 where
+  part : List ℕ
+  stand : u ≡ afterBytes s part
+  rightly : r .outcome ≡ Known → known (u .run) ≡ true
+  some : r .outcome ≡ Going → 0 < length part
+
+went-onward : {s : Stand} (part : List ℕ) {r : Turn} {u : Stand} → known (s .run) ≡ false → WentOn s part r u → Onward s r u
+went-onward {s} part {r} {u} k w =
+    record { part = take (w .taken) part; stand = w .stand; rightly = λ e. absurd (w .other .0 e); some = λ e. go (w .taken) (w .within) (w .stand) (w .all e) (w .some e) }
   where
-    go : Dec (w .taken ≤ n) → ReadSome s input r u
-    go (yes l) = record { taken = w .taken; stand = w .stand ∙ ap (afterBytes s) (take-take (w .taken) n input l); rightly = w .rightly }
-    go (no l) = record {
-      taken = n;
-      stand = w .stand
-          ∙ ap (afterBytes s) (take-all (w .taken) (take n input) (omega (arith, length-take n input)));
-      rightly = w .rightly;
+    -- where nothing is taken the run stands as before, and its answer is not known
+    go : (n : ℕ) → n ≤ length part → u ≡ afterBytes s (take n part) → (known (u .run) ≡ false → n ≡ length part) → 0 < length part → 0 < length (take n part)
+    go (suc n) within stand all some = omega (arith, length-take-le (suc n) part within)
+    go zero within stand all some = absurd (omega (arith, all (ap (λ (x : Stand). known (x .run)) (stand ∙ after-none s) ∙ k), some))
+
+failed-onward : {s : Stand} {r : Turn} {u : Stand} → (r .outcome ≡ Unread) × (u ≡ s) → Onward s r u
+failed-onward {s} bad =
+    record {
+      part = [];
+      stand = bad .1 ∙ sym (after-none s);
+      rightly = λ e. absurd (differ Unread Known refl (sym (bad .0) ∙ e));
+      some = λ e. absurd (differ Unread Going refl (sym (bad .0) ∙ e));
     }
+
+read-onward : {s : Stand} {input : List ℕ} {r : Turn} {u : Stand} → ReadSome s input r u → Onward s r u
+read-onward {s} {input} {r} {u} t = go (known (s .run)) refl
+  where
+    go : (b : Bool) → known (s .run) ≡ b → Onward s r u
+    go true k =
+        let here = t .stops k in
+        record {
+          part = [];
+          stand = here .1 ∙ sym (after-none s);
+          rightly = λ _. ap (λ (x : Stand). known (x .run)) (here .1) ∙ k;
+          some = λ e. absurd (differ Known Going refl (sym (here .0) ∙ e));
+        }
+    go false k = ⊎-elim failed-onward (λ w. went-onward (take (w .0) input) k (w .2)) (t .reads k)
 
 -- ---- all parts
 
@@ -276,20 +333,25 @@ joined-last [] p = append-nil p
 joined-last (q ∷ ps) p = rw (joined-last ps p, append-assoc q (joined ps) p)
 
 pub behind-none : (room line : List ℕ) {run : Run} → run ≡ ready → Behind (begun room line) 0 (record { run = run; room = room; line = line })
-behind-none room line e = record { parts = []; counted = refl; stand = rw e (sym (after-none (begun room line))) }
+behind-none room line e = record { parts = []; stand = rw e (sym (after-none (begun room line))); long = omega arith }
 
-pub behind-next : {s u v : Stand} {n : ℕ} {input : List ℕ} {r : Turn} → Behind s n u → ReadSome u input r v → Behind s (n + 1) v
-behind-next {s} {u} {v} {n} {input} b t =
-    let part = take (t .taken) input in
+-- one part more
+behind-more : {s u v : Stand} {n : ℕ} {r : Turn} → Behind s n u → (o : Onward u r v) → (m : ℕ) → m ≤ n + length (o .part) → Behind s m v
+behind-more {s} {u} {v} {n} b o m few =
+    let all = joined-last (b .parts) (o .part) in
     record {
-      parts = b .parts ++ (part ∷ []);
-      counted = length-append (b .parts) (part ∷ []) ∙ ap (λ (k : ℕ). k + 1) (b .counted);
-      stand = t .stand ∙ ap (λ (x : Stand). afterBytes x part) (b .stand) ∙ sym (after-more s (joined (b .parts)) part)
-          ∙ ap (afterBytes s) (sym (joined-last (b .parts) part));
+      parts = b .parts ++ (o .part ∷ []);
+      stand = o .stand ∙ ap (λ (x : Stand). afterBytes x (o .part)) (b .stand) ∙ sym (after-more s (joined (b .parts)) (o .part)) ∙ ap (afterBytes s) (sym all);
+      long = omega (arith, few, b .long, ap length all ∙ length-append (joined (b .parts)) (o .part));
     }
 
-pub ran : {s u v : Stand} {n : ℕ} {input : List ℕ} {r : Turn} → Behind s n u → ReadSome u input r v → (r .outcome ≡ Going → ⊥) → Ran s (r .outcome) v
-ran {n = n} b t stops = record { count = n + 1; behind = behind-next b t; rightly = t .rightly; never = λ e. absurd (stops e) }
+pub behind-next : {s u v : Stand} {n : ℕ} {input : List ℕ} {r : Turn} → Behind s n u → ReadSome u input r v → r .outcome ≡ Going → Behind s (n + 1) v
+behind-next {n = n} b t e = let o = read-onward t in behind-more b o (n + 1) (omega (arith, o .some e))
 
-pub ran-on : {s u : Stand} {n : ℕ} → Behind s n u → n + 1 ≡ 2 ^ 64 → Ran s Going u
-ran-on {n = n} b e = record { count = n; behind = b; rightly = λ k. absurd (differ Going Known refl k); never = λ _. e }
+pub ran : {s u v : Stand} {n : ℕ} {input : List ℕ} {r : Turn} → RoomFor (s .room) → Behind s n u → ReadSome u input r v → (r .outcome ≡ Going → ⊥) → Ran s (r .outcome) v
+ran {n = n} fits b t stops =
+    let o = read-onward t in
+    record { count = n; behind = behind-more b o n (omega arith); rightly = o .rightly; never = λ e. absurd (stops e); room = fits }
+
+pub ran-on : {s u : Stand} {n : ℕ} → RoomFor (s .room) → Behind s n u → 2 ^ 64 ≤ n + 1 → Ran s Going u
+ran-on {n = n} fits b e = record { count = n; behind = b; rightly = λ k. absurd (differ Going Known refl k); never = λ _. e; room = fits }

@@ -40,9 +40,9 @@ module _ (room : List ℕ) (p : Replay) (next : Script) (c k mul1 mul2 : ℕ) (s
   made-answer v u e d = rw (le-leb c 8 small, e, d)
 
 pub roomMakesAll : RoomMakesAll
-roomMakesAll room enough p next c k mul1 mul2 small good =
+roomMakesAll room fits p next c k mul1 mul2 small good =
     let t = take (wordsFor c) room in
-    let long : length t ≡ wordsFor c = roomIsEnough room enough c small in
+    let long : length t ≡ wordsFor c = fits c small in
     let r = createResult t c k mul1 mul2 in
     made-answer room p next c k mul1 mul2 small (r .0) (r .1) refl (done t long (createAnswers t c k mul1 mul2))
   where

@@ -4,6 +4,7 @@ use Prim.Native.Nat.{ℕ, _+_, _-_, _^_, _≤_, _<_}
 use mathlib.Core.Path.{_≡_}
 use mathlib.Core.Bool.{Bool, true, false, cond}
 use mathlib.Core.List.{List, [], _∷_, _++_, flatMap}
+use mathlib.Core.Logic.{_⊎_}
 use lib.ListN.{length, take}
 use lib.Dec.{ltb}
 use Rattle.rules.specs.Words.{wordsFor}
@@ -17,11 +18,11 @@ use Rattle.running.specs.Runs.{ready, known, endOf, Stand, afterBytes, answersI
 use Rattle.running.specs.declared.Run.{Run}
 use Rattle.saying.specs.Texts.{textOf}
 use Rattle.script.specs.Outputs.{outputTo}
-use Rattle.script.specs.declared.Some.{Some}
+use Rattle.script.specs.declared.Took.{Took}
 use Rattle.script.specs.declared.Part.{Part}
 use Rattle.script.specs.declared.Turn.{Turn}
 use Rattle.script.specs.declared.Outcome.{Outcome}
-use Rattle.script.specs.declared.Outcome.the-variants.{Going, Known}
+use Rattle.script.specs.declared.Outcome.the-variants.{Going, Known, Ended, Unread}
 
 -- before the first byte
 abbrev pub begun : List ℕ → List ℕ → Stand
@@ -53,15 +54,30 @@ KnownPartsWritten = (room line : List ℕ) (parts : List (List ℕ)) (later : Li
     → known (afterBytes (begun room line) (joined parts) .run) ≡ true
     → texts (begun room line) parts ≡ outputTo room (joined parts ++ later)
 
+-- ---- the room
+
+-- the words of every table up to cap 8
+abbrev pub RoomFor : List ℕ → Type 0
+RoomFor room = (c : ℕ) → c ≤ 8 → length (take (wordsFor c) room) ≡ wordsFor c
+
+-- "Program cap is at most 8": in as many words as the largest table has, which `main` lends, there is room for each
+abbrev pub RoomIsEnough : Type 0
+RoomIsEnough = (room : List ℕ) → wordsFor 8 ≤ length room → RoomFor room
+
+-- so `made=13` is never answered for want of room: with a good c, k and multipliers the table is made
+abbrev pub RoomMakesAll : Type 0
+RoomMakesAll = (room : List ℕ) → RoomFor room → (p : Replay) (next : Script) (c k mul1 mul2 : ℕ) → c ≤ 8 → GoodCreation (wordsFor c) c k mul1 mul2
+    → askedOf room p next (askTable c k mul1 mul2) .answer ≡ Made
+
 -- ---- what the program's functions promise. s is where the run stood, and u is where it stands at exit
 
--- no byte more is taken: the answer is known, or so many free bytes have no room for any answer
+-- no byte more is taken: the answer is known, or there are fewer free bytes than an answer is given
 abbrev pub pauses : Run → ℕ → Bool
 pauses run free = cond (known run) true (ltb free 128)
 
 -- of a text some bytes are taken, and their text is at the front of the buffer. The taking pauses before the
 -- end only for that reason
-pub record TookSome (s : Stand) (text : List ℕ) (r : Some) (u : Stand) (out : List ℕ) : Type 0 where
+pub record TookSome (s : Stand) (text : List ℕ) (r : Took) (u : Stand) (out : List ℕ) : Type 0 where
   pub within : r .taken ≤ length text
   pub stand : u ≡ afterBytes s (take (r .taken) text)
   pub fits : r .waiting ≤ length out
@@ -74,43 +90,34 @@ pub record TookPart (s : Stand) (part : List ℕ) (r : Part) (u : Stand) : Type 
   pub stand : u ≡ afterBytes s (take (r .taken) part)
   pub all : r .written ≡ true → known (u .run) ≡ false → r .taken ≡ length part
 
--- the answer is said to be known only where it is
-abbrev pub KnownIs : Outcome → Stand → Type 0
-KnownIs outcome u = outcome ≡ Known → known (u .run) ≡ true
-
--- what was read is taken, all of it where the program goes on and the answer is not known
+-- what was read is taken. The program goes on where there was some of it and all that it is answered with was written: then all of it
+-- is taken, unless the answer is known. It ends where there was none of it
 pub record WentOn (s : Stand) (part : List ℕ) (r : Turn) (u : Stand) : Type 0 where
   pub taken : ℕ
+  pub within : taken ≤ length part
   pub stand : u ≡ afterBytes s (take taken part)
-  pub rightly : KnownIs (r .outcome) u
   pub all : r .outcome ≡ Going → known (u .run) ≡ false → taken ≡ length part
+  pub some : r .outcome ≡ Going → 0 < length part
+  pub ended : r .outcome ≡ Ended → length part ≡ 0
+  pub other : (r .outcome ≡ Known → ⊥) × (r .outcome ≡ Unread → ⊥)
 
--- the same of what stands at the front of the buffer that was read into
+-- nothing is read where the answer is known. Else the read fails, and nothing is taken; or some bytes stand at the front of the input,
+-- as many as `read` answers, and they are taken
 pub record ReadSome (s : Stand) (input : List ℕ) (r : Turn) (u : Stand) : Type 0 where
-  pub taken : ℕ
-  pub stand : u ≡ afterBytes s (take taken input)
-  pub rightly : KnownIs (r .outcome) u
+  pub stops : known (s .run) ≡ true → (r .outcome ≡ Known) × (u ≡ s)
+  pub reads : known (s .run) ≡ false → ((r .outcome ≡ Unread) × (u ≡ s)) ⊎ ((n : ℕ) × (n ≤ length input) × WentOn s (take n input) r u)
 
--- some parts were read, and the run stands behind them
+-- so many bytes or more were read, in parts, and the run stands behind them
 pub record Behind (s : Stand) (count : ℕ) (u : Stand) : Type 0 where
   pub parts : List (List ℕ)
-  pub counted : length parts ≡ count
   pub stand : u ≡ afterBytes s (joined parts)
+  pub long : count ≤ length (joined parts)
 
--- the program stops for no other reason than a known answer, the end of the input or a failure, before 2^64 − 1 parts
+-- All parts are taken, in their order. The answer is said to be known only where it is, and the program stops while it could go on
+-- only behind 2^64 − 1 bytes or more. Its room has the words of every table that it may be asked for
 pub record Ran (s : Stand) (outcome : Outcome) (u : Stand) : Type 0 where
   pub count : ℕ
   pub behind : Behind s count u
-  pub rightly : KnownIs outcome u
-  pub never : outcome ≡ Going → count + 1 ≡ 2 ^ 64
-
--- ---- the room
-
--- "Program cap is at most 8": in as many words as the largest table has, which `main` lends, there is room for each
-abbrev pub RoomIsEnough : Type 0
-RoomIsEnough = (room : List ℕ) → wordsFor 8 ≤ length room → (c : ℕ) → c ≤ 8 → length (take (wordsFor c) room) ≡ wordsFor c
-
--- so `made=13` is never answered for want of room: with a good c, k and multipliers the table is made
-abbrev pub RoomMakesAll : Type 0
-RoomMakesAll = (room : List ℕ) → wordsFor 8 ≤ length room → (p : Replay) (next : Script) (c k mul1 mul2 : ℕ) → c ≤ 8 → GoodCreation (wordsFor c) c k mul1 mul2
-    → askedOf room p next (askTable c k mul1 mul2) .answer ≡ Made
+  pub rightly : outcome ≡ Known → known (u .run) ≡ true
+  pub never : outcome ≡ Going → 2 ^ 64 ≤ count + 1
+  pub room : RoomFor (s .room)

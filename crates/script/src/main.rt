@@ -1,6 +1,6 @@
 // The script program: a script on standard input, its answers on standard output. What is answered is settled in the library, of
-// which `running` takes the bytes and `saying` has the text of an answer. Here they are read and written, part by part, so that a
-// script of any length runs in the same little memory, and what has been answered is written before more is read.
+// which `running` takes the bytes and `saying` has the text of an answer. Here the bytes are read and the text is written, part by
+// part, so that a script of any length runs in the same little memory, and what has been answered is written before more is read.
 use libc::STDERR_FILENO;
 use libc::STDIN_FILENO;
 use libc::STDOUT_FILENO;
@@ -19,13 +19,13 @@ ghost use Rattle.saying.specs.Texts.{textOf};
 ghost use Rattle.script.specs.Parts.{begun, pauses as pausesOf, TookSome, TookPart, WentOn, ReadSome, Ran};
 
 // The first bytes of a text are taken: how many, and how many bytes of answers wait at the front of the buffer.
-struct Some {
+struct Took {
     run: Run,
     taken: usize,
     waiting: usize,
 }
 
-// Whether no byte more is taken: the answer is known, or the buffer has no room for any answer. The longest has 104 bytes.
+// Whether no byte more is taken: the answer is known, or fewer bytes are free than `say_at` asks for. The longest answer has 104.
 fn pauses(run: Run, free: usize) -> bool
     ensures { λ r. ⌜ r ≡ pausesOf run free ⌝ }
 {
@@ -35,7 +35,7 @@ fn pauses(run: Run, free: usize) -> bool
     free < 128
 }
 
-fn take_some(start: Run, room: &mut [u64], line: &mut [u8; 27], text: &[u8], out: &mut [u8]) -> Some
+fn take_some(start: Run, room: &mut [u64], line: &mut [u8; 27], text: &[u8], out: &mut [u8]) -> Took
     ensures { λ r. ⌜ TookSome (record { run = start; room = now (room .entry); line = now (line .entry) }) (now (text .entry)) r (record { run = r .run; room = now (room .exit); line = now (line .exit) }) (now (out .exit)) × (length (now (out .exit)) ≡ length (now (out .entry))) ⌝ }
 {
     let mut run = start;
@@ -51,7 +51,7 @@ fn take_some(start: Run, room: &mut [u64], line: &mut [u8; 27], text: &[u8], out
         run = byte.run;
         taken += 1;
     }
-    Some {
+    Took {
         run,
         taken,
         waiting,
@@ -75,10 +75,10 @@ fn take_part(start: Run, room: &mut [u64], line: &mut [u8; 27], part: &[u8], out
         if known(run) {
             break;
         }
-        let some = take_some(run, room, line, &part[taken..], out);
-        run = some.run;
-        taken += some.taken;
-        let waiting = some.waiting;
+        let took = take_some(run, room, line, &part[taken..], out);
+        run = took.run;
+        taken += took.taken;
+        let waiting = took.waiting;
         if !io::write_all(STDOUT_FILENO, &out[..waiting]) {
             return Part {
                 run,
@@ -203,8 +203,8 @@ fn complain(text: &[u8]) {
     io::write_all(STDERR_FILENO, text);
 }
 
-// A program cannot end with a status of its own. So a failure is told where nothing else is: whoever starts the program takes any
-// text there for a failure.
+// A program cannot end with a status of its own. So a failure is told on standard error, where nothing else is written: whoever
+// starts the program takes any text there for a failure.
 fn tell(outcome: Outcome) {
     match outcome {
         Outcome::Known => {}

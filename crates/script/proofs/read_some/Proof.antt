@@ -19,7 +19,7 @@ same-length : tie.Need-same-length
 same-length c = search needs
 
 returns-2 : tie.Need-returns-2
-returns-2 c = read-failed _ _
+returns-2 c = let k = c .before .before .before .before .before in read-failed _ _ (sym (k .before .known .ensures) ∙ k .if1 .left)
 
 count-requires : tie.Need-count-requires
 count-requires c κs = search needs
@@ -43,7 +43,11 @@ same-length-4 : tie.Need-same-length-4
 same-length-4 c = search needs
 
 returns-3 : tie.Need-returns-3
-returns-3 c = let d = c .before .before .before .before in read-taken (d .before .before .before .before .before .count .result) _ (d .take-read .ensures)
+returns-3 c =
+    let d = c .before .before .before .before in
+    let n = d .before .before .before .before .before in
+    let k = n .before .before .before .before .before .before .before in
+    read-taken (n .count .result) _ (n .count .ensures .0 .0) (sym (k .before .known .ensures) ∙ k .if1 .left) (d .take-read .ensures)
 
 pub read-some-spec : {M : Type 1} → statement M
 read-some-spec =
