@@ -27,10 +27,9 @@ use Rattle.following.specs.declared.Act.the-variants.{Insert as insertAc
 use Rattle.following.specs.declared.Asked.{Asked}
 use Rattle.following.specs.declared.Asked.the-variants.{Nothing as askNothing, Table as askTable, Query as askQuery, Change as askChange, Bad as askEnd}
 use Rattle.following.specs.declared.Reading.{Reading}
-use Rattle.following.specs.declared.Ending.{Ending}
-use Rattle.following.specs.declared.Ending.the-variants.{Whole, Bad as Torn, Over}
-use Rattle.following.specs.Scripts.{start, nextLine, stopsAt, stops, nameFor, numberRead, nameNumber, eventBegun, mayBeCut, eventRead, expected, readingOf, endedAt, endingOf}
-use Rattle.following.specs.Sentences.{headerNames, namesAfter, numbered, eventLines, opOf, numbersOf, actLines, queryLines, cutLines, asking, readAll, lineFrom, EventDue, Asks, BadAfter, EndsBad, NotNamed, NoEvent, NoChange, HeaderRead, EventsRead, CutEventsRead, CutLineElseBad, HeaderInOrder, NumbersInOrder, CutNumbersInOrder, EventElseBad, StopsForGood}
+use Rattle.following.specs.declared.Ending.the-variants.{Bad as Torn}
+use Rattle.following.specs.Scripts.{start, nextLine, stopsAt, stops, nameFor, numberRead, nameNumber, eventBegun, mayBeCut, expected, readingOf, endedAt, endingOf}
+use Rattle.following.specs.Sentences.{headerNames, namesAfter, numbered, eventLines, opOf, actLines, queryLines, cutLines, asking, readAll, lineFrom, EventDue, Asks, BadAfter, EndsBad, NotNamed, NoEvent, NoChange, HeaderRead, EventsRead, CutEventsRead, CutLineElseBad, HeaderInOrder, NumbersInOrder, CutNumbersInOrder, EventElseBad, StopsForGood}
 
 -- ---- a line in place of a number
 

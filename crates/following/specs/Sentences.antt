@@ -21,7 +21,6 @@ use Rattle.following.specs.declared.Act.{Act}
 use Rattle.following.specs.declared.Act.the-variants.{Insert as insertAct, Update as updateAct, Delete as deleteAct, Begin as beginAct, Step as stepAct, End as endAct, Recover as recoverAct}
 use Rattle.following.specs.declared.Asked.{Asked}
 use Rattle.following.specs.declared.Asked.the-variants.{Nothing as askNothing, Table as askTable, Query as askQuery, Change as askChange, Bad as askEnd}
-use Rattle.following.specs.declared.Ending.{Ending}
 use Rattle.following.specs.declared.Ending.the-variants.{Whole, Bad as Torn, Over}
 use Rattle.following.specs.Scripts.{start, readingOf, endingOf}
 
@@ -112,7 +111,7 @@ pub record Asks (s : Script) (lines : List Line) (asked : Asked) : Type 0 where
   pub next : EventDue (readAll s lines .0)
   pub count : readAll s lines .0 .lines ≡ lineFrom s (length lines)
 
--- after these lines a line is bad: its own number is told, or that of another line, and nothing more is due
+-- after these lines a line is bad: this number is told for it, and nothing more is due
 pub record BadAfter (s : Script) (lines : List Line) (l : Line) (number : ℕ) : Type 0 where
   pub alone : readAll s (lines ++ (l ∷ [])) .1 ≡ askEnd number ∷ []
   pub over : readAll s (lines ++ (l ∷ [])) .0 .due ≡ noMore

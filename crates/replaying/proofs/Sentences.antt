@@ -1,34 +1,30 @@
 -- The definitions of `Events` and `Replays` keep document 01's sentences, as `Sentences` says them.
 -- Assumes nothing.
 use Prim.Native.Nat.{ℕ, _≤_, _<_, min}
-use mathlib.Core.Path.{_≡_, refl, sym, ap, _∙_}
+use mathlib.Core.Path.{_≡_, refl, ap, _∙_}
 use mathlib.Core.List.{List, [], _∷_, _++_}
-use mathlib.Core.Logic.{_⊎_, inl, inr, ⊎-elim}
+use mathlib.Core.Logic.{⊎-elim}
 use native.Mathlib.Omega.{arith}
 use lib.ListN.{take, drop, getD}
 use borrow.Author.Tests.{le-leb, lt-leb}
 use Rattle.rules.specs.Words.{Table, wordsFor}
-use Rattle.rules.specs.Answers.{numberOf, Meaning, changeMeans, queryMeans, verdictMeans}
+use Rattle.rules.specs.Answers.{Meaning, changeMeans, queryMeans, verdictMeans}
 use Rattle.rules.specs.Results.{changeResult, queryResult, createResult, makeResult}
-use Rattle.rules.specs.Histories.{reported, after}
+use Rattle.rules.specs.Histories.{reported}
 use Rattle.rules.specs.declared.Change.{Change}
 use Rattle.rules.specs.declared.Change.the-variants.{Listed, Refused}
 use Rattle.rules.specs.declared.Query.{Query}
 use Rattle.rules.specs.declared.Query.the-variants.{Known, Unknown}
-use Rattle.rules.specs.declared.Refusal.{Refusal}
-use Rattle.rules.specs.declared.Refusal.the-variants.{BadCreation}
 use Rattle.rules.specs.declared.Verdict.{Verdict}
 use Rattle.rules.specs.declared.Verdict.the-variants.{Done, Denied}
 use Rattle.rules.proofs.Meanings.{verdict-one}
 use Rattle.following.specs.declared.Act.{Act}
-use Rattle.following.specs.declared.Cut.{Cut}
-use Rattle.following.specs.declared.Cut.the-variants.{None as noCut, After as cutAfter}
 use Rattle.following.specs.declared.Due.the-variants.{Nothing as noMore}
 use Rattle.following.specs.declared.Script.{Script}
 use Rattle.following.specs.declared.Asked.the-variants.{Table as askTable}
-use Rattle.replaying.specs.Events.{callOf, lent, keptUnder, changeAnswer, answerTo}
-use Rattle.replaying.specs.Replays.{Turned, tableOf, queryAnswer, created, askedOf}
-use Rattle.replaying.specs.Sentences.{Tells, listAfter, Answered, ChangesAnswered, LetsMake, CutChangesAnswered, QueriesAnswered, Verdicts, TableMade, TableNotMade}
+use Rattle.replaying.specs.Events.{callOf, lent, answerTo}
+use Rattle.replaying.specs.Replays.{Turned, tableOf, queryAnswer, created, askedOf, finished, finishOf}
+use Rattle.replaying.specs.Sentences.{Tells, listAfter, Answered, ChangesAnswered, CallsNamed, NothingAnswered, BadAnswered, EndAnswered, LetsMake, CutChangesAnswered, QueriesAnswered, Verdicts, TableMade, TableNotMade}
 use Rattle.replaying.specs.declared.Answer.{Answer}
 use Rattle.replaying.specs.declared.Answer.the-variants.{Made, Unmade, Changed, Kept, Found}
 use Rattle.replaying.specs.declared.Replay.{Replay}
@@ -55,6 +51,7 @@ changesAnswered room p next a number stores tells =
       said = ap (λ (x : ℕ). Changed x (reported (changeResult (tableOf p room) lent (callOf a) .0))) n ∙ ap (Changed number) s;
       words = ap (λ (x : ℕ). makeResult (tableOf p room) (listAfter room p a) x .1 ++ drop (p .words) room) s;
       count = refl;
+      onward = (refl, refl);
     }
 
 lets-min : (n stores made : ℕ) → LetsMake n stores made → min n stores ≡ made
@@ -71,7 +68,23 @@ cutChangesAnswered room p next a n line number stores made tells lets =
           ∙ ap (Kept number stores) k;
       words = ap (λ (x : ℕ). makeResult (tableOf p room) (listAfter room p a) x .1 ++ drop (p .words) room) k;
       count = refl;
+      onward = (refl, refl);
     }
+
+pub callsNamed : CallsNamed
+callsNamed = (λ key f place. refl, λ key f place. refl, λ key. refl, refl, refl, refl, refl)
+
+-- ---- lines that ask for nothing, bad lines, and the end
+
+pub nothingAnswered : NothingAnswered
+nothingAnswered room p next = refl
+
+pub badAnswered : BadAnswered
+badAnswered room p next line = (refl, refl)
+
+pub endAnswered : EndAnswered
+unfolding finishOf
+endAnswered = (refl, λ p torn. (λ e. ap (finished p) e, λ line e. ap (finished p) e, λ e. ap (finished p) e))
 
 -- ---- queries
 
@@ -102,8 +115,13 @@ module _ (room : List ℕ) (p : Replay) (next : Script) (c k mul1 mul2 : ℕ) wh
 pub tableMade : TableMade
 tableMade room p next c k mul1 mul2 small e =
     let r = createResult (take (wordsFor c) room) c k mul1 mul2 in
-    let same = small-table room p next c k mul1 mul2 small ∙ ap (λ (v : Verdict). created p next room c (v, r .1)) (verdict-one (r .0) Done e) in
-    (ap (λ (t : Turned). t .answer) same, ap (λ (t : Turned). t .replay .words) same, ap (λ (t : Turned). t .replay .script) same)
+    let same = small-table room p next c k mul1 mul2 small ∙ ap (λ (v : Verdict). created p next room c (v, r .1)) (verdict-one (r .0) Done e) in (
+      ap (λ (t : Turned). t .answer) same,
+      ap (λ (t : Turned). t .replay .words) same,
+      ap (λ (t : Turned). t .replay .script) same,
+      ap (λ (t : Turned). t .replay .events) same,
+      ap (λ (t : Turned). t .room) same,
+    )
 
 pub tableNotMade : TableNotMade
 tableNotMade room p next c k mul1 mul2 h = ⊎-elim large denied h

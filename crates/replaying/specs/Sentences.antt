@@ -4,21 +4,26 @@
 use Prim.Native.Nat.{ℕ, _+_, _%_, _^_, _≤_, _<_}
 use mathlib.Core.Path.{_≡_}
 use mathlib.Core.List.{List, [], _∷_, _++_}
+use mathlib.Core.Bool.{Bool}
 use mathlib.Core.Logic.{_⊎_}
 use lib.ListN.{take, drop}
 use Rattle.rules.specs.Words.{Table, wordsFor}
-use Rattle.rules.specs.Answers.{Meaning, changeMeans, queryMeans, verdictMeans}
+use Rattle.rules.specs.Answers.{changeMeans, queryMeans, verdictMeans}
 use Rattle.rules.specs.Results.{changeResult, queryResult, createResult, makeResult}
+use Rattle.rules.specs.Calls.{insert, update, delete, begin, step, end, recover}
+use Rattle.following.specs.Scripts.{endingOf}
 use Rattle.following.specs.declared.Act.{Act}
+use Rattle.following.specs.declared.Act.the-variants.{Insert as insertAct, Update as updateAct, Delete as deleteAct, Begin as beginAct, Step as stepAct, End as endAct, Recover as recoverAct}
+use Rattle.following.specs.declared.Ending.the-variants.{Whole, Bad as Torn, Over}
 use Rattle.following.specs.declared.Cut.{Cut}
 use Rattle.following.specs.declared.Cut.the-variants.{None as noCut, After as cutAfter}
 use Rattle.following.specs.declared.Due.the-variants.{Nothing as noMore}
 use Rattle.following.specs.declared.Script.{Script}
-use Rattle.following.specs.declared.Asked.the-variants.{Table as askTable, Query as askQuery, Change as askChange}
+use Rattle.following.specs.declared.Asked.the-variants.{Nothing as askNothing, Table as askTable, Query as askQuery, Change as askChange, Bad as askEnd}
 use Rattle.replaying.specs.Events.{callOf, lent}
-use Rattle.replaying.specs.Replays.{Turned, tableOf, askedOf}
+use Rattle.replaying.specs.Replays.{begun, tableOf, askedOf, finishOf}
 use Rattle.replaying.specs.declared.Answer.{Answer}
-use Rattle.replaying.specs.declared.Answer.the-variants.{Made, Unmade, Changed, Kept, Found}
+use Rattle.replaying.specs.declared.Answer.the-variants.{Nothing, Made, Unmade, Changed, Kept, Found, Events, Bad}
 use Rattle.replaying.specs.declared.Replay.{Replay}
 
 -- ---- changing events and recover
@@ -35,6 +40,7 @@ pub record Answered (room : List ℕ) (p : Replay) (next : Script) (a : Act) (un
   pub said : askedOf room p next (askChange a under) .answer ≡ answer
   pub words : askedOf room p next (askChange a under) .room ≡ makeResult (tableOf p room) (listAfter room p a) made .1 ++ drop (p .words) room
   pub count : askedOf room p next (askChange a under) .replay .events ≡ (p .events + 1) % 2 ^ 64
+  pub onward : (askedOf room p next (askChange a under) .replay .script ≡ next) × (askedOf room p next (askChange a under) .replay .words ≡ p .words)
 
 -- "answer=0, stores=4": the number and the stores, all of which are made
 abbrev pub ChangesAnswered : Type 0
@@ -51,6 +57,12 @@ CutChangesAnswered = (room : List ℕ) (p : Replay) (next : Script) (a : Act) (n
     → LetsMake n stores made
     → Answered room p next a (cutAfter n line) (Kept number stores made) made
 
+-- which call that is, by document 01's words for the lines: key, function and place in their order
+abbrev pub CallsNamed : Type 0
+CallsNamed = ((key f place : ℕ) → callOf (insertAct key f place) ≡ insert key (record { function = f; place = place }))
+    × ((key f place : ℕ) → callOf (updateAct key f place) ≡ update key (record { function = f; place = place }))
+    × ((key : ℕ) → callOf (deleteAct key) ≡ delete key) × (callOf beginAct ≡ begin) × (callOf stepAct ≡ step) × (callOf endAct ≡ end) × (callOf recoverAct ≡ recover)
+
 -- ---- queries
 
 -- "answer=0, fn=10, at=20, probes=1": the number, the record and the count. The words stay, and one event more is counted
@@ -59,6 +71,23 @@ QueriesAnswered = (room : List ℕ) (p : Replay) (next : Script) (key number f p
     → queryMeans (queryResult (tableOf p room) key) ≡ record { number = number; values = f ∷ place ∷ count ∷ [] }
     → (askedOf room p next (askQuery key) .answer ≡ Found number f place count) × (askedOf room p next (askQuery key) .room ≡ room)
     × (askedOf room p next (askQuery key) .replay .events ≡ (p .events + 1) % 2 ^ 64)
+
+-- ---- lines that ask for nothing, bad lines, and the end
+
+-- nothing is answered, done or counted
+abbrev pub NothingAnswered : Type 0
+NothingAnswered = (room : List ℕ) (p : Replay) (next : Script)
+    → askedOf room p next askNothing ≡ record { replay = record { script = next; words = p .words; events = p .events }; room = room; answer = Nothing }
+
+-- "First bad line: `bad=` its number"
+abbrev pub BadAnswered : Type 0
+BadAnswered = (room : List ℕ) (p : Replay) (next : Script) (line : ℕ) → (askedOf room p next (askEnd line) .answer ≡ Bad line) × (askedOf room p next (askEnd line) .room ≡ room)
+
+-- "events=3": how many were answered, from none. A bad line at the end is told; after a bad line, and without a table, nothing is
+abbrev pub EndAnswered : Type 0
+EndAnswered = (begun .events ≡ 0) × ((p : Replay) (torn : Bool)
+    → (endingOf (p .script) torn ≡ Whole → finishOf p torn ≡ Events (p .events)) × ((line : ℕ) → endingOf (p .script) torn ≡ Torn line → finishOf p torn ≡ Bad line)
+    × (endingOf (p .script) torn ≡ Over → finishOf p torn ≡ Nothing))
 
 -- ---- the table
 
@@ -69,8 +98,11 @@ Verdicts room c k mul1 mul2 number = verdictMeans (createResult (take (wordsFor 
 -- `made=0`: the table has its words, and events are read
 abbrev pub TableMade : Type 0
 TableMade = (room : List ℕ) (p : Replay) (next : Script) (c k mul1 mul2 : ℕ) → c ≤ 8 → Verdicts room c k mul1 mul2 0
-    → (askedOf room p next (askTable c k mul1 mul2) .answer ≡ Made) × (askedOf room p next (askTable c k mul1 mul2) .replay .words ≡ wordsFor c)
+    → (askedOf room p next (askTable c k mul1 mul2) .answer ≡ Made)
+    × (askedOf room p next (askTable c k mul1 mul2) .replay .words ≡ wordsFor c)
     × (askedOf room p next (askTable c k mul1 mul2) .replay .script ≡ next)
+    × (askedOf room p next (askTable c k mul1 mul2) .replay .events ≡ p .events)
+    × (askedOf room p next (askTable c k mul1 mul2) .room ≡ createResult (take (wordsFor c) room) c k mul1 mul2 .1 ++ drop (wordsFor c) room)
 
 -- "Program cap is at most 8; a larger one gives `made=13`." "and no event line is read": nothing more is due
 abbrev pub TableNotMade : Type 0

@@ -1,5 +1,5 @@
--- All that is proved of the rules, in one place: the user's three demands, sentence by sentence. Each field of a demand is a
--- statement of `Demands`, which says it in full. One law proves them all: `mission`, in proofs/Mission.
+-- What is proved of the user's three demands, in one place, sentence by sentence. Each field of a demand is a statement of `Demands`,
+-- which says it in full. One law proves them all: `mission`, in proofs/Mission.
 -- That the code does what the rules say is promised call by call, in the `ensures` of each.
 -- Assumes nothing.
 use Rattle.rules.specs.Demands.{ChangeAnswers, CreateAnswers, MakeAnswers, RefusalsInOrder, StepIsACall, QueryIsACall, StoresInside, TokenStoresLow, SoundnessIsTested, MapExists, CreatedIsEmpty, QueryAnswers, InsertAnswers, UpdateAnswers, DeleteAnswers, BeginAnswers, StepAnswers, EndAnswers, RecoverAnswers, StoresAsWritten, StoreNumbers, MakeTakesTheList, CutsAreSafe, RecoveryMayBeCut, RecoveryAccepts, GrowthBound, QueryCounts, ProbesAreFew, ProbesAreDistinct}

@@ -1,5 +1,6 @@
 pub mod Bytes
 pub mod Lengths
+pub mod Splitting
 pub mod Whole
 pub mod Parts
 pub mod Only

@@ -10,20 +10,17 @@ use lib.Dec.{eqb, ltb}
 use Rattle.lines.specs.Lines.{lineOf}
 use Rattle.lines.specs.declared.Line.{Line}
 use Rattle.following.specs.Scripts.{expected, readingOf, atEvent, endedAt, endingOf}
-use Rattle.following.specs.declared.Wanted.{Wanted}
 use Rattle.following.specs.declared.Due.{Due}
 use Rattle.following.specs.declared.Due.the-variants.{Number as aNumber, Event as anEvent, Nothing as noMore}
 use Rattle.following.specs.declared.Cut.{Cut}
 use Rattle.following.specs.declared.Cut.the-variants.{None as noCut, After as cutAfter}
-use Rattle.following.specs.declared.Script.{Script}
 use Rattle.following.specs.declared.Asked.the-variants.{Nothing as askNothing}
 use Rattle.following.specs.declared.Reading.{Reading}
-use Rattle.replaying.specs.Replays.{Turned, moved, askedOf, turnOf, finished, finishOf}
+use Rattle.replaying.specs.Replays.{Turned, askedOf, turnOf, finished, finishOf}
 use Rattle.replaying.specs.declared.Answer.{Answer}
 use Rattle.replaying.specs.declared.Answer.the-variants.{Nothing}
 use Rattle.replaying.specs.declared.Replay.{Replay}
 use Rattle.running.specs.Runs.{heldAfter, After, byteTaken, overAt, known, endOf, fed, silent, spoken, KnownIsAll, UnknownIsNotAll, Stand, afterByte, afterBytes, answersIn, PartsAreFed}
-use Rattle.running.specs.declared.Run.{Run}
 
 -- ---- parts
 

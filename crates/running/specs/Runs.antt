@@ -28,6 +28,27 @@ abbrev pub split : List ℕ → List (List ℕ) × Bool
 split [] = ([], false)
 split (b ∷ bs) = cond (eqb b 10) ([] ∷ split bs .0, split bs .1) (joined b (split bs))
 
+-- the same in facts: lines without that byte, each followed by one, and a rest without it, are just those lines, and torn where there
+-- is some of the rest
+abbrev pub withEnds : List (List ℕ) → List ℕ → List ℕ
+withEnds [] rest = rest
+withEnds (l ∷ ls) rest = l ++ (10 ∷ withEnds ls rest)
+
+abbrev pub NoNewline : List ℕ → Type 0
+NoNewline [] = Unit {0}
+NoNewline (b ∷ bs) = (b ≡ 10 → ⊥) × NoNewline bs
+
+abbrev pub Lines : List (List ℕ) → Type 0
+Lines [] = Unit {0}
+Lines (l ∷ ls) = NoNewline l × Lines ls
+
+abbrev pub someOf : List ℕ → Bool
+someOf [] = false
+someOf (b ∷ bs) = true
+
+abbrev pub LinesSplit : Type 0
+LinesSplit = (ls : List (List ℕ)) (rest : List ℕ) → Lines ls → NoNewline rest → split (withEnds ls rest) ≡ (ls, someOf rest)
+
 -- every line in turn, then the end
 abbrev pub answers : List ℕ → Replay → List Line → Bool → List Answer
 answers room p [] torn = finishOf p torn ∷ []

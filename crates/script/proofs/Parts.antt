@@ -1,7 +1,7 @@
 -- What is written for an input that comes in parts, and how a part is taken.
 -- Assumes nothing.
 use Prim.Native.Nat.{ℕ, zero, suc, _+_, _-_, _^_, _≤_, _<_}
-use mathlib.Core.Path.{_≡_, refl, sym, ap, subst, _∙_}
+use mathlib.Core.Path.{_≡_, refl, sym, ap, _∙_}
 use mathlib.Core.Bool.{Bool, true, false, cond}
 use mathlib.Core.List.{List, [], _∷_, _++_, flatMap, append-nil, append-assoc}
 use mathlib.Core.Logic.{⊎-elim, inl, inr}
@@ -9,14 +9,13 @@ use native.Mathlib.Nat.{zero-add}
 use native.Mathlib.Numerals.{add-one}
 use native.Mathlib.Omega.{arith}
 use native.Mathlib.Decide.{decLe}
-use lib.ListN.{length, take, drop, getD, length-append, length-take, length-drop}
+use lib.ListN.{length, take, drop, getD, length-append, length-drop}
 use lib.Dec.{eqb, ltb}
 use borrow.Author.Tests.{ltb-true, ltb-false, eqb-false}
-use lib.Seq.{take-suc, take-add, take-all, take-take, length-take-le}
+use lib.Seq.{take-suc, take-add, take-all, length-take-le}
 use denote.Enum.Declared.{tagOf}
 use types.Run.{OneOf}
 use Rattle.replaying.specs.declared.Answer.{Answer}
-use Rattle.replaying.specs.declared.Answer.the-variants.{Nothing}
 use Rattle.running.specs.Runs.{ready, byteTaken, TakenIs, known, endOf, fed, spoken, Stand, afterByte, afterBytes, answersIn}
 use Rattle.running.specs.declared.Run.{Run}
 use Rattle.running.specs.declared.Taken.{Taken}

@@ -1,7 +1,7 @@
 -- The program's room is enough for every table that it makes.
 -- Assumes nothing.
-use Prim.Native.Nat.{ℕ, _+_, _*_, _^_, _≤_}
-use mathlib.Core.Path.{_≡_, refl, sym, ap, _∙_}
+use Prim.Native.Nat.{ℕ, _+_, _^_, _≤_}
+use mathlib.Core.Path.{_≡_, refl}
 use mathlib.Core.List.{List, []}
 use mathlib.Core.Logic.{_⊎_, inl, inr}
 use native.Mathlib.Omega.{arith}
@@ -10,7 +10,7 @@ use lib.Pow.{pow-mono}
 use lib.Seq.{length-take-le}
 use borrow.Author.Tests.{le-leb}
 use Rattle.rules.specs.Words.{Table, wordsFor}
-use Rattle.rules.specs.Answers.{Meaning, verdictMeans}
+use Rattle.rules.specs.Answers.{verdictMeans}
 use Rattle.rules.specs.Results.{createResult}
 use Rattle.rules.specs.Demands.{GoodCreation, Created}
 use Rattle.rules.specs.declared.Verdict.{Verdict}
@@ -19,7 +19,7 @@ use Rattle.rules.proofs.Creating.{createAnswers}
 use Rattle.rules.proofs.Meanings.{verdict-one}
 use Rattle.following.specs.declared.Script.{Script}
 use Rattle.following.specs.declared.Asked.the-variants.{Table as askTable}
-use Rattle.replaying.specs.Replays.{created, askedOf}
+use Rattle.replaying.specs.Replays.{askedOf}
 use Rattle.replaying.specs.declared.Answer.the-variants.{Made}
 use Rattle.replaying.specs.declared.Replay.{Replay}
 use Rattle.script.specs.Parts.{RoomIsEnough, RoomMakesAll}

@@ -59,6 +59,11 @@ cases =
     -- "no leading zeros, each ended by a newline"
     ∷ (bytes "cap=01\n", "bad=1\n")
     ∷ (smallest "op=end", "made=0\nbad=5\n")
+    -- and by nothing else: neither a tab nor a carriage return ends a line or may stand in it, and an empty line is a bad one
+    ∷ (bytes "cap=1\ttop=1\tmul1=1\tmul2=1\t", "bad=1\n")
+    ∷ (bytes "cap=1\r\ntop=1\n", "bad=1\n")
+    ∷ (bytes "\ncap=1\n", "bad=1\n")
+    ∷ (smallest "op=end\n\nop=end\n", "made=0\nanswer=8\nstores=0\nbad=6\n")
     -- "First bad line: `bad=` its number, from 1, and stop.", after what was answered before
     ∷ (smallest "op=end\nop=what\nop=end\n", "made=0\nanswer=8\nstores=0\nbad=6\n")
     -- "`op=cut` with `after`, which must stand right before a changing event or recover (else the cut line is the bad line)"
