@@ -61,7 +61,8 @@ CutChangesAnswered = (room : List ℕ) (p : Replay) (next : Script) (a : Act) (n
 abbrev pub CallsNamed : Type 0
 CallsNamed = ((key f place : ℕ) → callOf (insertAct key f place) ≡ insert key (record { function = f; place = place }))
     × ((key f place : ℕ) → callOf (updateAct key f place) ≡ update key (record { function = f; place = place }))
-    × ((key : ℕ) → callOf (deleteAct key) ≡ delete key) × (callOf beginAct ≡ begin) × (callOf stepAct ≡ step) × (callOf endAct ≡ end) × (callOf recoverAct ≡ recover)
+    × ((key : ℕ) → callOf (deleteAct key) ≡ delete key) × (callOf beginAct ≡ begin) × (callOf stepAct ≡ step) × (callOf endAct ≡ end)
+    × (callOf recoverAct ≡ recover)
 
 -- ---- queries
 
@@ -81,12 +82,14 @@ NothingAnswered = (room : List ℕ) (p : Replay) (next : Script)
 
 -- "First bad line: `bad=` its number"
 abbrev pub BadAnswered : Type 0
-BadAnswered = (room : List ℕ) (p : Replay) (next : Script) (line : ℕ) → (askedOf room p next (askEnd line) .answer ≡ Bad line) × (askedOf room p next (askEnd line) .room ≡ room)
+BadAnswered = (room : List ℕ) (p : Replay) (next : Script) (line : ℕ)
+    → (askedOf room p next (askEnd line) .answer ≡ Bad line) × (askedOf room p next (askEnd line) .room ≡ room)
 
 -- "events=3": how many were answered, from none. A bad line at the end is told; after a bad line, and without a table, nothing is
 abbrev pub EndAnswered : Type 0
 EndAnswered = (begun .events ≡ 0) × ((p : Replay) (torn : Bool)
-    → (endingOf (p .script) torn ≡ Whole → finishOf p torn ≡ Events (p .events)) × ((line : ℕ) → endingOf (p .script) torn ≡ Torn line → finishOf p torn ≡ Bad line)
+    → (endingOf (p .script) torn ≡ Whole → finishOf p torn ≡ Events (p .events)) × ((line : ℕ) → endingOf (p .script) torn ≡ Torn line
+    → finishOf p torn ≡ Bad line)
     × (endingOf (p .script) torn ≡ Over → finishOf p torn ≡ Nothing))
 
 -- ---- the table

@@ -204,7 +204,8 @@ finding-told-by {a} {b} e = finding-one a b (e .same)
 
 -- ---- what a call's own search answers means what the call answers by it
 
-pub lookup-told : (t : Table) (o : Lookup) → (queryMeans (queryAt t o) .number ≡ lookupMeans o .number) × (value (queryMeans (queryAt t o)) 2 ≡ value (lookupMeans o) 0)
+pub lookup-told : (t : Table) (o : Lookup)
+    → (queryMeans (queryAt t o) .number ≡ lookupMeans o .number) × (value (queryMeans (queryAt t o)) 2 ≡ value (lookupMeans o) 0)
 unfolding value
 lookup-told t (Stands x n) = (refl, refl)
 lookup-told t (Absent n) = (refl, refl)
@@ -215,7 +216,8 @@ placing-told (Move from to) xs = refl
 placing-told Nowhere xs = refl
 
 -- recovery's number of stores
-pub finding-told : (t : Table) (h : Header) (f : Finding) → changeMeans (changeOf (recoverOf t h f)) ≡ record { number = findingMeans f .number; values = take 1 (findingMeans f .values) }
+pub finding-told : (t : Table) (h : Header) (f : Finding)
+    → changeMeans (changeOf (recoverOf t h f)) ≡ record { number = findingMeans f .number; values = take 1 (findingMeans f .values) }
 unfolding clearStores redoStores
 finding-told t h Sound = refl
 finding-told t h (Doubled kept later) = refl

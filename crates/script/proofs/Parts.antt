@@ -237,7 +237,8 @@ not-going Unread k e = differ Unread Going refl e
 not-going Unwritten k e = differ Unwritten Going refl e
 
 -- nothing is taken where nothing was read
-pub read-nothing : (outcome : Outcome) → eqb (place outcome) 0 ≡ false → eqb (place outcome) 1 ≡ false → eqb (place outcome) 3 ≡ false → (s : Stand) (part : List ℕ) → length part ≡ 0
+pub read-nothing : (outcome : Outcome) → eqb (place outcome) 0 ≡ false → eqb (place outcome) 1 ≡ false → eqb (place outcome) 3 ≡ false
+    → (s : Stand) (part : List ℕ) → length part ≡ 0
     → WentOn s part (record { run = s .run; outcome = outcome }) s
 read-nothing outcome going knows unread s part none =
     record {
@@ -283,7 +284,8 @@ read-known s input k = record { stops = λ _. (refl, refl); reads = λ e. absurd
 pub read-failed : (s : Stand) (input : List ℕ) → known (s .run) ≡ false → ReadSome s input (record { run = s .run; outcome = Unread }) s
 read-failed s input k = record { stops = λ e. absurd (true-false (sym e ∙ k)); reads = λ _. inl (refl, refl) }
 
-pub read-taken : (n : ℕ) (input : List ℕ) {s u : Stand} {r : Turn} → n ≤ length input → known (s .run) ≡ false → WentOn s (take n input) r u → ReadSome s input r u
+pub read-taken : (n : ℕ) (input : List ℕ) {s u : Stand} {r : Turn} → n ≤ length input → known (s .run) ≡ false → WentOn s (take n input) r u
+    → ReadSome s input r u
 read-taken n input few k w = record { stops = λ e. absurd (true-false (sym e ∙ k)); reads = λ _. inr (n, few, w) }
 
 -- what the loop needs of it: the part that was taken, which is not empty where the program goes on
@@ -340,14 +342,16 @@ behind-more {s} {u} {v} {n} b o m few =
     let all = joined-last (b .parts) (o .part) in
     record {
       parts = b .parts ++ (o .part ∷ []);
-      stand = o .stand ∙ ap (λ (x : Stand). afterBytes x (o .part)) (b .stand) ∙ sym (after-more s (joined (b .parts)) (o .part)) ∙ ap (afterBytes s) (sym all);
+      stand = o .stand ∙ ap (λ (x : Stand). afterBytes x (o .part)) (b .stand) ∙ sym (after-more s (joined (b .parts)) (o .part))
+          ∙ ap (afterBytes s) (sym all);
       long = omega (arith, few, b .long, ap length all ∙ length-append (joined (b .parts)) (o .part));
     }
 
 pub behind-next : {s u v : Stand} {n : ℕ} {input : List ℕ} {r : Turn} → Behind s n u → ReadSome u input r v → r .outcome ≡ Going → Behind s (n + 1) v
 behind-next {n = n} b t e = let o = read-onward t in behind-more b o (n + 1) (omega (arith, o .some e))
 
-pub ran : {s u v : Stand} {n : ℕ} {input : List ℕ} {r : Turn} → RoomFor (s .room) → Behind s n u → ReadSome u input r v → (r .outcome ≡ Going → ⊥) → Ran s (r .outcome) v
+pub ran : {s u v : Stand} {n : ℕ} {input : List ℕ} {r : Turn} → RoomFor (s .room) → Behind s n u → ReadSome u input r v → (r .outcome ≡ Going → ⊥)
+    → Ran s (r .outcome) v
 ran {n = n} fits b t stops =
     let o = read-onward t in
     record { count = n; behind = behind-more b o n (omega arith); rightly = o .rightly; never = λ e. absurd (stops e); room = fits }

@@ -24,9 +24,12 @@ use Rattle.script.specs.declared.Turn.{Turn}
 use Rattle.script.specs.declared.Outcome.{Outcome}
 use Rattle.script.specs.declared.Outcome.the-variants.{Going, Known, Ended, Unread}
 
--- before the first byte
+-- a run with the lent words and the held bytes; before the first byte
+abbrev pub standing : Run → List ℕ → List ℕ → Stand
+standing run room line = record { run = run; room = room; line = line }
+
 abbrev pub begun : List ℕ → List ℕ → Stand
-begun room line = record { run = ready; room = room; line = line }
+begun room line = standing ready room line
 
 -- the text that a part is answered with
 unfoldable pub textIn : Stand → List ℕ → List ℕ

@@ -16,7 +16,7 @@ ghost use lib.ListN.{length, take};
 ghost use Rattle.rules.specs.Words.{wordsFor};
 ghost use Rattle.running.specs.Runs.{endOf};
 ghost use Rattle.saying.specs.Texts.{textOf};
-ghost use Rattle.script.specs.Parts.{begun, pauses as pausesOf, TookSome, TookPart, WentOn, ReadSome, Ran};
+ghost use Rattle.script.specs.Parts.{standing, begun, pauses as pausesOf, TookSome, TookPart, WentOn, ReadSome, Ran};
 
 // The first bytes of a text are taken: how many, and how many bytes of answers wait at the front of the buffer.
 struct Took {
@@ -36,7 +36,8 @@ fn pauses(run: Run, free: usize) -> bool
 }
 
 fn take_some(start: Run, room: &mut [u64], line: &mut [u8; 27], text: &[u8], out: &mut [u8]) -> Took
-    ensures { λ r. ⌜ TookSome (record { run = start; room = now (room .entry); line = now (line .entry) }) (now (text .entry)) r (record { run = r .run; room = now (room .exit); line = now (line .exit) }) (now (out .exit)) × (length (now (out .exit)) ≡ length (now (out .entry))) ⌝ }
+    ensures { λ r. ⌜ TookSome (standing start (now (room .entry)) (now (line .entry))) (now (text .entry)) r
+        (standing (r .run) (now (room .exit)) (now (line .exit))) (now (out .exit)) × (length (now (out .exit)) ≡ length (now (out .entry))) ⌝ }
 {
     let mut run = start;
     let mut taken = 0;
@@ -67,7 +68,8 @@ struct Part {
 
 fn take_part(start: Run, room: &mut [u64], line: &mut [u8; 27], part: &[u8], out: &mut [u8]) -> Part
     requires { ⌜ 128 ≤ length (now out) ⌝ }
-    ensures { λ r. ⌜ TookPart (record { run = start; room = now (room .entry); line = now (line .entry) }) (now (part .entry)) r (record { run = r .run; room = now (room .exit); line = now (line .exit) }) ⌝ }
+    ensures { λ r. ⌜ TookPart (standing start (now (room .entry)) (now (line .entry))) (now (part .entry)) r
+        (standing (r .run) (now (room .exit)) (now (line .exit))) ⌝ }
 {
     let mut run = start;
     let mut taken = 0;
@@ -120,7 +122,8 @@ fn finish(run: Run, out: &mut [u8]) -> bool
 // Takes what was read, which is nothing where the input has ended.
 fn take_read(run: Run, room: &mut [u64], line: &mut [u8; 27], part: &[u8], out: &mut [u8]) -> Turn
     requires { ⌜ 128 ≤ length (now out) ⌝ }
-    ensures { λ r. ⌜ WentOn (record { run = run; room = now (room .entry); line = now (line .entry) }) (now (part .entry)) r (record { run = r .run; room = now (room .exit); line = now (line .exit) }) ⌝ }
+    ensures { λ r. ⌜ WentOn (standing run (now (room .entry)) (now (line .entry))) (now (part .entry)) r
+        (standing (r .run) (now (room .exit)) (now (line .exit))) ⌝ }
 {
     if part.len() == 0 {
         if finish(run, out) {
@@ -157,7 +160,8 @@ fn read_some(
     out: &mut [u8],
 ) -> Turn
     requires { ⌜ 128 ≤ length (now out) ⌝ }
-    ensures { λ r. ⌜ ReadSome (record { run = run; room = now (room .entry); line = now (line .entry) }) (now (input .exit)) r (record { run = r .run; room = now (room .exit); line = now (line .exit) }) ⌝ }
+    ensures { λ r. ⌜ ReadSome (standing run (now (room .entry)) (now (line .entry))) (now (input .exit)) r
+        (standing (r .run) (now (room .exit)) (now (line .exit))) ⌝ }
 {
     if known(run) {
         return Turn {
@@ -179,7 +183,7 @@ fn read_some(
 // A proved loop has to end, and nothing says that the input does. So the parts are counted, up to a number that no run comes to.
 fn read_all(room: &mut [u64], line: &mut [u8; 27], input: &mut [u8], out: &mut [u8]) -> Turn
     requires { ⌜ (wordsFor 8 ≤ length (now room)) × (128 ≤ length (now out)) ⌝ }
-    ensures { λ r. ⌜ Ran (begun (now (room .entry)) (now (line .entry))) (r .outcome) (record { run = r .run; room = now (room .exit); line = now (line .exit) }) ⌝ }
+    ensures { λ r. ⌜ Ran (begun (now (room .entry)) (now (line .entry))) (r .outcome) (standing (r .run) (now (room .exit)) (now (line .exit))) ⌝ }
 {
     let mut run = ready();
     let mut parts: u64 = 0;
