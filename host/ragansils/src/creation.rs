@@ -4,15 +4,17 @@
 ///
 /// How many keys a table with a top of 2^c buckets takes before the first refusal 6:
 ///
-/// | c | slots | keys of addresses that are 4 apart | keys 0, 1, 2, .. |
+/// | c | slots | keys of addresses from 0x555500001000 on, 4 apart, depth 0 | keys 0, 1, 2, .. |
 /// |---|---|---|---|
 /// | 2 | 24 | 24 | 24 |
 /// | 8 | 1,536 | 1,519 | 1,430 |
 /// | 14 | 98,304 | 95,188 | 92,280 |
 ///
 /// A hash is what the product of key and multiplier has above 2^32, so small multipliers are no good: with 3 and 5 the first refusal
-/// comes at 8 slots of 24, and of 98,304 too. Keys that are made of an address ([`Key::new`](crate::Key::new)) stay as well spread in
-/// larger tables: 0.92 of the slots and more at c = 18. The keys 0, 1, 2, .. do not: 0.39 there.
+/// comes at 8 slots of 24, and of 98,304 too. How full a table becomes depends on its size and on the keys, and these figures promise
+/// nothing of others: at c = 18 the keys of the table's third column took 0.946 of the slots, addresses from 0x7f0000000000 on, 16
+/// apart, with three depths each, 0.879, addresses 4096 apart 0.792, which is the least that was seen with keys of addresses
+/// ([`Key::new`](crate::Key::new)), and the keys 0, 1, 2, .. 0.39.
 pub const MULTIPLIER_1: u64 = 0x9e37_79b9_7f4a_7c15;
 
 /// The second of two multipliers that spread keys well; [`MULTIPLIER_1`] tells how well.
