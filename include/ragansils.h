@@ -12,7 +12,7 @@
  * the map after it.
  *
  * What is asked of the caller, and C cannot check:
- * - A pointer is aligned, and valid for as many words as the length beside it says; no pointer is NULL, with a length of 0 neither.
+ * - A pointer is aligned, and valid for as many words as the length beside it says; no pointer is NULL, not even with a length of 0.
  * - No two buffers of one call overlap.
  * - Stores are made whole and in the order of the list, each once, before the next change is listed; no other store goes to the table.
  * - From the listing of a change to its last store no other thread lists, stores or queries; queries alone may go side by side. The
@@ -136,7 +136,7 @@ uint64_t ragansils_begin(const uint64_t *table, size_t words, uint64_t *list, si
  * Every other call may come between two steps. Refusals 1 to 3, 6, 8, 11.
  *
  * A step looks for that item from the first interim bucket on, past all that earlier steps have emptied, so the time of a whole growth
- * from N top buckets rises with N squared, until that is mended. On an Intel Xeon, begun at load 0.8, it took 0.016 ms for N = 256,
+ * from N top buckets rises with N squared. On an Intel Xeon, begun at load 0.8, it took 0.016 ms for N = 256,
  * 0.21 ms for 1,024, 3.4 ms for 4,096, 42 ms for 16,384, 1.5 s for 65,536, 10 s for 131,072 and 206 s for 524,288. The last steps look
  * through N / 2 buckets each. A table that will be large is better created with a large k.
  */
