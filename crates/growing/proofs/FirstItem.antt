@@ -1,16 +1,17 @@
 -- The first taken interim slot: along the interim level's buckets, in each the lowest taken slot.
 -- Assumes nothing.
-use Prim.Native.Nat.{ℕ, _+_, _-_, _^_, _≤_, _<_}
+use Prim.Native.Nat.{ℕ, _+_, _-_, _≤_, _<_}
 use mathlib.Core.Path.{_≡_, refl, ap, _∙_}
 use mathlib.Core.Bool.{Bool, true, false, cond}
 use mathlib.Core.List.{List, [], _∷_, map, flatMap, head?, append-nil}
 use mathlib.Core.Option.{Option, none, some, Option·map, Option·getD}
 use lib.ListN.{drop}
 use Rattle.rules.specs.Choice.{given, orElse, select, firstOf}
-use Rattle.rules.specs.Words.{Table, atRest, topOf, bottomOf, interimOf, levelsInUse, bucketsOf, slotAt, slotsIn, placeAt, slotsOf, isTaken, tokenOf, taken}
+use Rattle.rules.specs.Words.{Table, atRest, sizeOf, topOf, bottomOf, interimOf, levelsInUse, bucketsOf, slotAt, slotsIn, placeAt, slotsOf, isTaken, tokenOf, taken}
 use Rattle.rules.specs.Calls.{interimSlots, interimItems, stepItem}
 use Rattle.rules.specs.declared.State.{State}
 use Rattle.rules.specs.declared.Header.{Header}
+use Rattle.rules.specs.declared.Level.{Level}
 use Rattle.rules.specs.declared.Place.{Place}
 use Rattle.rules.specs.declared.Slot.{Slot}
 use Rattle.rules.proofs.Lists.{firstOf-map, firstOf-given, firstOf-flatMap}
@@ -47,15 +48,15 @@ module _ (t : Table) (h : Header) where
 
   -- along the level's buckets, from the i-th on
   pub itemFrom : ℕ → Option Slot
-  itemFrom i = along itemIn (bucketsOf (interimOf (h .state) .size)) i
+  itemFrom i = along itemIn (bucketsOf (sizeOf (interimOf (h .state)))) i
 
   pub items-all : atRest (h .state) ≡ false → stepItem t h ≡ itemFrom 0
   unfolding stepItem interimItems slotsOf itemFrom itemIn itemAt
   items-all e =
       head-first (taken t h) (interimSlots (h .state)) ∙ ap (firstOf itemAt) (level-slots (h .state) e)
-      ∙ firstOf-flatMap itemAt slotsIn (map (placeAt (interimOf (h .state))) (bucketsOf (interimOf (h .state) .size)))
-      ∙ firstOf-map (λ (p : Place). firstOf itemAt (slotsIn p)) (placeAt (interimOf (h .state))) (bucketsOf (interimOf (h .state) .size))
-      ∙ along-all itemIn (bucketsOf (interimOf (h .state) .size))
+      ∙ firstOf-flatMap itemAt slotsIn (map (placeAt (interimOf (h .state))) (bucketsOf (sizeOf (interimOf (h .state)))))
+      ∙ firstOf-map (λ (p : Place). firstOf itemAt (slotsIn p)) (placeAt (interimOf (h .state))) (bucketsOf (sizeOf (interimOf (h .state))))
+      ∙ along-all itemIn (bucketsOf (sizeOf (interimOf (h .state))))
 
   -- one bucket: the lowest taken slot of its token word
   module _ (j : ℕ) {w s : ℕ} (u : w ≡ tokenOf t j) (v : s ≡ lowestTaken h w) where
@@ -72,19 +73,19 @@ module _ (t : Table) (h : Header) where
     item-none l = bucket-item ∙ ap (Option·map (slotAt (placeAt (interimOf (h .state)) j))) (lowest-none (isTaken h w) s (numbered h w v) l)
 
   -- the level's i-th bucket, of m
-  module _ (m i : ℕ) (q : m ≡ 2 ^ (h .state .k - 2)) (r : i < m) {w s : ℕ} (u : w ≡ tokenOf t (m - 1 + i)) (v : s ≡ lowestTaken h w) where
-    bucket-next : drop i (bucketsOf (interimOf (h .state) .size)) ≡ (m - 1 + i) ∷ drop (i + 1) (bucketsOf (interimOf (h .state) .size))
-    unfolding bucketsOf interimOf
-    bucket-next = rw (← q) (from-next (m - 1) m i r)
+  module _ (m i : ℕ) {l : Level} (e : l ≡ interimOf (h .state)) (q : m ≡ sizeOf l) (r : i < m) {w s : ℕ} (u : w ≡ tokenOf t (m - 1 + i)) (v : s ≡ lowestTaken h w) where
+    bucket-next : drop i (bucketsOf (sizeOf (interimOf (h .state)))) ≡ (m - 1 + i) ∷ drop (i + 1) (bucketsOf (sizeOf (interimOf (h .state))))
+    unfolding bucketsOf
+    bucket-next = rw (← e, ← q) (from-next (m - 1) m i r)
 
-    pub items-hit : s < 4 → itemFrom i ≡ some (slotAt (placeAt (interimOf (h .state)) (m - 1 + i)) s)
+    pub items-hit : s < 4 → itemFrom i ≡ some (slotAt (placeAt l (m - 1 + i)) s)
     unfolding itemFrom
-    items-hit l = along-hit itemIn (bucketsOf (interimOf (h .state) .size)) i bucket-next (item-here (m - 1 + i) u v l)
+    items-hit low = rw e (along-hit itemIn (bucketsOf (sizeOf (interimOf (h .state)))) i bucket-next (item-here (m - 1 + i) u v low))
 
     pub items-pass : 4 ≤ s → itemFrom i ≡ itemFrom (i + 1)
     unfolding itemFrom
-    items-pass l = along-pass itemIn (bucketsOf (interimOf (h .state) .size)) i bucket-next (item-none (m - 1 + i) u v l)
+    items-pass l = along-pass itemIn (bucketsOf (sizeOf (interimOf (h .state)))) i bucket-next (item-none (m - 1 + i) u v l)
 
-  pub items-over : (m i : ℕ) → m ≡ 2 ^ (h .state .k - 2) → m ≤ i → itemFrom i ≡ none
-  unfolding itemFrom bucketsOf interimOf
-  items-over m i q l = along-over itemIn (bucketsOf (interimOf (h .state) .size)) i (from-end (2 ^ (h .state .k - 2) - 1) (2 ^ (h .state .k - 2)) i (rw (← q) l))
+  pub items-over : (m i : ℕ) {l : Level} → l ≡ interimOf (h .state) → m ≡ sizeOf l → m ≤ i → itemFrom i ≡ none
+  unfolding itemFrom bucketsOf
+  items-over m i e q l = along-over itemIn (bucketsOf (sizeOf (interimOf (h .state)))) i (from-end (sizeOf (interimOf (h .state)) - 1) (sizeOf (interimOf (h .state))) i (rw (← e, ← q) l))

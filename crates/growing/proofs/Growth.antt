@@ -1,6 +1,6 @@
 -- What begin and end do behind the first tests.
 -- Assumes nothing.
-use Prim.Native.Nat.{ℕ, _+_}
+use Prim.Native.Nat.{ℕ}
 use mathlib.Core.Path.{_≡_, refl, sym, _∙_}
 use mathlib.Core.Bool.{true, false}
 use mathlib.Core.List.{List, [], _∷_, head?}
@@ -10,7 +10,7 @@ use denote.Enum.Declared.{tagOf}
 use types.Run.{OneOf}
 use Rattle.rules.specs.Choice.{empty}
 use Rattle.rules.specs.Words.{Table, atRest, stateWord}
-use Rattle.rules.specs.Stores.{beginStores, endStores}
+use Rattle.rules.specs.Stores.{begunOf, endedOf, beginStores, endStores}
 use Rattle.rules.specs.Calls.{refused, listed, beginTests, beginOf, interimItems, stepItem, endTests, endOf}
 use Rattle.rules.specs.declared.State.{State}
 use Rattle.rules.specs.declared.Header.{Header}
@@ -30,28 +30,23 @@ pub is-there : (i : Item) → OneOf (0 ∷ []) (tagOf the-type i) → (x : Slot)
 is-there (At x) e = (x, refl)
 is-there Empty e = absurd (omega arith)
 
--- a state's word, by its k and phase
-state-as : {k phase : ℕ} (s : State) → s .k ≡ k → s .phase ≡ phase → stateWord s ≡ stateWord (record { k = k; phase = phase })
-unfolding stateWord
-state-as s e f = rw (e, f)
-
 module _ (h : Header) where
-  pub begin-growing : (h .state .phase ≡ 0 → ⊥) → refused AlreadyGrowing ≡ beginOf h
-  unfolding beginOf beginTests atRest
-  begin-growing e = rw (ne-eqb _ _ e)
+  pub begin-growing : atRest (h .state) ≡ false → refused AlreadyGrowing ≡ beginOf h
+  unfolding beginOf beginTests
+  begin-growing e = rw e
 
-  pub begin-full : h .state .phase ≡ 0 → h .state .k ≡ h .c → refused AtCapacity ≡ beginOf h
-  unfolding beginOf beginTests atRest
-  begin-full e f = rw (eq-eqb _ _ e, eq-eqb _ _ f)
+  pub begin-full : atRest (h .state) ≡ true → h .state .k ≡ h .c → refused AtCapacity ≡ beginOf h
+  unfolding beginOf beginTests
+  begin-full e f = rw (e, eq-eqb _ _ f)
 
-  pub begin-listed : {s : State} {w : ℕ} → h .state .phase ≡ 0 → (h .state .k ≡ h .c → ⊥) → (s .k ≡ h .state .k + 1) × (s .phase ≡ 1) → w ≡ stateWord s → listed ((4, w) ∷ []) ≡ beginOf h
-  unfolding beginOf beginTests atRest beginStores
-  begin-listed {s} e f g q = rw (eq-eqb _ _ e, ne-eqb _ _ f, q, state-as s (g .0) (g .1))
+  pub begin-listed : {s : State} {w : ℕ} → atRest (h .state) ≡ true → (h .state .k ≡ h .c → ⊥) → s ≡ begunOf (h .state) → w ≡ stateWord s → listed ((4, w) ∷ []) ≡ beginOf h
+  unfolding beginOf beginTests beginStores
+  begin-listed e f g q = rw (e, ne-eqb _ _ f, q, g)
 
 module _ (t : Table) (h : Header) where
-  pub end-resting : h .state .phase ≡ 0 → refused NotGrowing ≡ endOf t h
-  unfolding endOf endTests atRest
-  end-resting e = rw (eq-eqb _ _ e)
+  pub end-resting : atRest (h .state) ≡ true → refused NotGrowing ≡ endOf t h
+  unfolding endOf endTests
+  end-resting e = rw e
 
   -- an item found is one that stands
   nothing : itemOf (stepItem t h) ≡ Empty → empty (interimItems t h) ≡ true
@@ -70,11 +65,11 @@ module _ (t : Table) (h : Header) where
       go [] e = absurd (let z : _≡_ {A = ℕ} 0 1 = cc in omega arith)
       go (x ∷ l) e = refl
 
-  module _ {i : Item} (k : i ≡ itemOf (stepItem t h)) (p : h .state .phase ≡ 0 → ⊥) where
+  module _ {i : Item} (k : i ≡ itemOf (stepItem t h)) (p : atRest (h .state) ≡ false) where
     pub end-taken : {x : Slot} → i ≡ At x → refused InterimTaken ≡ endOf t h
-    unfolding endOf endTests atRest
-    end-taken e = rw (ne-eqb _ _ p, something (sym k ∙ e))
+    unfolding endOf endTests
+    end-taken e = rw (p, something (sym k ∙ e))
 
-    pub end-listed : {s : State} {w : ℕ} → i ≡ Empty → (s .k ≡ h .state .k) × (s .phase ≡ 0) → w ≡ stateWord s → listed ((4, w) ∷ []) ≡ endOf t h
-    unfolding endOf endTests atRest endStores
-    end-listed {s} e g q = rw (ne-eqb _ _ p, nothing (sym k ∙ e), q, state-as s (g .0) (g .1))
+    pub end-listed : {s : State} {w : ℕ} → i ≡ Empty → s ≡ endedOf (h .state) → w ≡ stateWord s → listed ((4, w) ∷ []) ≡ endOf t h
+    unfolding endOf endTests endStores
+    end-listed e g q = rw (p, nothing (sym k ∙ e), q, g)

@@ -2,11 +2,11 @@
 -- Assumes nothing.
 use Prim.Native.Nat.{ℕ, _+_, _*_, _≤_}
 use mathlib.Core.Path.{_≡_, refl, sym, ap, _∙_, subst}
+use mathlib.Core.Bool.{true, false}
 use mathlib.Core.List.{List, [], _∷_, _++_}
 use mathlib.Core.Option.{Option, none, some}
 use native.Mathlib.Nat.{zero-add}
 use native.Mathlib.Omega.{arith}
-use borrow.Author.Tests.{eq-eqb, ne-eqb}
 use denote.Enum.Declared.{tagOf}
 use types.Run.{OneOf}
 use lib.ListN.{length, length-append}
@@ -50,18 +50,18 @@ item-some (some y) {x} e = let k : y ≡ x = cc in ap some k
 -- ---- the outcomes
 
 module _ (t : Table) (h : Header) where
-  pub step-resting : h .state .phase ≡ 0 → refused NotGrowing ≡ stepOf t h
-  unfolding stepOf stepTests atRest
-  step-resting e = rw (eq-eqb _ _ e)
+  pub step-resting : atRest (h .state) ≡ true → refused NotGrowing ≡ stepOf t h
+  unfolding stepOf stepTests
+  step-resting e = rw e
 
-  module _ (p : h .state .phase ≡ 0 → ⊥) where
+  module _ (p : atRest (h .state) ≡ false) where
     pub step-empty : stepItem t h ≡ none → refused InterimEmpty ≡ stepOf t h
-    unfolding stepOf stepTests atRest
-    step-empty e = rw (ne-eqb _ _ p, e)
+    unfolding stepOf stepTests
+    step-empty e = rw (p, e)
 
     pub step-on : {x : Slot} → stepItem t h ≡ some x → stepIn t h (some x) ≡ stepOf t h
-    unfolding stepOf stepTests atRest
-    step-on e = rw (ne-eqb _ _ p, e)
+    unfolding stepOf stepTests
+    step-on e = rw (p, e)
 
   module _ (x : Slot) {key : ℕ} (k : key ≡ keyIn t x) (p : Placing) (q : p ≡ placing t h key) where
     pub step-nowhere : OneOf (2 ∷ []) (tagOf placing-type p) → refused NoPlace ≡ stepIn t h (some x)

@@ -1,4 +1,5 @@
 // The item that a growth step takes: "the first taken interim slot (bucket, then slot ascending)".
+use reading::levels::interim;
 use reading::slots::token;
 use reading::tokens::is_taken;
 use reading::tokens::tidy;
@@ -36,13 +37,14 @@ pub fn first_item(t: &[u64], h: Header) -> Item
     requires { ⌜ GoodHeader (length (now t)) h × (atRest (h .state) ≡ false) ⌝ }
     ensures { λ r. ⌜ (r ≡ itemOf (stepItem (now (t .entry)) h)) × ItemWithin (now (t .entry)) r ⌝ }
 {
-    let m = power(h.state.k - 2);
+    let level = interim(h.state);
+    let m = power(level.exponent);
     for i in 0..m {
         let j = m - 1 + i;
         let s = lowest_taken(h, token(t, j));
         if s < 4 {
             return Item::At(Slot {
-                level: 2,
+                level: level.name,
                 bucket: j,
                 slot: s,
             });

@@ -1,6 +1,5 @@
 // Growth in small steps: begin, step and end.
 pub mod interim;
-pub mod states;
 
 use interim::Item;
 use interim::first_item;
@@ -20,9 +19,6 @@ use rules::Placing;
 use rules::Refusal;
 use rules::Slot;
 use rules::Stepped;
-use states::begun;
-use states::ended;
-use states::state_word;
 ghost use mathlib.Core.Path.{_≡_};
 ghost use mathlib.Core.Option.{some};
 ghost use Prim.Native.Nat.{_≤_};
@@ -41,13 +37,13 @@ fn begin_at(list: &mut [u64], h: Header) -> Change
     ensures { λ r. ⌜ Did (beginOf h) (now (list .entry)) r (now (list .exit)) ⌝ }
 {
     let state = h.state;
-    if state.phase != 0 {
+    if !state.at_rest() {
         return Change::Refused(Refusal::AlreadyGrowing);
     }
     if state.k == h.c {
         return Change::Refused(Refusal::AtCapacity);
     }
-    let listed = store(list, 0, 4, state_word(begun(state)));
+    let listed = store(list, 0, 4, state.begun().word());
     Change::Listed(listed as u64)
 }
 
@@ -97,7 +93,7 @@ fn step_at(t: &[u64], list: &mut [u64], h: Header) -> Stepped
     ensures { λ r. ⌜ DidStep (now (t .entry)) h (stepOf (now (t .entry)) h) (now (list .entry)) r (now (list .exit)) ⌝ }
 {
     let state = h.state;
-    if state.phase == 0 {
+    if state.at_rest() {
         return unplaced(Refusal::NotGrowing);
     }
     let item = first_item(t, h);
@@ -124,14 +120,14 @@ fn end_at(t: &[u64], list: &mut [u64], h: Header) -> Change
     ensures { λ r. ⌜ Did (endOf (now (t .entry)) h) (now (list .entry)) r (now (list .exit)) ⌝ }
 {
     let state = h.state;
-    if state.phase == 0 {
+    if state.at_rest() {
         return Change::Refused(Refusal::NotGrowing);
     }
     let item = first_item(t, h);
     let Item::Empty = item else {
         return Change::Refused(Refusal::InterimTaken);
     };
-    let stores = store(list, 0, 4, state_word(ended(state)));
+    let stores = store(list, 0, 4, state.ended().word());
     Change::Listed(stores as u64)
 }
 

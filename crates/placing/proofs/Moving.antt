@@ -1,6 +1,6 @@
 -- The search for an item to move, as the rules list the candidates and as the code goes through them.
 -- Assumes nothing.
-use Prim.Native.Nat.{ℕ, _-_}
+use Prim.Native.Nat.{ℕ}
 use mathlib.Core.Path.{_≡_, refl, _∙_}
 use mathlib.Core.Bool.{true, false}
 use mathlib.Core.List.{List, [], _++_, flatMap}
@@ -11,13 +11,13 @@ use Rattle.rules.specs.Words.{Table, topOf, bottomOf, slotsIn, slotAt}
 use Rattle.rules.specs.Places.{hashesOf, placesIn}
 use Rattle.rules.specs.Placing.{freeSlot, itemsOf, candidates, moveOf}
 use Rattle.rules.specs.declared.Header.{Header}
+use Rattle.rules.specs.declared.Level.{Level}
 use Rattle.rules.specs.declared.Hashes.{Hashes}
 use Rattle.rules.specs.declared.Place.{Place}
 use Rattle.rules.specs.declared.Slot.{Slot}
 use Rattle.rules.specs.declared.Placing.{Placing}
 use Rattle.rules.specs.declared.Placing.the-variants.{Move}
 use Rattle.rules.proofs.Lists.{firstOf-append, firstOf-map, firstOf-flatMap}
-use Rattle.reading.specs.Levels.{levelOf}
 use Rattle.rules.proofs.Along.{along}
 use Rattle.placing.specs.Search.{optional, goalsOf, itemMove, bucketMove, placeMove, placesMove}
 use Rattle.placing.specs.Buckets.{itemIn, itemsIn, keyAmong}
@@ -66,32 +66,33 @@ module _ (t : Table) (h : Header) where
 
 -- ---- the three parts
 
-module _ (t : Table) (h : Header) (x : Hashes) where
+module _ (t : Table) (h : Header) (x : Hashes) {upper lower : Level} (u : upper ≡ topOf (h .state)) (v : lower ≡ bottomOf (h .state)) where
   -- where the items of each may go
-  abbrev pub alongTop : Way
-  alongTop = record { up = false; name = 0; e = h .state .k }
+  abbrev alongTop : Way
+  alongTop = record { up = false; level = upper }
 
-  abbrev pub alongBottom : Way
-  alongBottom = record { up = false; name = 1; e = h .state .k - 1 }
+  abbrev alongBottom : Way
+  alongBottom = record { up = false; level = lower }
 
-  abbrev pub upward : Way
-  upward = record { up = true; name = 0; e = h .state .k }
+  abbrev upward : Way
+  upward = record { up = true; level = upper }
 
   -- the key's places in the two levels
   abbrev above : List Place
-  above = placesIn x (levelOf 0 (h .state .k))
+  above = placesIn x upper
 
   abbrev below : List Place
-  below = placesIn x (levelOf 1 (h .state .k - 1))
+  below = placesIn x lower
 
   -- "those of the key's top places ..; those of its bottom places ..; those of its bottom places again .."
   three : firstOf (moveOf t h) (candidates t h x) ≡ orElse (orElse (placesMove t h alongTop above) (placesMove t h alongBottom below)) (placesMove t h upward below)
-  unfolding candidates goalsOf topOf bottomOf
+  unfolding candidates goalsOf
   three =
       let a = itemsOf t h above (goalsOf alongTop) in
       let b = itemsOf t h below (goalsOf alongBottom) in
       let c = itemsOf t h below (goalsOf upward) in
-      firstOf-append (moveOf t h) (a ++ b) c ∙ joined (firstOf-append (moveOf t h) a b ∙ joined (part t h alongTop above) (part t h alongBottom below)) (part t h upward below)
+      rw (← u, ← v) (firstOf-append (moveOf t h) (a ++ b) c)
+      ∙ joined (firstOf-append (moveOf t h) a b ∙ joined (part t h alongTop above) (part t h alongBottom below)) (part t h upward below)
     where
       joined : {a b c d : Option Placing} → a ≡ b → c ≡ d → orElse a c ≡ orElse b d
       joined p q i = orElse (p i) (q i)

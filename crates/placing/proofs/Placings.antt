@@ -1,6 +1,6 @@
 -- A placing that was found, and one that was not: by the cases that a test of it leaves.
 -- Assumes nothing.
-use Prim.Native.Nat.{ℕ, _-_}
+use Prim.Native.Nat.{ℕ}
 use mathlib.Core.Path.{_≡_, refl, sym, ap, _∙_}
 use mathlib.Core.List.{[], _∷_}
 use mathlib.Core.Logic.{⊎-elim}
@@ -14,12 +14,12 @@ use Rattle.rules.specs.Words.{Table, topOf, bottomOf}
 use Rattle.rules.specs.Places.{hashesOf}
 use Rattle.rules.specs.Placing.{freeSlot, roomIn, Candidate, moveOf, candidates, placing}
 use Rattle.rules.specs.declared.Header.{Header}
+use Rattle.rules.specs.declared.Level.{Level}
 use Rattle.rules.specs.declared.Hashes.{Hashes}
 use Rattle.rules.specs.declared.Slot.{Slot}
 use Rattle.rules.specs.declared.Placing.{Placing}
 use Rattle.rules.specs.declared.Placing.the-variants.{Free, Move, Nowhere}
 use Rattle.rules.proofs.Lists.{firstOf-some}
-use Rattle.reading.specs.Levels.{levelOf}
 use Rattle.placing.specs.Search.{optional}
 
 pub nowhere : (p : Placing) → OneOf (2 ∷ []) (tagOf the-type p) → optional p ≡ none
@@ -70,16 +70,16 @@ module _ (t : Table) (h : Header) where
   no-move x (Move a b) k e = absurd (⊎-elim (λ e. omega arith) (λ e. omega arith) k)
   no-move x Nowhere k e = e
 
-module _ (t : Table) (h : Header) (key : ℕ) {x : Hashes} (d : x ≡ hashesOf h key) where
-  pub by-top : (p : Placing) → optional p ≡ Option·map Free (roomIn t h x (levelOf 0 (h .state .k))) → optional p ≡ some p → p ≡ placing t h key
-  unfolding placing topOf
-  by-top p e s = rw (← d, ← e, s)
+module _ (t : Table) (h : Header) (key : ℕ) {x : Hashes} (d : x ≡ hashesOf h key) {upper : Level} (u : upper ≡ topOf (h .state)) where
+  pub by-top : (p : Placing) → optional p ≡ Option·map Free (roomIn t h x upper) → optional p ≡ some p → p ≡ placing t h key
+  unfolding placing
+  by-top p e s = rw (← d, ← u, ← e, s)
 
-  module _ (n : roomIn t h x (levelOf 0 (h .state .k)) ≡ none) where
-    pub by-bottom : (p : Placing) → optional p ≡ Option·map Free (roomIn t h x (levelOf 1 (h .state .k - 1))) → optional p ≡ some p → p ≡ placing t h key
-    unfolding placing topOf bottomOf
-    by-bottom p e s = rw (← d, n, ← e, s)
+  module _ (n : roomIn t h x upper ≡ none) {lower : Level} (v : lower ≡ bottomOf (h .state)) where
+    pub by-bottom : (p : Placing) → optional p ≡ Option·map Free (roomIn t h x lower) → optional p ≡ some p → p ≡ placing t h key
+    unfolding placing
+    by-bottom p e s = rw (← d, ← u, n, ← v, ← e, s)
 
-    pub by-move : roomIn t h x (levelOf 1 (h .state .k - 1)) ≡ none → (p : Placing) → optional p ≡ firstOf (moveOf t h) (candidates t h x) → p ≡ placing t h key
-    unfolding placing topOf bottomOf
-    by-move m p e = rw (← d, n, m, ← e) (sym (found p))
+    pub by-move : roomIn t h x lower ≡ none → (p : Placing) → optional p ≡ firstOf (moveOf t h) (candidates t h x) → p ≡ placing t h key
+    unfolding placing
+    by-move m p e = rw (← d, ← u, n, ← v, m, ← e) (sym (found p))

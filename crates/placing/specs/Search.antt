@@ -14,7 +14,6 @@ use Rattle.rules.specs.declared.Place.{Place}
 use Rattle.rules.specs.declared.Slot.{Slot}
 use Rattle.rules.specs.declared.Placing.{Placing}
 use Rattle.rules.specs.declared.Placing.the-variants.{Free, Move, Nowhere}
-use Rattle.reading.specs.Levels.{levelOf}
 use Rattle.placing.specs.Buckets.{itemsIn, keyAmong}
 use Rattle.placing.specs.declared.moves.Way.{Way}
 
@@ -26,7 +25,7 @@ optional Nowhere = none
 
 -- the places tried for an item with hashes y that stands at `from`
 unfoldable pub goalsOf : Way → Hashes → Slot → List Place
-goalsOf w y from = cond (w .up) (placesIn y (levelOf (w .name) (w .e))) (otherPlace y (levelOf (w .name) (w .e)) from)
+goalsOf w y from = cond (w .up) (placesIn y (w .level)) (otherPlace y (w .level) from)
 
 -- the move of the item in slot x of a bucket that was read by value, and of such a bucket's items, "slots 0 to 3", the first that
 -- can move

@@ -4,6 +4,8 @@ mod moves;
 pub mod room;
 
 use moves::moving;
+use reading::levels::bottom;
+use reading::levels::top;
 use room::room;
 use rules::Hashes;
 use rules::Header;
@@ -32,18 +34,17 @@ fn one_move(t: &[u64], h: Header, x: Hashes) -> Placing
 }
 
 // "In the top, the place with fewer taken slots (tie: first place), lowest free slot. If both are full, the same in the bottom.
-// If all are full, one move." Level 0 is the top, of 2^k buckets, and level 1 the bottom. The key's hashes x are handed in: whoever
-// asks has them already. A free slot is written out as the answer, and no enum copied: so an insert keeps it in registers.
+// If all are full, one move." The key's hashes x are handed in: whoever asks has them already. A free slot is written out as the
+// answer, and no enum copied: so an insert keeps it in registers.
 pub fn placing(t: &[u64], h: Header, key: u64, x: Hashes) -> Placing
     requires { ⌜ GoodHeader (length (now t)) h × (x ≡ hashesOf h key) ⌝ }
     ensures { λ r. ⌜ PlacingTells r (placingOf (now (t .entry)) h key) × PlacingWithin (now (t .entry)) r ⌝ }
 {
-    let k = h.state.k;
-    let in_top = room(t, h, x, 0, k);
+    let in_top = room(t, h, x, top(h.state));
     if let Placing::Free(y) = in_top {
         return Placing::Free(y);
     }
-    let in_bottom = room(t, h, x, 1, k - 1);
+    let in_bottom = room(t, h, x, bottom(h.state));
     if let Placing::Free(y) = in_bottom {
         return Placing::Free(y);
     }
@@ -56,12 +57,11 @@ pub fn interim_placing(t: &[u64], h: Header, key: u64, x: Hashes) -> Placing
     requires { ⌜ GoodHeader (length (now t)) h × (x ≡ hashesOf h key) ⌝ }
     ensures { λ r. ⌜ PlacingTells r (placingOf (now (t .entry)) h key) × PlacingWithin (now (t .entry)) r ⌝ }
 {
-    let k = h.state.k;
-    let above = room(t, h, x, 0, k);
+    let above = room(t, h, x, top(h.state));
     let Placing::Nowhere = above else {
         return above;
     };
-    let below = room(t, h, x, 1, k - 1);
+    let below = room(t, h, x, bottom(h.state));
     let Placing::Nowhere = below else {
         return below;
     };

@@ -2,66 +2,61 @@
 use super::buckets::bucket;
 use super::buckets::slot_of;
 use super::room::free_slot;
+use reading::levels::bottom;
+use reading::levels::top;
 use reading::places::Places;
-use reading::places::both;
+use reading::places::both_places;
 use reading::places::hashes;
-use reading::places::nowhere;
+use reading::places::no_place;
+use reading::places::one_place;
 use reading::places::place;
 use rules::Hashes;
 use rules::Header;
+use rules::Level;
 use rules::Place;
 use rules::Placing;
 use rules::Slot;
 ghost use mathlib.Core.Path.{_≡_};
-ghost use mathlib.Core.List.{[], _∷_};
 ghost use Prim.Native.Nat.{_≤_};
 ghost use lib.ListN.{length, take};
 ghost use Rattle.rules.specs.Choice.{firstOf};
 ghost use Rattle.rules.specs.Words.{GoodHeader};
 ghost use Rattle.rules.specs.Places.{hashesOf, placesIn};
 ghost use Rattle.rules.specs.Placing.{moveOf, candidates};
-ghost use Rattle.reading.specs.Levels.{levelOf, placed};
+ghost use Rattle.reading.specs.Levels.{listHeld};
 ghost use Rattle.reading.specs.Within.{BucketWithin, SlotWithin, AllWithin, PlacingWithin};
 ghost use Rattle.placing.specs.Within.{LevelWithin};
 ghost use Rattle.placing.specs.Search.{optional, goalsOf, bucketMove, placesMove};
 
-// Where the items of a part may go, in the level of that name with 2^e buckets: up to either of their places there, or else
-// to their "other" place.
+// Where the items of a part may go, in a level: up to either of their places there, or else to their "other" place.
 pub struct Way {
     pub up: bool,
-    pub name: u64,
-    pub e: u64,
-}
-
-// A list of one place.
-fn only(p: Place) -> Places
-    ensures { λ r. ⌜ (placed r ≡ p ∷ []) × (r .n ≤ 2) ⌝ }
-{
-    Places { list: [p; 6], n: 1 }
+    pub level: Level,
 }
 
 // "Other" means "the first bucket, of the item's first and second place in that order, that is not the one it stands in".
 fn goals_of(x: Hashes, from: Slot, way: Way) -> Places
-    requires { ⌜ way .e ≤ 20 ⌝ }
-    ensures { λ r. ⌜ (placed r ≡ goalsOf way x from) × (r .n ≤ 2) ⌝ }
+    requires { ⌜ way .level .exponent ≤ 20 ⌝ }
+    ensures { λ r. ⌜ (listHeld r ≡ goalsOf way x from) × (r .n ≤ 2) ⌝ }
 {
+    let level = way.level;
     if way.up {
-        return both(nowhere(), x, way.name, way.e);
+        return both_places(x, level);
     }
-    let first = place(x.first, way.name, way.e);
+    let first = place(x.first, level);
     if first.bucket != from.bucket {
-        return only(first);
+        return one_place(first);
     }
-    let second = place(x.second, way.name, way.e);
+    let second = place(x.second, level);
     if second.bucket != from.bucket {
-        return only(second);
+        return one_place(second);
     }
-    nowhere()
+    no_place()
 }
 
 // "The first item with a free slot there moves to the lowest one, and the new item takes its old slot."
-fn move_to(t: &[u64], h: Header, from: Slot, goals: [Place; 6], n: usize) -> Placing
-    requires { ⌜ (n ≤ 6) × AllWithin (now t) (take n goals) × SlotWithin (now t) from ⌝ }
+fn move_to(t: &[u64], h: Header, from: Slot, goals: [Place; 2], n: usize) -> Placing
+    requires { ⌜ (n ≤ 2) × AllWithin (now t) (take n goals) × SlotWithin (now t) from ⌝ }
     ensures { λ r. ⌜ (optional r ≡ moveOf (now (t .entry)) h (record { item = from; goals = take n goals })) × PlacingWithin (now (t .entry)) r ⌝ }
 {
     for i in 0..n {
@@ -75,7 +70,7 @@ fn move_to(t: &[u64], h: Header, from: Slot, goals: [Place; 6], n: usize) -> Pla
 
 // One item: where it stands, and its key.
 fn move_item(t: &[u64], h: Header, from: Slot, key: u64, way: Way) -> Placing
-    requires { ⌜ LevelWithin (now t) (way .e) × SlotWithin (now t) from ⌝ }
+    requires { ⌜ LevelWithin (now t) (way .level) × SlotWithin (now t) from ⌝ }
     ensures { λ r. ⌜ (optional r ≡ moveOf (now (t .entry)) h (record { item = from; goals = goalsOf way (hashesOf h key) from })) × PlacingWithin (now (t .entry)) r ⌝ }
 {
     let goals = goals_of(hashes(h, key), from, way);
@@ -86,7 +81,7 @@ fn move_item(t: &[u64], h: Header, from: Slot, key: u64, way: Way) -> Placing
 // Slot choice where all are taken: the first item of a bucket, "slots 0 to 3", that can give up its slot. Its records tell the
 // keys, and so the places of each item; none is asked whether it is taken, since moves are tried only where all are.
 fn moves_of_bucket(t: &[u64], h: Header, p: Place, items: [[u64; 3]; 4], way: Way) -> Placing
-    requires { ⌜ BucketWithin (now t) (p .bucket) × LevelWithin (now t) (way .e) ⌝ }
+    requires { ⌜ BucketWithin (now t) (p .bucket) × LevelWithin (now t) (way .level) ⌝ }
     ensures { λ r. ⌜ (optional r ≡ bucketMove (now (t .entry)) h way p items) × PlacingWithin (now (t .entry)) r ⌝ }
 {
     for s in 0..items.len() {
@@ -99,8 +94,8 @@ fn moves_of_bucket(t: &[u64], h: Header, p: Place, items: [[u64; 3]; 4], way: Wa
 }
 
 // The items of n places, one place after the other.
-fn moves_of_places(t: &[u64], h: Header, places: [Place; 6], n: usize, way: Way) -> Placing
-    requires { ⌜ (n ≤ 6) × AllWithin (now t) (take n places) × LevelWithin (now t) (way .e) ⌝ }
+fn moves_of_places(t: &[u64], h: Header, places: [Place; 2], n: usize, way: Way) -> Placing
+    requires { ⌜ (n ≤ 2) × AllWithin (now t) (take n places) × LevelWithin (now t) (way .level) ⌝ }
     ensures { λ r. ⌜ (optional r ≡ placesMove (now (t .entry)) h way (take n places)) × PlacingWithin (now (t .entry)) r ⌝ }
 {
     for i in 0..n {
@@ -113,12 +108,12 @@ fn moves_of_places(t: &[u64], h: Header, places: [Place; 6], n: usize, way: Way)
     Placing::Nowhere
 }
 
-// The items of the key's places in the level of 2^e buckets, "first place, then second if different, slots 0 to 3".
-fn moves_of_level(t: &[u64], h: Header, x: Hashes, name: u64, e: u64, way: Way) -> Placing
-    requires { ⌜ LevelWithin (now t) e × LevelWithin (now t) (way .e) ⌝ }
-    ensures { λ r. ⌜ (optional r ≡ placesMove (now (t .entry)) h way (placesIn x (levelOf name e))) × PlacingWithin (now (t .entry)) r ⌝ }
+// The items of the key's places in a level, "first place, then second if different, slots 0 to 3".
+fn moves_of_level(t: &[u64], h: Header, x: Hashes, l: Level, way: Way) -> Placing
+    requires { ⌜ LevelWithin (now t) l × LevelWithin (now t) (way .level) ⌝ }
+    ensures { λ r. ⌜ (optional r ≡ placesMove (now (t .entry)) h way (placesIn x l)) × PlacingWithin (now (t .entry)) r ⌝ }
 {
-    let places = both(nowhere(), x, name, e);
+    let places = both_places(x, l);
     let list = places.list;
     moves_of_places(t, h, list, places.n, way)
 }
@@ -129,30 +124,27 @@ pub fn moving(t: &[u64], h: Header, x: Hashes) -> Placing
     requires { ⌜ GoodHeader (length (now t)) h ⌝ }
     ensures { λ r. ⌜ (optional r ≡ firstOf (moveOf (now (t .entry)) h) (candidates (now (t .entry)) h x)) × PlacingWithin (now (t .entry)) r ⌝ }
 {
-    let k = h.state.k;
-    let lower = k - 1;
+    let upper = top(h.state);
+    let lower = bottom(h.state);
     let along_top = Way {
         up: false,
-        name: 0,
-        e: k,
+        level: upper,
     };
     let along_bottom = Way {
         up: false,
-        name: 1,
-        e: lower,
+        level: lower,
     };
     let upward = Way {
         up: true,
-        name: 0,
-        e: k,
+        level: upper,
     };
-    let in_top = moves_of_level(t, h, x, 0, k, along_top);
+    let in_top = moves_of_level(t, h, x, upper, along_top);
     let Placing::Nowhere = in_top else {
         return in_top;
     };
-    let in_bottom = moves_of_level(t, h, x, 1, lower, along_bottom);
+    let in_bottom = moves_of_level(t, h, x, lower, along_bottom);
     let Placing::Nowhere = in_bottom else {
         return in_bottom;
     };
-    moves_of_level(t, h, x, 1, lower, upward)
+    moves_of_level(t, h, x, lower, upward)
 }

@@ -7,13 +7,13 @@ use reading::places::place;
 use reading::slots::token;
 use rules::Hashes;
 use rules::Header;
+use rules::Level;
 use rules::Place;
 use rules::Placing;
 ghost use mathlib.Core.Path.{_≡_};
 ghost use mathlib.Core.Option.{Option·map};
 ghost use Rattle.rules.specs.Placing.{freeSlot, emptier as emptierOf, roomIn};
 ghost use Rattle.rules.specs.declared.Placing.the-variants.{Free as free};
-ghost use Rattle.reading.specs.Levels.{levelOf};
 ghost use Rattle.reading.specs.Within.{BucketWithin, PlacingWithin};
 ghost use Rattle.placing.specs.Within.{LevelWithin};
 ghost use Rattle.placing.specs.Search.{optional};
@@ -45,12 +45,12 @@ fn emptier(t: &[u64], h: Header, first: Place, second: Place) -> Place
     first
 }
 
-// The same of the emptier of a key's two places in the level of that name with 2^e buckets.
-pub fn room(t: &[u64], h: Header, x: Hashes, name: u64, e: u64) -> Placing
-    requires { ⌜ LevelWithin (now t) e ⌝ }
-    ensures { λ r. ⌜ (optional r ≡ Option·map free (roomIn (now (t .entry)) h x (levelOf name e))) × PlacingWithin (now (t .entry)) r ⌝ }
+// The same of the emptier of a key's two places in a level.
+pub fn room(t: &[u64], h: Header, x: Hashes, l: Level) -> Placing
+    requires { ⌜ LevelWithin (now t) l ⌝ }
+    ensures { λ r. ⌜ (optional r ≡ Option·map free (roomIn (now (t .entry)) h x l)) × PlacingWithin (now (t .entry)) r ⌝ }
 {
-    let first = place(x.first, name, e);
-    let second = place(x.second, name, e);
+    let first = place(x.first, l);
+    let second = place(x.second, l);
     free_slot(t, h, emptier(t, h, first, second))
 }

@@ -1,34 +1,33 @@
 // The places of a key one after the other, without a list of them: place i is the first or the second place, by turns, of
 // level i / 2.
+use reading::levels::level_count;
+use reading::levels::nth_level;
 use reading::places::place;
 use rules::Hashes;
 use rules::Place;
 use rules::State;
 ghost use mathlib.Core.Path.{_≡_};
-ghost use mathlib.Core.Bool.{cond};
-ghost use Prim.Native.Nat.{_+_, _-_, _*_, _/_, _^_, _≤_, _<_};
-ghost use Rattle.rules.specs.Words.{atRest};
+ghost use Prim.Native.Nat.{_*_, _≤_, _<_};
+ghost use lib.ListN.{length};
+ghost use Rattle.rules.specs.Words.{GoodState, levelsInUse};
 ghost use Rattle.querying.specs.Turns.{nthPlace, fresh};
 
-// "top, bottom, interim": two places in each level in use.
+// Two places in each level in use.
 pub fn place_count(s: State) -> usize
-    ensures { λ r. ⌜ (r ≡ cond (atRest s) 4 6) × (r ≤ 4 + 2 * s .phase) ⌝ }
+    ensures { λ r. ⌜ (r ≡ 2 * length (levelsInUse s)) × (r ≤ 6) ⌝ }
 {
-    if s.phase == 0 {
-        return 4;
-    }
-    6
+    2 * level_count(s)
 }
 
 pub fn nth_place(s: State, x: Hashes, i: usize) -> Place
-    requires { ⌜ (i < 6) × (i / 2 ≤ s .k) × (s .k ≤ 20) ⌝ }
-    ensures { λ r. ⌜ (r ≡ nthPlace s x i) × (r .bucket + 1 < 2 * 2 ^ (s .k - i / 2)) ⌝ }
+    requires { ⌜ GoodState 20 s × (i < 2 * length (levelsInUse s)) ⌝ }
+    ensures { λ p. ⌜ p ≡ nthPlace s x i ⌝ }
 {
-    let level = (i / 2) as u64;
+    let level = nth_level(s, i / 2);
     if i % 2 == 0 {
-        return place(x.first, level, s.k - level);
+        return place(x.first, level);
     }
-    place(x.second, level, s.k - level)
+    place(x.second, level)
 }
 
 // "first place, then second if different": whether place i, a bucket, is not the place before it again.

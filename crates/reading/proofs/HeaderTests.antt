@@ -1,35 +1,16 @@
 -- A header with one thing wrong fails its tests, and with nothing else wrong the state decides.
 -- Assumes nothing.
 use Prim.Native.Nat.{ℕ, _+_, _-_, _*_, _%_, _^_, _≤_, _<_}
-use mathlib.Core.Path.{_≡_, sym, _∙_}
-use mathlib.Core.Bool.{false, and-true, and-false, or-false}
+use mathlib.Core.Path.{_≡_, sym}
+use mathlib.Core.Bool.{false, and-true}
 use native.Mathlib.Omega.{arith}
 use borrow.Author.Tests.{lt-leb, le-leb, eq-eqb, ne-eqb}
 use lib.ListN.{length}
-use lib.Dec.{leb}
 use Rattle.rules.specs.Choice.{all}
 use Rattle.rules.specs.Words.{Table, wordsFor, stateGood, odd, capacityTests, headerTests, headerOf}
 use Rattle.rules.specs.Calls.{headerGood}
-use Rattle.rules.specs.declared.State.{State}
 use Rattle.rules.specs.declared.Header.{Header}
 use Rattle.rules.proofs.Tests.{all-no}
-
-module _ (c : ℕ) (s : State) where
-  pub state-above : c < s .k → false ≡ stateGood c s
-  unfolding stateGood
-  state-above h = simp (lt-leb _ _ h, and-false)
-
-  pub state-other : (s .phase ≡ 0 → ⊥) → (s .phase ≡ 1 → ⊥) → false ≡ stateGood c s
-  unfolding stateGood
-  state-other p q = rw (ne-eqb _ _ p, ne-eqb _ _ q)
-
-  pub state-rest : s .k ≤ c → s .phase ≡ 0 → leb 1 (s .k) ≡ stateGood c s
-  unfolding stateGood
-  state-rest h p = rw (eq-eqb _ _ p, le-leb _ _ h, ne-eqb (s .phase) 1 (omega arith)) (sym (or-false _ ∙ and-true _))
-
-  pub state-growing : s .k ≤ c → s .phase ≡ 1 → leb 2 (s .k) ≡ stateGood c s
-  unfolding stateGood
-  state-growing h p = rw (ne-eqb (s .phase) 0 (omega arith), eq-eqb _ _ p, le-leb _ _ h) (sym (or-false _ ∙ and-true _))
 
 module _ (size : ℕ) (h : Header) where
   pub low : h .c < 1 → false ≡ all (headerTests size h)

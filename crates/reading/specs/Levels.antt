@@ -1,20 +1,23 @@
--- Levels as the code names them: by their name and the exponent of their size.
+-- The levels in use, and the places of a key in one, as the code goes through them.
 -- Assumes nothing.
-use Prim.Native.Nat.{ℕ, _+_, _-_, _%_, _^_}
-use mathlib.Core.List.{List}
-use lib.ListN.{take}
-use Rattle.rules.specs.Words.{placeAt}
+use Prim.Native.Nat.{ℕ, _+_, _-_, _%_}
+use mathlib.Core.Path.{_≡_}
+use mathlib.Core.List.{List, _∷_}
+use lib.ListN.{take, drop}
+use Rattle.rules.specs.Words.{sizeOf, levelsInUse, placeAt}
+use Rattle.rules.specs.declared.State.{State}
 use Rattle.rules.specs.declared.Level.{Level}
 use Rattle.rules.specs.declared.Place.{Place}
 use Rattle.reading.specs.declared.places.Places.{Places}
 
-abbrev pub levelOf : ℕ → ℕ → Level
-levelOf name e = record { name = name; size = 2 ^ e }
+-- level n, from 0, of the rules' list
+abbrev pub NthLevel : State → ℕ → Level → Type 0
+NthLevel s n l = drop n (levelsInUse s) ≡ l ∷ drop (n + 1) (levelsInUse s)
 
 -- the place of a hash in a level: "hash 1 modulo M", "buckets M − 1 to 2M − 2"
 abbrev pub placeIn : Level → ℕ → Place
-placeIn l hash = placeAt l (l .size - 1 + hash % l .size)
+placeIn l hash = placeAt l (sizeOf l - 1 + hash % sizeOf l)
 
 -- the list that an array with a count holds
-abbrev pub placed : Places → List Place
-placed p = take (p .n) (p .list)
+abbrev pub listHeld : Places → List Place
+listHeld p = take (p .n) (p .list)

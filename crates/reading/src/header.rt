@@ -6,7 +6,7 @@ ghost use mathlib.Core.Path.{_≡_};
 ghost use Prim.Native.Nat.{_≤_};
 ghost use lib.ListN.{length};
 ghost use Rattle.rules.specs.Choice.{all};
-ghost use Rattle.rules.specs.Words.{headerOf, stateGood, headerTests};
+ghost use Rattle.rules.specs.Words.{headerOf, headerTests};
 
 pub fn decode(t: &[u64]) -> Header
     requires { ⌜ 9 ≤ length (now t) ⌝ }
@@ -22,22 +22,6 @@ pub fn decode(t: &[u64]) -> Header
             phase: t[4] / 256,
         },
     }
-}
-
-// "At rest 1 ≤ k ≤ c, while growing 2 ≤ k ≤ c. Other states are bad."
-fn state_good(c: u64, s: State) -> bool
-    ensures { λ r. ⌜ r ≡ stateGood c s ⌝ }
-{
-    if c < s.k {
-        return false;
-    }
-    if s.phase == 0 {
-        return 1 <= s.k;
-    }
-    if s.phase == 1 {
-        return 2 <= s.k;
-    }
-    false
 }
 
 // "length, form, c, multipliers or state"
@@ -62,5 +46,5 @@ pub fn header_good(size: usize, h: Header) -> bool
     if h.mul2 % 2 != 1 {
         return false;
     }
-    state_good(h.c, h.state)
+    h.state.good(h.c)
 }

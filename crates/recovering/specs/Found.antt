@@ -2,10 +2,10 @@
 -- Assumes nothing.
 use Prim.Native.Nat.{ℕ, _-_, _*_}
 use mathlib.Core.Bool.{Bool, cond, _&&_}
-use mathlib.Core.Option.{Option, none, some, Option·getD}
+use mathlib.Core.Option.{Option, none, some}
 use lib.Dec.{leb, eqb}
 use Rattle.rules.specs.Choice.{given, firstOf}
-use Rattle.rules.specs.Words.{Table, recordIn, tokenOf, tidyOf, levelsInUse}
+use Rattle.rules.specs.Words.{Table, recordIn, tokenOf, tidyOf, sizeOf, levelsInUse}
 use Rattle.rules.specs.Soundness.{sameRecord}
 use Rattle.rules.specs.declared.State.{State}
 use Rattle.rules.specs.declared.Header.{Header}
@@ -16,6 +16,8 @@ use Rattle.rules.specs.declared.Finding.the-variants.{Sound, Doubled, Flagged, 
 use Rattle.reading.specs.Within.{SlotWithin}
 use Rattle.scanning.specs.declared.copies.Scan.{Scan}
 use Rattle.scanning.specs.declared.copies.Scan.the-variants.{Clear, Pair, Spoilt}
+use Rattle.recovering.specs.declared.target.Home.{Home}
+use Rattle.recovering.specs.declared.target.Home.the-variants.{In, Nowhere}
 use Rattle.recovering.specs.declared.target.Target.{Target}
 use Rattle.recovering.specs.declared.target.Target.the-variants.{At, Nothing}
 
@@ -30,12 +32,16 @@ zeroToken t j = eqb (tokenOf t j) 0
 -- ---- word 6
 
 -- "A level of M buckets (M a power of two) is always buckets M − 1 to 2M − 2."
-unfoldable pub inLevel : ℕ → ℕ → Bool
-inLevel size j = leb (size - 1) j && leb j (2 * size - 2)
+unfoldable pub inLevel : ℕ → Level → Bool
+inLevel j l = leb (sizeOf l - 1) j && leb j (2 * sizeOf l - 2)
 
--- the level in use that bucket j belongs to, 3 where it belongs to none
-unfoldable pub levelAt : State → ℕ → ℕ
-levelAt s j = Option·getD (firstOf (λ (l : Level). given (inLevel (l .size) j) (l .name)) (levelsInUse s)) 3
+-- the level in use that bucket j belongs to
+unfoldable pub homeOf : State → ℕ → Option Level
+homeOf s j = firstOf (λ (l : Level). given (inLevel j l) l) (levelsInUse s)
+
+abbrev pub homeMeans : Home → Option Level
+homeMeans (In l) = some l
+homeMeans Nowhere = none
 
 abbrev pub targetMeans : Target → Option Slot
 targetMeans (At x) = some x

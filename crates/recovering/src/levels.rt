@@ -1,4 +1,6 @@
 // "every token word at most 15, and 0 in levels not in use"
+use reading::levels::level_count;
+use reading::levels::nth_level;
 use reading::slots::token;
 use reading::tokens::tidy;
 use rules::Header;
@@ -6,10 +8,10 @@ use rules::State;
 use words::power;
 ghost use mathlib.Core.Path.{_≡_};
 ghost use mathlib.Core.List.{map};
-ghost use Prim.Native.Nat.{_+_, _^_, _≤_};
+ghost use Prim.Native.Nat.{_^_, _≤_};
 ghost use lib.ListN.{length};
 ghost use Rattle.rules.specs.Choice.{all};
-ghost use Rattle.rules.specs.Words.{GoodHeader, sizeInUse, bucketsOf, allBuckets, unusedBuckets};
+ghost use Rattle.rules.specs.Words.{GoodState, GoodHeader, exponentInUse, bucketsOf, allBuckets, unusedBuckets};
 ghost use Rattle.recovering.specs.Found.{tidyToken, zeroToken};
 
 pub fn tokens_tidy(t: &[u64], h: Header) -> bool
@@ -28,19 +30,17 @@ pub fn tokens_tidy(t: &[u64], h: Header) -> bool
 
 // Whether a level in use has 2^e buckets.
 fn in_use(s: State, e: u64) -> bool
-    requires { ⌜ s .phase + 1 ≤ s .k ⌝ }
-    ensures { λ r. ⌜ r ≡ sizeInUse s (2 ^ e) ⌝ }
+    requires { ⌜ GoodState 20 s ⌝ }
+    ensures { λ r. ⌜ r ≡ exponentInUse s e ⌝ }
 {
-    if s.k == e {
-        return true;
+    let count = level_count(s);
+    for n in 0..count {
+        let level = nth_level(s, n);
+        if level.exponent == e {
+            return true;
+        }
     }
-    if s.k - 1 == e {
-        return true;
-    }
-    if s.phase == 0 {
-        return false;
-    }
-    s.k - 2 == e
+    false
 }
 
 fn level_empty(t: &[u64], h: Header, e: u64) -> bool

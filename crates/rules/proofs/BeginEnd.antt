@@ -1,17 +1,16 @@
 -- begin and end on a sound table: 7 while growing and 9 at k = c; 8 at rest and 10 with an interim item. Else the state alone changes,
 -- and the map is the same.
 -- Assumes nothing.
-use Prim.Native.Nat.{ℕ, _+_, _-_, _*_, _^_, _≤_, _<_}
-use mathlib.Core.Path.{_≡_, refl, sym, ap, _∙_}
+use Prim.Native.Nat.{ℕ, _+_, _≤_, _<_}
+use mathlib.Core.Path.{_≡_, refl, ap, _∙_}
 use mathlib.Core.Bool.{Bool, true, false, cond}
-use mathlib.Core.Logic.{_⊎_, inl, inr, ⊎-elim}
-use mathlib.Core.List.{[], _∷_, List·Memᴰ as In, List·Memᴰ·head as here, List·Memᴰ·tail as there, List·Memᴰ·cases-cons, List·Memᴰ·eq-of-singleton}
+use mathlib.Core.Logic.{_⊎_, inl, inr}
+use mathlib.Core.List.{[], _∷_, List·Memᴰ as In}
 use native.Mathlib.Omega.{arith}
 use lib.ListN.{length}
-use lib.Pow.{pow-pos, pow-mono, pow-add}
-use borrow.Author.Tests.{eq-eqb, ne-eqb}
+use borrow.Author.Tests.{eqb-false, eq-eqb, ne-eqb}
 use Rattle.rules.specs.Choice.{empty}
-use Rattle.rules.specs.Words.{Table, GoodState, headerOf, atRest, stateWord, topOf, bottomOf, interimOf, levelsInUse, InLevel, tokenOf}
+use Rattle.rules.specs.Words.{Table, GoodState, headerOf, atRest, stateWord, topOf, bottomOf, interimOf, levelsInUse, exponentInUse, InLevel}
 use Rattle.rules.specs.Stores.{beginStores, endStores, made}
 use Rattle.rules.specs.Soundness.{TakenSlot, PlainMap}
 use Rattle.rules.specs.Calls.{listed, refused, beginTests, beginOf, interimItems, endTests, endOf, outcome}
@@ -20,22 +19,19 @@ use Rattle.rules.specs.declared.State.{State}
 use Rattle.rules.specs.declared.Level.{Level}
 use Rattle.rules.specs.declared.Slot.{Slot}
 use Rattle.rules.specs.declared.Refusal.the-variants.{InterimTaken}
-use Rattle.rules.proofs.Headers.{header-fits, sizes}
-use Rattle.rules.proofs.PlacesWithin.{level-power}
-use Rattle.rules.proofs.Levels.{level-of-bucket}
+use Rattle.rules.proofs.States.{state-fits}
+use Rattle.rules.proofs.Headers.{header-fits}
+use Rattle.rules.proofs.Levels.{OfThree, level-cases, top-used, bottom-used, interim-used, exponent-fits, level-of-bucket}
+use Rattle.rules.proofs.Unused.{exponent-tells, ranged-bucket, unused-exponent}
 use Rattle.rules.proofs.Interims.{interim-empty, interim-left}
 use Rattle.rules.proofs.Moving.{kept-alone, kept-map}
 use Rattle.rules.proofs.Restated.{Restated, state-stored, Lasts, Lasted, restated-carried, restated-orderly}
 use Rattle.rules.proofs.Passing.{passes}
 
--- the levels at rest, and while growing
-rest-levels : (s : State) → s .phase ≡ 0 → levelsInUse s ≡ topOf s ∷ bottomOf s ∷ []
-unfolding levelsInUse atRest
-rest-levels s e = rw (eq-eqb (s .phase) 0 e)
-
-pub growing-levels : (s : State) → (s .phase ≡ 0 → ⊥) → levelsInUse s ≡ topOf s ∷ bottomOf s ∷ interimOf s ∷ []
-unfolding levelsInUse atRest
-growing-levels s n = rw (ne-eqb (s .phase) 0 n)
+-- while growing there is an interim level
+pub growing-interim : (t : Table) → Growing t → atRest (headerOf t .state) ≡ false
+unfolding atRest
+growing-interim t growing = ne-eqb (headerOf t .state .phase) 0 growing
 
 -- a state that is stored on a sound table, where the levels allow it
 module _ (t : Table) (m : PlainMap) (n : ℕ) (given : Given t m n) (s : State) (good : GoodState (headerOf t .c) s) where
@@ -45,13 +41,23 @@ module _ (t : Table) (m : PlainMap) (n : ℕ) (given : Given t m n) (s : State) 
   stored : Restated t restated s
   stored =
       let g = given .sound .orderly .header in
-      let most : s .k ≤ headerOf t .c = ⊎-elim (λ (rest : (s .phase ≡ 0) × (1 ≤ s .k) × (s .k ≤ headerOf t .c)). rest .2) (λ (grow : (s .phase ≡ 1) × (2 ≤ s .k) × (s .k ≤ headerOf t .c)). grow .2) good in
-      let low : s .k < 256 = omega (arith, g .capacity .1) in
+      let low : s .k < 256 = omega (arith, state-fits (headerOf t .c) s good, g .capacity .1) in
       state-stored t s (header-fits (length t) (headerOf t) g) low
 
-  state-gives : ((l : Level) → In l (levelsInUse (headerOf t .state)) → Lasts t s l)
-      → ((l : Level) → In l (levelsInUse s) → Lasted t l) → Gives t (listed ((4, stateWord s) ∷ [])) m s
-  state-gives lasts lasted =
+  -- a level of the new state had its exponent in use before, or lay in no level in use and has no token
+  lasted : (l : Level) → In l (levelsInUse s) → Lasted t l
+  lasted l i = go (exponentInUse (headerOf t .state) (l .exponent)) refl
+    where
+      go : (b : Bool) → exponentInUse (headerOf t .state) (l .exponent) ≡ b → Lasted t l
+      go true q = inl (exponent-tells (headerOf t .state) (l .exponent) .0 q)
+      go false q =
+          inr (λ j range.
+          let fits = exponent-fits (headerOf t .c) s good l i in
+          given .sound .orderly .unused j (ranged-bucket (headerOf t .c) (l .exponent) j (omega arith) range)
+          (unused-exponent (headerOf t .state) (l .exponent) j range q))
+
+  state-gives : ((l : Level) → In l (levelsInUse (headerOf t .state)) → Lasts t s l) → Gives t (listed ((4, stateWord s) ∷ [])) m s
+  state-gives lasts =
       let o = given .sound .orderly in
       let carried = restated-carried 0 t restated s o stored lasts lasted in
       let orderly = restated-orderly 0 t restated s o stored lasts lasted good in
@@ -63,62 +69,28 @@ module _ (t : Table) (m : PlainMap) (n : ℕ) (given : Given t m n) (s : State) 
         header = stored .header;
       }
 
--- ---- begin: the old top is the bottom, the old bottom the interim level, and the new top was not in use
+-- ---- begin: the old top is the bottom, the old bottom the interim level
 
 module _ (t : Table) (m : PlainMap) (n : ℕ) (given : Given t m n) (rest : AtRest t) (below : headerOf t .state .k ≡ headerOf t .c → ⊥) where
   abbrev grown : State
   grown = record { k = headerOf t .state .k + 1; phase = 1 }
 
-  room : (1 ≤ headerOf t .state .k) × (headerOf t .state .k + 1 ≤ headerOf t .c)
-  room = let z = sizes (length t) (headerOf t) (given .sound .orderly .header) in (omega (arith, z .least), omega (arith, z .most))
+  fits : (1 ≤ headerOf t .state .k) × (headerOf t .state .k ≤ headerOf t .c)
+  fits = state-fits (headerOf t .c) (headerOf t .state) (given .sound .orderly .header .state)
 
-  grown-good : GoodState (headerOf t .c) grown
-  grown-good = inr (refl, omega (arith, room .0), room .1)
-
-  grown-levels : levelsInUse grown ≡ topOf grown ∷ bottomOf grown ∷ interimOf grown ∷ []
-  grown-levels = growing-levels grown (λ e. omega arith)
-
-  lasts : (l : Level) → In l (levelsInUse (headerOf t .state)) → Lasts t grown l
-  unfolding topOf bottomOf interimOf
-  lasts l i =
-      let s = headerOf t .state in
-      let low = room .0 in
-      let old : 2 ^ (s .k + 1 - 1) ≡ 2 ^ s .k = ap (λ (e : ℕ). 2 ^ e) (omega arith) in
-      let older : 2 ^ (s .k + 1 - 2) ≡ 2 ^ (s .k - 1) = ap (λ (e : ℕ). 2 ^ e) (omega arith) in
-      ⊎-elim (λ (e : l ≡ topOf s). inl (bottomOf grown, rw grown-levels (there (here refl)), old ∙ sym (ap (λ (z : Level). z .size) e)))
-      (λ (j : In l (bottomOf s ∷ [])). inl (interimOf grown, rw grown-levels (there (there (here refl))), older ∙ sym (ap (λ (z : Level). z .size) (List·Memᴰ·eq-of-singleton j))))
-      (List·Memᴰ·cases-cons (rw (rest-levels s rest) at i))
-
-  -- no bucket of the new top was in use
-  new-top : (j : ℕ) → InLevel (topOf grown) j → tokenOf t j ≡ 0
-  unfolding topOf bottomOf
-  new-top j range =
-      let s = headerOf t .state in
-      let double : 2 ^ (s .k + 1) ≡ 2 ^ s .k * 2 ^ 1 = pow-add 2 (s .k) 1 in
-      let most : 2 ^ (headerOf t .c + 1) ≡ 2 ^ headerOf t .c * 2 ^ 1 = pow-add 2 (headerOf t .c) 1 in
-      let inside : j < 2 ^ (headerOf t .c + 1) - 1 = omega (arith, pow-mono (room .1), pow-pos (s .k + 1), range) in
-      given .sound .orderly .unused j inside
-      (λ l i r.
-      let power = level-power s l i in
-      omega (arith, pow-mono (power .2), power .1, r, range, pow-pos (power .0)))
-
-  lasted : (l : Level) → In l (levelsInUse grown) → Lasted t l
-  unfolding topOf bottomOf interimOf
-  lasted l i =
-      let s = headerOf t .state in
-      let low = room .0 in
-      let old : 2 ^ s .k ≡ 2 ^ (s .k + 1 - 1) = ap (λ (e : ℕ). 2 ^ e) (omega arith) in
-      let older : 2 ^ (s .k - 1) ≡ 2 ^ (s .k + 1 - 2) = ap (λ (e : ℕ). 2 ^ e) (omega arith) in
-      ⊎-elim (λ (e : l ≡ topOf grown). inr (λ j r. new-top j (rw e at r)))
-      (λ (j : In l (bottomOf grown ∷ interimOf grown ∷ [])).
-      ⊎-elim (λ (e : l ≡ bottomOf grown). inl (topOf s, rw (rest-levels s rest) (here refl), old ∙ sym (ap (λ (z : Level). z .size) e)))
-      (λ (k : In l (interimOf grown ∷ [])). inl (bottomOf s, rw (rest-levels s rest) (there (here refl)), older ∙ sym (ap (λ (z : Level). z .size) (List·Memᴰ·eq-of-singleton k))))
-      (List·Memᴰ·cases-cons j)) (List·Memᴰ·cases-cons (rw grown-levels at i))
+  begin-lasts : (l : Level) → In l (levelsInUse (headerOf t .state)) → Lasts t grown l
+  unfolding topOf bottomOf interimOf atRest
+  begin-lasts l i = go (level-cases (headerOf t .state) l i)
+    where
+      go : OfThree (headerOf t .state) l → Lasts t grown l
+      go (inl e) = inl (bottomOf grown, bottom-used grown, rw e (omega arith))
+      go (inr (inl e)) = inl (interimOf grown, interim-used grown refl, rw e (omega (arith, fits)))
+      go (inr (inr e)) = absurd (eqb-false _ _ (e .0) rest)
 
   -- "begin growth | state: k + 1, phase 1"
   begin-gives : Gives t (listed (beginStores (headerOf t .state))) m grown
   unfolding beginStores
-  begin-gives = state-gives t m n given grown grown-good lasts lasted
+  begin-gives = state-gives t m n given grown (inr (refl, omega (arith, fits), omega (arith, fits))) begin-lasts
 
 -- ---- end: the interim level goes out of use, without an item
 
@@ -126,40 +98,31 @@ module _ (t : Table) (m : PlainMap) (n : ℕ) (given : Given t m n) (growing : G
   abbrev ended : State
   ended = record { k = headerOf t .state .k; phase = 0 }
 
-  ended-good : GoodState (headerOf t .c) ended
-  ended-good = let z = sizes (length t) (headerOf t) (given .sound .orderly .header) in inl (refl, omega (arith, z .least), z .most)
-
   -- an item in a bucket of the interim level is an interim item
   no-item : (y : Slot) → TakenSlot t y → InLevel (interimOf (headerOf t .state)) (y .bucket) → ⊥
   unfolding interimOf
   no-item y a range =
       let s = headerOf t .state in
-      let used : In (interimOf s) (levelsInUse s) = rw (growing-levels s growing) (there (there (here refl))) in
-      let same = level-of-bucket (headerOf t .c) s (given .sound .orderly .header .state) (a .used .level) (interimOf s) (y .bucket) (a .used .used) used (a .used .bucket) range in
+      let good = given .sound .orderly .header .state in
+      let used = interim-used s (growing-interim t growing) in
+      let same = level-of-bucket (headerOf t .c) s good (a .used .level) (interimOf s) (y .bucket) (a .used .used) used (a .used .bucket) range in
       none y (record { item = a; level = a .used .name ∙ ap (λ (l : Level). l .name) same })
 
   end-lasts : (l : Level) → In l (levelsInUse (headerOf t .state)) → Lasts t ended l
   unfolding topOf bottomOf
-  end-lasts l i =
-      let s = headerOf t .state in
-      ⊎-elim (λ (e : l ≡ topOf s). inl (topOf ended, rw (rest-levels ended refl) (here refl), sym (ap (λ (z : Level). z .size) e)))
-      (λ (j : In l (bottomOf s ∷ interimOf s ∷ [])).
-      ⊎-elim (λ (e : l ≡ bottomOf s). inl (bottomOf ended, rw (rest-levels ended refl) (there (here refl)), sym (ap (λ (z : Level). z .size) e)))
-      (λ (k : In l (interimOf s ∷ [])). inr (λ y a r. no-item y a (rw (List·Memᴰ·eq-of-singleton k) at r)))
-      (List·Memᴰ·cases-cons j)) (List·Memᴰ·cases-cons (rw (growing-levels s growing) at i))
-
-  end-lasted : (l : Level) → In l (levelsInUse ended) → Lasted t l
-  unfolding topOf bottomOf
-  end-lasted l i =
-      let s = headerOf t .state in
-      ⊎-elim (λ (e : l ≡ topOf ended). inl (topOf s, rw (growing-levels s growing) (here refl), sym (ap (λ (z : Level). z .size) e)))
-      (λ (j : In l (bottomOf ended ∷ [])). inl (bottomOf s, rw (growing-levels s growing) (there (here refl)), sym (ap (λ (z : Level). z .size) (List·Memᴰ·eq-of-singleton j))))
-      (List·Memᴰ·cases-cons (rw (rest-levels ended refl) at i))
+  end-lasts l i = go (level-cases (headerOf t .state) l i)
+    where
+      go : OfThree (headerOf t .state) l → Lasts t ended l
+      go (inl e) = inl (topOf ended, top-used ended, rw e refl)
+      go (inr (inl e)) = inl (bottomOf ended, bottom-used ended, rw e refl)
+      go (inr (inr e)) = inr (λ y a r. no-item y a (rw (e .1) at r))
 
   -- "end growth | state: phase 0"
   end-gives : Gives t (listed (endStores (headerOf t .state))) m ended
   unfolding endStores
-  end-gives = state-gives t m n given ended ended-good end-lasts end-lasted
+  end-gives =
+      let fits = state-fits (headerOf t .c) (headerOf t .state) (given .sound .orderly .header .state) in
+      state-gives t m n given ended (inl (refl, fits .0, fits .1)) end-lasts
 
 -- ---- the two calls
 

@@ -12,7 +12,7 @@ use lib.ListN.{length}
 use lib.Pow.{pow-pos, pow-add}
 use borrow.Author.Tests.{eqb-true}
 use Rattle.rules.specs.Choice.{from}
-use Rattle.rules.specs.Words.{Table, GoodHeader, headerOf, flagOf, atRest, stateWord, interimOf, bucketsOf, InLevel, placeOf, keyIn, tokenOf}
+use Rattle.rules.specs.Words.{Table, GoodHeader, headerOf, flagOf, atRest, stateWord, sizeOf, interimOf, bucketsOf, InLevel, placeOf, keyIn, tokenOf}
 use Rattle.rules.specs.Places.{lookup}
 use Rattle.rules.specs.Placing.{freeSlot, placing}
 use Rattle.rules.specs.Stores.{Store, placingStores, updateStores, stepStores, made}
@@ -125,26 +125,26 @@ module _ (t : Table) (n : ℕ) (growing : Growing t) where
 -- ---- the items of the interim level
 
 unfoldable count : Table → ℕ
-count t = total (λ (j : ℕ). bitsOf (headerOf t) (tokenOf t j)) (bucketsOf (interimOf (headerOf t .state) .size))
+count t = total (λ (j : ℕ). bitsOf (headerOf t) (tokenOf t j)) (bucketsOf (sizeOf (interimOf (headerOf t .state))))
 
-in-interim : (s : State) (j : ℕ) → In j (bucketsOf (interimOf s .size)) → InLevel (interimOf s) j
-unfolding bucketsOf interimOf
-in-interim s j i = omega (arith, from-in (2 ^ (s .k - 2) - 1) (2 ^ (s .k - 2)) j i, pow-pos (s .k - 2))
+in-interim : (s : State) (j : ℕ) → In j (bucketsOf (sizeOf (interimOf s))) → InLevel (interimOf s) j
+unfolding bucketsOf
+in-interim s j i = omega (arith, from-in (sizeOf (interimOf s) - 1) (sizeOf (interimOf s)) j i, pow-pos (interimOf s .exponent))
 
-interim-in : (s : State) (j : ℕ) → InLevel (interimOf s) j → In j (bucketsOf (interimOf s .size))
-unfolding bucketsOf interimOf
-interim-in s j r = in-from (2 ^ (s .k - 2) - 1) (2 ^ (s .k - 2)) j (r .0) (omega (arith, r .1, pow-pos (s .k - 2)))
+interim-in : (s : State) (j : ℕ) → InLevel (interimOf s) j → In j (bucketsOf (sizeOf (interimOf s)))
+unfolding bucketsOf
+interim-in s j r = in-from (sizeOf (interimOf s) - 1) (sizeOf (interimOf s)) j (r .0) (omega (arith, r .1, pow-pos (interimOf s .exponent)))
 
 module _ (t u : Table) where
   shrinks-count : Shrinks t u → count u ≤ count t
   unfolding count
   shrinks-count s =
-      rw (s .header) (total-least (λ j. bitsOf (headerOf t) (tokenOf u j)) (λ j. bitsOf (headerOf t) (tokenOf t j)) (bucketsOf (interimOf (headerOf t .state) .size)) (λ j i. s .bits j (in-interim (headerOf t .state) j i)))
+      rw (s .header) (total-least (λ j. bitsOf (headerOf t) (tokenOf u j)) (λ j. bitsOf (headerOf t) (tokenOf t j)) (bucketsOf (sizeOf (interimOf (headerOf t .state)))) (λ j i. s .bits j (in-interim (headerOf t .state) j i)))
 
   steps-count : (x : Slot) → Steps t u x → count u + 1 ≤ count t
   unfolding count
   steps-count x s =
-      rw (s .shrinks .header) (total-less (λ j. bitsOf (headerOf t) (tokenOf u j)) (λ j. bitsOf (headerOf t) (tokenOf t j)) (bucketsOf (interimOf (headerOf t .state) .size))
+      rw (s .shrinks .header) (total-less (λ j. bitsOf (headerOf t) (tokenOf u j)) (λ j. bitsOf (headerOf t) (tokenOf t j)) (bucketsOf (sizeOf (interimOf (headerOf t .state))))
       (λ j i. s .shrinks .bits j (in-interim (headerOf t .state) j i)) (x .bucket) (interim-in (headerOf t .state) (x .bucket) (s .range)) (s .less))
 
   still-growing : headerOf u ≡ headerOf t → Growing t → Growing u
@@ -233,9 +233,9 @@ spent-most (whole q l ∷ es) t growing p o = go (outcome t (length l) q) refl o
 -- ---- from its begin
 
 -- the interim level's buckets have four slots each
-count-most : (t : Table) → count t ≤ 4 * 2 ^ (headerOf t .state .k - 2)
-unfolding count interimOf bucketsOf
-count-most t = total-most (λ j. bitsOf (headerOf t) (tokenOf t j)) 4 (λ j. bits-most (headerOf t) (tokenOf t j)) _ (2 ^ (headerOf t .state .k - 2))
+count-most : (t : Table) → count t ≤ 4 * sizeOf (interimOf (headerOf t .state))
+unfolding count bucketsOf
+count-most t = total-most (λ j. bitsOf (headerOf t) (tokenOf t j)) 4 (λ j. bits-most (headerOf t) (tokenOf t j)) _ (sizeOf (interimOf (headerOf t .state)))
 
 -- after begin the state is k + 1, phase 1
 begun : (t : Table) (n : ℕ) (xs : List Store) → outcome t n begin ≡ listed xs → (length xs ≡ 1) × (headerOf (made t xs) .state ≡ record { k = headerOf t .state .k + 1; phase = 1 })
@@ -257,6 +257,7 @@ half-buckets k l =
     omega arith
 
 pub growthBound : GrowthBound
+unfolding interimOf
 growthBound t u l es accepted growth history =
     let lists = accepted-lists t l begin accepted in
     let xs = lists .0 in

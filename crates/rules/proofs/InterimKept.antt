@@ -19,7 +19,7 @@ use Rattle.rules.specs.declared.Slot.{Slot}
 use Rattle.rules.specs.declared.Record.{Record}
 use Rattle.rules.specs.declared.Placing.{Placing}
 use Rattle.rules.specs.declared.Placing.the-variants.{Free, Move, Nowhere}
-use Rattle.rules.proofs.Levels.{level-of-bucket}
+use Rattle.rules.proofs.Levels.{interim-used, interim-named, level-of-bucket}
 use Rattle.rules.proofs.PlacesInUse.{among-used, slot-within, place-of-slot, slot-of-place}
 use Rattle.rules.proofs.Placings.{placing-free, placing-move}
 use Rattle.rules.proofs.FreeSlots.{free-slot}
@@ -27,7 +27,7 @@ use Rattle.rules.proofs.Made.{made-append, made-kept}
 use Rattle.rules.proofs.Touched.{Touched, touched}
 use Rattle.rules.proofs.StoreKinds.{SlotWritten, put-written, clear-written, log-written}
 use Rattle.rules.proofs.Putting.{place-bucket}
-use Rattle.rules.proofs.BeginEnd.{growing-levels}
+use Rattle.rules.proofs.BeginEnd.{growing-interim}
 use Rattle.rules.proofs.GrowthSteps.{Settled, not-interim}
 use Rattle.rules.proofs.InterimBits.{bitsOf, hide-fewer, hide-less, beside-fewer}
 
@@ -82,25 +82,16 @@ module _ (t : Table) (good : GoodHeader (length t) (headerOf t)) (growing : Grow
   unfolding interimOf
   settled-apart x used settled range =
       let s = headerOf t .state in
-      let there : In (interimOf s) (levelsInUse s) = rw (growing-levels s growing) (there (there (here refl))) in
+      let there = interim-used s (growing-interim t growing) in
       let same = level-of-bucket (headerOf t .c) s (good .state) (used .level) (interimOf s) (x .bucket) (used .used) there (used .bucket) range in
       not-interim x settled (used .name ∙ ap (λ (l : Level). l .name) same)
 
   -- an interim item stands in the interim level's range
   item-range : (x : Slot) → InterimItem t x → InLevel (interimOf (headerOf t .state)) (x .bucket)
-  unfolding interimOf topOf bottomOf
   item-range x item =
-      let s = headerOf t .state in
       let used = item .item .used in
-      let named : used .level .name ≡ interim = sym (used .name) ∙ item .level in
-      go (used .level) (rw (growing-levels s growing) at (used .used)) named (used .bucket)
-    where
-      go : (l : Level) → In l (topOf (headerOf t .state) ∷ bottomOf (headerOf t .state) ∷ interimOf (headerOf t .state) ∷ []) → l .name ≡ interim → InLevel l (x .bucket) → InLevel (interimOf (headerOf t .state)) (x .bucket)
-      go l i e range =
-          ⊎-elim (λ (q : l ≡ topOf (headerOf t .state)). absurd (omega (arith, ap (λ (z : Level). z .name) q)))
-          (λ (j : In l (bottomOf (headerOf t .state) ∷ interimOf (headerOf t .state) ∷ [])).
-          ⊎-elim (λ (q : l ≡ bottomOf (headerOf t .state)). absurd (omega (arith, ap (λ (z : Level). z .name) q)))
-          (λ (k : In l (interimOf (headerOf t .state) ∷ [])). rw (List·Memᴰ·eq-of-singleton k) at range) (List·Memᴰ·cases-cons j)) (List·Memᴰ·cases-cons i)
+      let same = interim-named (headerOf t .state) (used .level) (used .used) (sym (used .name) ∙ item .level) in
+      rw (same .1) at (used .bucket)
 
   within : (x : Slot) → InUse (headerOf t .state) x → 9 + 13 * x .bucket + 13 ≤ length t
   within x used = slot-within (length t) (headerOf t) good x used .0

@@ -18,7 +18,6 @@ use Rattle.rules.specs.declared.Level.{Level}
 use Rattle.rules.specs.declared.Slot.{Slot}
 use Rattle.rules.proofs.Lists.{empty-none, none-empty, empty-some, head-none, select-in, in-select, flatMap-in, in-flatMap, Ascending, ascending-select, ascending-head}
 use Rattle.rules.proofs.Tests.{Tells}
-use Rattle.rules.proofs.Levels.{level-filled}
 use Rattle.rules.proofs.SlotsInUse.{Lower, levels-ascend, slot-of-level, slots-of-level, slots-of-levels-ascend}
 use Rattle.rules.proofs.Twins.{before-once}
 
@@ -35,7 +34,7 @@ module _ (s : State) where
   unfolding interimSlots
   slot-interim x u e =
       in-flatMap slotsOf (in-select (λ (l : Level). eqb (l .name) interim) (u .used) (eq-eqb _ _ (sym (u .name) ∙ e)))
-      (slots-of-level (u .level) x (level-filled s (u .level) (u .used)) (u .name) (u .bucket) (u .slot))
+      (slots-of-level (u .level) x (u .name) (u .bucket) (u .slot))
 
   interim-ascends : Ascending Before (interimSlots s)
   unfolding interimSlots

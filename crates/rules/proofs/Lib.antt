@@ -6,6 +6,7 @@ pub mod Alike
 pub mod Along
 pub mod Lowest
 pub mod Checked
+pub mod States
 pub mod Headers
 pub mod HeaderWords
 pub mod Tokens

@@ -2,9 +2,9 @@
 -- `Walks` says what stands at i.
 -- Assumes nothing.
 use Prim.Native.Nat.{ℕ, _+_}
-use mathlib.Core.Path.{_≡_, refl, ap, _∙_}
+use mathlib.Core.Path.{_≡_, refl, sym, ap, _∙_}
 use mathlib.Core.Bool.{Bool, true, false, cond, _&&_, _||_}
-use mathlib.Core.List.{List, [], _∷_, map, flatMap, foldl, foldl-append}
+use mathlib.Core.List.{List, [], _∷_, _++_, map, map-append, flatMap, foldl, foldl-append}
 use lib.ListN.{drop}
 use Rattle.rules.specs.Choice.{all, any, select}
 
@@ -66,3 +66,29 @@ module _ {A : Type 0} (p : A → Bool) (l : List A) (i : ℕ) {x : A} {b : Bool}
 
   pub all-next : testsFrom all p l i ≡ (b && testsFrom all p l (i + 1))
   all-next = tests-next all _&&_ (λ c cs. refl)
+
+-- the tests of what each element gives, for a loop in a loop
+tests-within : (join : List Bool → Bool) (put : Bool → Bool → Bool) → ((b : Bool) (bs : List Bool) → join (b ∷ bs) ≡ put b (join bs))
+    → ((bs cs : List Bool) → join (bs ++ cs) ≡ put (join bs) (join cs))
+    → {A B : Type 0} (p : B → Bool) (f : A → List B) (l : List A) → join (map p (flatMap f l)) ≡ join (map (λ (x : A). join (map p (f x))) l)
+unfolding flatMap
+tests-within join put law both p f [] = refl
+tests-within join put law both p f (x ∷ xs) =
+    rw (map-append p (f x) (flatMap f xs), both (map p (f x)) (map p (flatMap f xs)), tests-within join put law both p f xs)
+    (sym (law (join (map p (f x))) (map (λ y. join (map p (f y))) xs)))
+
+pub any-within : {A B : Type 0} (p : B → Bool) (f : A → List B) (l : List A) → any (map p (flatMap f l)) ≡ any (map (λ (x : A). any (map p (f x))) l)
+any-within = tests-within any _||_ (λ b bs. refl) both
+  where
+    both : (bs cs : List Bool) → any (bs ++ cs) ≡ (any bs || any cs)
+    both [] cs = refl
+    both (true ∷ bs) cs = refl
+    both (false ∷ bs) cs = both bs cs
+
+pub all-within : {A B : Type 0} (p : B → Bool) (f : A → List B) (l : List A) → all (map p (flatMap f l)) ≡ all (map (λ (x : A). all (map p (f x))) l)
+all-within = tests-within all _&&_ (λ b bs. refl) both
+  where
+    both : (bs cs : List Bool) → all (bs ++ cs) ≡ (all bs && all cs)
+    both [] cs = refl
+    both (true ∷ bs) cs = both bs cs
+    both (false ∷ bs) cs = refl

@@ -18,12 +18,12 @@ use Rattle.rules.specs.declared.Hashes.{Hashes}
 use Rattle.rules.specs.declared.Place.{Place}
 use Rattle.rules.specs.declared.Slot.{Slot}
 use Rattle.rules.proofs.Lists.{flatMap-in, Ascending, ascending-flatMap}
-use Rattle.rules.proofs.Headers.{sizes, bucket-fits}
+use Rattle.rules.proofs.Headers.{bucket-fits}
 use Rattle.rules.proofs.Tests.{Tells, tells-eq, tells-any}
 use Rattle.rules.proofs.FreeSlots.{slot-place}
-use Rattle.rules.proofs.PlacesWithin.{level-power, place-in-level}
+use Rattle.rules.proofs.PlacesWithin.{place-in-level}
 use Rattle.rules.proofs.SlotsInUse.{slot-number, slots-of-place}
-use Rattle.rules.proofs.Levels.{level-filled, Halved, levels-halve, level-of-bucket}
+use Rattle.rules.proofs.Levels.{exponent-fits, Differ, exponents-differ, ranges-apart, level-of-bucket}
 
 -- a bucket of a level in use
 pub record PlaceInUse (s : State) (p : Place) : Type 0 where
@@ -53,18 +53,18 @@ pub places-in-use : (h : Header) (key : ℕ) (p : Place) → In p (placesOf h ke
 unfolding placesOf probes
 places-in-use h key p i =
     let r = flatMap-in (placesIn (hashesOf h key)) (levelsInUse (h .state)) p i in
-    let q = place-in-level (hashesOf h key) (r .0) p (level-filled (h .state) (r .0) (r .1)) (r .2) in
+    let q = place-in-level (hashesOf h key) (r .0) p (r .2) in
     record { level = r .0; used = r .1; name = q .0; bucket = (q .1, omega arith) }
 
 pub places-apart : (c : ℕ) (h : Header) → GoodState c (h .state) → (key : ℕ) → Ascending Elsewhere (placesOf h key)
 unfolding placesOf probes
 places-apart c h good key =
     let x = hashesOf h key in
-    ascending-flatMap Halved Elsewhere (placesIn x) (levelsInUse (h .state)) (levels-halve c (h .state) good) (places-of-level x)
+    ascending-flatMap Differ Elsewhere (placesIn x) (levelsInUse (h .state)) (exponents-differ c (h .state) good) (places-of-level x)
     (λ l m z p q i j e.
-    let a = place-in-level x l p (omega arith) i in
-    let b = place-in-level x m q (z .0) j in
-    omega arith)
+    let a = place-in-level x l p i in
+    let b = place-in-level x m q j in
+    z (ranges-apart (l .exponent) (m .exponent) (p .bucket) (omega arith) (omega arith)))
 
 -- ---- a bucket tells its level
 
@@ -100,9 +100,8 @@ among-used h key x low among = slot-of-place (h .state) (placeOf x) x (places-in
 -- a slot in use lies in the table
 pub slot-within : (size : ℕ) (h : Header) → GoodHeader size h → (x : Slot) → InUse (h .state) x → (9 + 13 * x .bucket + 13 ≤ size) × (x .slot < 4)
 slot-within size h g x u =
-    let r = level-power (h .state) (u .level) (u .used) in
-    let range = rw (r .1) at (u .bucket) in
-    (bucket-fits size h g (r .0) (x .bucket) (omega (arith, r .2, sizes size h g .most)) (omega (arith, range, pow-pos (r .0))), u .slot)
+    let e = u .level .exponent in
+    (bucket-fits size h g e (x .bucket) (exponent-fits (h .c) (h .state) (g .state) (u .level) (u .used)) (omega (arith, u .bucket, pow-pos e)), u .slot)
 
 -- a slot in a bucket of a key's place stands in that place, level and all
 pub own-place : (c : ℕ) (h : Header) → GoodState c (h .state) → (key : ℕ) (x : Slot) → InUse (h .state) x → (p : Place) → In p (placesOf h key) → x .bucket ≡ p .bucket → In (placeOf x) (placesOf h key)

@@ -1,4 +1,4 @@
--- The state word alone is stored: begin and end. No item moves, but the levels have other names and sizes: what is in use under the new
+-- The state word alone is stored: begin and end. No item moves, but the levels have other names and exponents: what is in use under the new
 -- state, and what that leaves of a sound table. A level keeps its items where the new state has a level of the same size.
 -- Assumes nothing.
 use Prim.Native.Nat.{ℕ, _+_, _-_, _*_, _/_, _%_, _^_, _≤_, _<_}
@@ -9,7 +9,7 @@ use mathlib.Core.Logic.{_⊎_, inl, inr, ⊎-elim}
 use native.Mathlib.Omega.{arith}
 use native.Mathlib.Decide.{decLe}
 use lib.ListN.{length}
-use Rattle.rules.specs.Words.{Table, word, GoodState, stateOf, stateWord, headerOf, flagOf, levelsInUse, InLevel, InUse, placeAt, tokenWord, keyWord, functionWord, placeWord, keyIn, recordIn, tokenOf, tidy, tidyOf, isTaken, taken}
+use Rattle.rules.specs.Words.{Table, word, GoodState, stateOf, stateWord, headerOf, flagOf, sizeOf, levelsInUse, InLevel, InUse, placeAt, tokenWord, keyWord, functionWord, placeWord, keyIn, recordIn, tokenOf, tidy, tidyOf, isTaken, taken}
 use Rattle.rules.specs.Places.{hashesOf, firstPlace, secondPlace, placesIn, probes, placesOf}
 use Rattle.rules.specs.Stores.{made}
 use Rattle.rules.specs.Soundness.{TakenSlot, OrderlyTable}
@@ -24,7 +24,6 @@ use Rattle.rules.proofs.Lists.{never, flatMap-in, in-flatMap}
 use Rattle.rules.proofs.Tokens.{zero-free, zero-of-free}
 use Rattle.rules.proofs.Made.{made-long, made-kept, made-left}
 use Rattle.rules.proofs.PlacesWithin.{place-in-level}
-use Rattle.rules.proofs.Levels.{level-filled}
 use Rattle.rules.proofs.Candidates.{place-among}
 use Rattle.rules.proofs.Carried.{Carry, Carried, PlacedAt, Placed}
 use Rattle.rules.proofs.Moving.{Nothing}
@@ -67,9 +66,9 @@ state-stored t s long low = record {
 
 -- a bucket lies in a level, or not; in a level of a list, or in none
 within? : (l : Level) (j : ℕ) → Dec (InLevel l j)
-within? l j = go (decLe (l .size - 1) j) (decLe j (2 * l .size - 2))
+within? l j = go (decLe (sizeOf l - 1) j) (decLe j (2 * sizeOf l - 2))
   where
-    go : Dec (l .size - 1 ≤ j) → Dec (j ≤ 2 * l .size - 2) → Dec (InLevel l j)
+    go : Dec (sizeOf l - 1 ≤ j) → Dec (j ≤ 2 * sizeOf l - 2) → Dec (InLevel l j)
     go (yes a) (yes b) = yes (a, b)
     go (yes a) (no b) = no (λ r. b (r .1))
     go (no a) d = no (λ r. a (r .0))
@@ -84,8 +83,8 @@ in-level? j (m ∷ ls) = go (within? m j) (in-level? j ls)
     go (no a) (inl (l, i, r)) = inl (l, there i, r)
     go (no a) (inr f) = inr (λ l i r. ⊎-elim (λ (e : l ≡ m). a (rw e at r)) (λ (k : In l ls). f l k r) (List·Memᴰ·cases-cons i))
 
--- a level of the same size has places in the same buckets
-place-again : (x : Hashes) (l m : Level) → m .size ≡ l .size → (p : Place) → In p (placesIn x l) → (q : Place) × In q (placesIn x m) × (q .bucket ≡ p .bucket)
+-- a level of the same exponent has places in the same buckets
+place-again : (x : Hashes) (l m : Level) → m .exponent ≡ l .exponent → (p : Place) → In p (placesIn x l) → (q : Place) × In q (placesIn x m) × (q .bucket ≡ p .bucket)
 unfolding firstPlace secondPlace placeAt
 place-again x l m e p i = go (place-among x l p .0 i)
   where
@@ -93,13 +92,13 @@ place-again x l m e p i = go (place-among x l p .0 i)
     go (inl f) = (firstPlace x m, place-among x m (firstPlace x m) .1 (inl refl), rw e (sym (ap (λ (z : Place). z .bucket) f)))
     go (inr f) = (secondPlace x m, place-among x m (secondPlace x m) .1 (inr refl), rw e (sym (ap (λ (z : Place). z .bucket) f)))
 
--- a level before: one of its size is in use after, or it has no item
+-- a level before: one of its exponent is in use after, or it has no item
 abbrev pub Lasts : Table → State → Level → Type 0
-Lasts t s l = ((m : Level) × In m (levelsInUse s) × (m .size ≡ l .size)) ⊎ ((y : Slot) → TakenSlot t y → InLevel l (y .bucket) → ⊥)
+Lasts t s l = ((m : Level) × In m (levelsInUse s) × (m .exponent ≡ l .exponent)) ⊎ ((y : Slot) → TakenSlot t y → InLevel l (y .bucket) → ⊥)
 
--- a level after: one of its size was in use before, or it has no token
+-- a level after: one of its exponent was in use before, or it has no token
 abbrev pub Lasted : Table → Level → Type 0
-Lasted t m = ((l : Level) × In l (levelsInUse (headerOf t .state)) × (l .size ≡ m .size)) ⊎ ((j : ℕ) → InLevel m j → tokenOf t j ≡ 0)
+Lasted t m = ((l : Level) × In l (levelsInUse (headerOf t .state)) × (l .exponent ≡ m .exponent)) ⊎ ((j : ℕ) → InLevel m j → tokenOf t j ≡ 0)
 
 module _ (f : ℕ) (t u : Table) (s : State) (o : OrderlyTable f t) (re : Restated t u s) where
   after : headerOf u .state ≡ s
@@ -120,11 +119,11 @@ module _ (f : ℕ) (t u : Table) (s : State) (o : OrderlyTable f t) (re : Restat
     value = re .records y z b n;
   }
 
-  -- slot y under the name of another level of its size
+  -- slot y under the name of another level of its exponent
   renamed : Level → Slot → Slot
   renamed m y = record { level = m .name; bucket = y .bucket; slot = y .slot }
 
-  renamed-used : (r : State) (l m : Level) (y : Slot) → In m (levelsInUse r) → m .size ≡ l .size → InLevel l (y .bucket) → y .slot < 4 → InUse r (renamed m y)
+  renamed-used : (r : State) (l m : Level) (y : Slot) → In m (levelsInUse r) → m .exponent ≡ l .exponent → InLevel l (y .bucket) → y .slot < 4 → InUse r (renamed m y)
   unfolding renamed
   renamed-used r l m y i e range low = record { level = m; used = i; name = refl; bucket = rw e range; slot = low }
 
@@ -157,7 +156,7 @@ module _ (f : ℕ) (t u : Table) (s : State) (o : OrderlyTable f t) (re : Restat
             let q = place-again (hashesOf (headerOf t) (keyIn t y)) l m e p j in
             (q .0, rw (re .header, k .key) (in-flatMap (placesIn (hashesOf (headerOf t) (keyIn t y))) n (q .1)), q .2 ∙ b ∙ sym (k .bucket))
         again y k p b l i j (inr none) =
-            let r = place-in-level (hashesOf (headerOf t) (keyIn t y)) l p (level-filled (headerOf t .state) l i) j in
+            let r = place-in-level (hashesOf (headerOf t) (keyIn t y)) l p j in
             absurd (none y (k .before) (rw b at (r .1), omega (arith, r .2, b)))
 
         go : Nothing z ⊎ ((y : Slot) × (Nothing y → ⊥) × Carry t u y z) → PlacedAt u z

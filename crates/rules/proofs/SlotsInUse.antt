@@ -7,7 +7,8 @@ use mathlib.Core.Bool.{Bool, true, false, cond}
 use mathlib.Core.List.{List, [], _∷_, map, flatMap, List·Memᴰ as In}
 use mathlib.Core.Logic.{inl, inr}
 use native.Mathlib.Omega.{arith}
-use Rattle.rules.specs.Words.{atRest, topOf, bottomOf, interimOf, levelsInUse, bucketsOf, slotAt, slotsIn, placeOf, placeAt, slotsOf, slotsInUse, InLevel, InUse}
+use lib.Pow.{pow-pos}
+use Rattle.rules.specs.Words.{atRest, sizeOf, topOf, bottomOf, interimOf, levelsInUse, bucketsOf, slotAt, slotsIn, placeOf, placeAt, slotsOf, slotsInUse, InLevel, InUse}
 use Rattle.rules.specs.Soundness.{Before}
 use Rattle.rules.specs.declared.State.{State}
 use Rattle.rules.specs.declared.Level.{Level}
@@ -15,7 +16,6 @@ use Rattle.rules.specs.declared.Place.{Place}
 use Rattle.rules.specs.declared.Slot.{Slot}
 use Rattle.rules.proofs.Lists.{map-in, in-map, flatMap-in, in-flatMap, from-in, in-from, Ascending, ascending-flatMap, ascending-map, ascending-of-map, ascending-from}
 use Rattle.rules.proofs.FreeSlots.{slot-place}
-use Rattle.rules.proofs.Levels.{level-filled}
 
 -- an earlier level
 abbrev pub Lower : Level → Level → Type 0
@@ -31,8 +31,8 @@ place-ascends p = ascending-map _<_ Before (slotAt p) (0 ∷ 1 ∷ 2 ∷ 3 ∷ [
 level-ascends : (l : Level) → Ascending Before (slotsOf l)
 unfolding slotsOf bucketsOf placeAt Under placeOf
 level-ascends l =
-    ascending-flatMap Under Before slotsIn (map (placeAt l) (bucketsOf (l .size)))
-    (ascending-map _<_ Under (placeAt l) (bucketsOf (l .size)) (ascending-from (l .size - 1) (l .size)) (λ x y e. (refl, e))) place-ascends
+    ascending-flatMap Under Before slotsIn (map (placeAt l) (bucketsOf (sizeOf l)))
+    (ascending-map _<_ Under (placeAt l) (bucketsOf (sizeOf l)) (ascending-from (sizeOf l - 1) (sizeOf l)) (λ x y e. (refl, e))) place-ascends
     (λ p q u x y i j.
     let a = slot-place p x i in
     let b = slot-place q y j in
@@ -48,11 +48,11 @@ slot-number p x i =
 pub slot-of-level : (l : Level) (x : Slot) → In x (slotsOf l) → (x .level ≡ l .name) × InLevel l (x .bucket) × (x .slot < 4)
 unfolding slotsOf bucketsOf placeAt placeOf
 slot-of-level l x i =
-    let r = flatMap-in slotsIn (map (placeAt l) (bucketsOf (l .size))) x i in
-    let q = map-in (placeAt l) (bucketsOf (l .size)) (r .0) (r .1) in
+    let r = flatMap-in slotsIn (map (placeAt l) (bucketsOf (sizeOf l))) x i in
+    let q = map-in (placeAt l) (bucketsOf (sizeOf l)) (r .0) (r .1) in
     let place : placeOf x ≡ placeAt l (q .0) = slot-place (r .0) x (r .2) ∙ q .2 in (
       ap (λ (z : Place). z .level) place,
-      rw (ap (λ (z : Place). z .bucket) place) (omega (arith, from-in (l .size - 1) (l .size) (q .0) (q .1))),
+      rw (ap (λ (z : Place). z .bucket) place) (omega (arith, from-in (sizeOf l - 1) (sizeOf l) (q .0) (q .1), pow-pos (l .exponent))),
       slot-number (r .0) x (r .2),
     )
 
@@ -72,15 +72,15 @@ place-of-level : (l : Level) (x : Slot) → x .level ≡ l .name → placeOf x �
 unfolding placeAt placeOf
 place-of-level l x e = λ i. record { level = e i; bucket = x .bucket }
 
-pub slots-of-level : (l : Level) (x : Slot) → 0 < l .size → x .level ≡ l .name → InLevel l (x .bucket) → x .slot < 4 → In x (slotsOf l)
+pub slots-of-level : (l : Level) (x : Slot) → x .level ≡ l .name → InLevel l (x .bucket) → x .slot < 4 → In x (slotsOf l)
 unfolding slotsOf bucketsOf
-slots-of-level l x filled name range less =
-    in-flatMap slotsIn (in-map (placeAt l) (in-from (l .size - 1) (l .size) (x .bucket) (range .0) (omega arith)))
+slots-of-level l x name range less =
+    in-flatMap slotsIn (in-map (placeAt l) (in-from (sizeOf l - 1) (sizeOf l) (x .bucket) (range .0) (omega (arith, range .1, pow-pos (l .exponent)))))
     (rw (place-of-level l x name) at (slots-of-place x less))
 
 pub slots-in-use : (s : State) (x : Slot) → InUse s x → In x (slotsInUse s)
 unfolding slotsInUse
-slots-in-use s x u = in-flatMap slotsOf (u .used) (slots-of-level (u .level) x (level-filled s (u .level) (u .used)) (u .name) (u .bucket) (u .slot))
+slots-in-use s x u = in-flatMap slotsOf (u .used) (slots-of-level (u .level) x (u .name) (u .bucket) (u .slot))
 
 pub levels-ascend : (s : State) → Ascending Lower (levelsInUse s)
 unfolding levelsInUse topOf bottomOf interimOf

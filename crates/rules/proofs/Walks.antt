@@ -38,10 +38,21 @@ module _ {A : Type 0} (d : A) (n : ℕ) (xs : List A) (l : n ≤ length xs) (i :
   pub first-end : n ≤ i → drop i (take n xs) ≡ []
   first-end h = let k : length (take n xs) ≤ i = rw length-take-le h in drop-of-length-le (take n xs) k
 
-getD-in : {A : Type 0} (d : A) (xs : List A) (i : ℕ) → i < length xs → In (getD xs i d) xs
+pub getD-in : {A : Type 0} (d : A) (xs : List A) (i : ℕ) → i < length xs → In (getD xs i d) xs
 getD-in d [] i h = absurd (not-suc-le-zero h)
 getD-in d (x ∷ xs) zero h = here refl
 getD-in d (x ∷ xs) (suc i) h = there (getD-in d xs i (le-of-suc-le-suc h))
+
+-- an element that stands at i
+pub stands-in : {A : Type 0} (xs : List A) (i : ℕ) {x : A} {rest : List A} → drop i xs ≡ x ∷ rest → In x xs
+stands-in xs zero e = rw e (here refl)
+stands-in [] (suc i) e = absurd (let z : _≡_ {A = ℕ} 0 1 = cc in omega arith)
+stands-in (y ∷ xs) (suc i) e = there (stands-in xs i e)
+
+pub stands-at : {A : Type 0} (d : A) (xs : List A) (i : ℕ) {x : A} {rest : List A} → drop i xs ≡ x ∷ rest → getD xs i d ≡ x
+stands-at d xs zero e = rw e refl
+stands-at d [] (suc i) e = absurd (let z : _≡_ {A = ℕ} 0 1 = cc in omega arith)
+stands-at d (y ∷ xs) (suc i) e = stands-at d xs i e
 
 -- element i is among the first n
 pub among-first : {A : Type 0} (d : A) (n : ℕ) (xs : List A) → n ≤ length xs → (i : ℕ) → i < n → In (getD xs i d) (take n xs)

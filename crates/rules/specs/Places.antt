@@ -7,7 +7,7 @@ use mathlib.Core.Option.{Option, none, some}
 use lib.Dec.{eqb}
 use Rattle.words.specs.Product.{hashOf}
 use Rattle.rules.specs.Choice.{given, firstOf}
-use Rattle.rules.specs.Words.{Table, levelsInUse, slotsIn, placeAt, keyIn, taken}
+use Rattle.rules.specs.Words.{Table, sizeOf, levelsInUse, slotsIn, placeAt, keyIn, taken}
 use Rattle.rules.specs.declared.State.{State}
 use Rattle.rules.specs.declared.Header.{Header}
 use Rattle.rules.specs.declared.Level.{Level}
@@ -23,10 +23,10 @@ hashesOf h key = record { first = hashOf key (h .mul1); second = hashOf key (h .
 
 -- "In a level of M buckets the first and second places are hash 1 modulo M and hash 2 modulo M"
 unfoldable pub firstPlace : Hashes → Level → Place
-firstPlace x l = placeAt l (l .size - 1 + x .first % l .size)
+firstPlace x l = placeAt l (sizeOf l - 1 + x .first % sizeOf l)
 
 unfoldable pub secondPlace : Hashes → Level → Place
-secondPlace x l = placeAt l (l .size - 1 + x .second % l .size)
+secondPlace x l = placeAt l (sizeOf l - 1 + x .second % sizeOf l)
 
 -- "They may coincide; then they are one bucket." "first place, then second if different"
 unfoldable pub samePlace : Place → Place → Bool

@@ -56,11 +56,17 @@ unfoldable pub updateStores : Table → Header → Slot → ℕ → Record → L
 updateStores t h x key r = updateWith t h x (freeSlot t h (placeOf x)) key r
 
 -- "begin growth | state: k + 1, phase 1", "end growth | state: phase 0"
+abbrev pub begunOf : State → State
+begunOf s = record { k = s .k + 1; phase = 1 }
+
+abbrev pub endedOf : State → State
+endedOf s = record { k = s .k; phase = 0 }
+
 unfoldable pub beginStores : State → List Store
-beginStores s = (4, stateWord (record { k = s .k + 1; phase = 1 })) ∷ []
+beginStores s = (4, stateWord (begunOf s)) ∷ []
 
 unfoldable pub endStores : State → List Store
-endStores s = (4, stateWord (record { k = s .k; phase = 0 })) ∷ []
+endStores s = (4, stateWord (endedOf s)) ∷ []
 
 -- "growth step | placing of the first taken interim slot .., then its interim token cleared"
 unfoldable pub stepStores : Table → Header → Slot → Placing → List Store

@@ -97,15 +97,19 @@ bottom = 1
 abbrev pub interim : ℕ
 interim = 2
 
+-- "A level of M buckets (M a power of two)": a level is its name and the exponent of M
+abbrev pub sizeOf : Level → ℕ
+sizeOf l = 2 ^ l .exponent
+
 -- "The top has 2^k buckets, the bottom half that; while growing, an interim level has a quarter."
 unfoldable pub topOf : State → Level
-topOf s = record { name = top; size = 2 ^ s .k }
+topOf s = record { name = top; exponent = s .k }
 
 unfoldable pub bottomOf : State → Level
-bottomOf s = record { name = bottom; size = 2 ^ (s .k - 1) }
+bottomOf s = record { name = bottom; exponent = s .k - 1 }
 
 unfoldable pub interimOf : State → Level
-interimOf s = record { name = interim; size = 2 ^ (s .k - 2) }
+interimOf s = record { name = interim; exponent = s .k - 2 }
 
 -- the levels in use, in the order "top, bottom, interim"
 unfoldable pub levelsInUse : State → List Level
@@ -117,18 +121,18 @@ bucketsOf m = from (m - 1) m
 
 -- the same as a fact
 abbrev pub InLevel : Level → ℕ → Type 0
-InLevel l j = (l .size - 1 ≤ j) × (j ≤ 2 * l .size - 2)
+InLevel l j = (sizeOf l - 1 ≤ j) × (j ≤ 2 * sizeOf l - 2)
 
 -- all the table's buckets
 unfoldable pub allBuckets : Header → List ℕ
 allBuckets h = from 0 (2 ^ (h .c + 1) - 1)
 
--- the sizes of the table's levels, 1 to 2^c, that no level in use has; and their buckets
-unfoldable pub sizeInUse : State → ℕ → Bool
-sizeInUse s m = any (map (λ (l : Level). eqb (l .size) m) (levelsInUse s))
+-- the exponents of the table's levels, 0 to c, that no level in use has; and the buckets of these levels
+unfoldable pub exponentInUse : State → ℕ → Bool
+exponentInUse s e = any (map (λ (l : Level). eqb (l .exponent) e) (levelsInUse s))
 
 unfoldable pub unusedBuckets : Header → List ℕ
-unusedBuckets h = flatMap bucketsOf (select (λ (m : ℕ). not (sizeInUse (h .state) m)) (map (λ (e : ℕ). 2 ^ e) (from 0 (h .c + 1))))
+unusedBuckets h = flatMap (λ (e : ℕ). bucketsOf (2 ^ e)) (select (λ (e : ℕ). not (exponentInUse (h .state) e)) (from 0 (h .c + 1)))
 
 -- "a bucket as four such records": the slots of a bucket, 0 to 3
 unfoldable pub slotAt : Place → ℕ → Slot
@@ -145,7 +149,7 @@ unfoldable pub placeAt : Level → ℕ → Place
 placeAt l j = record { level = l .name; bucket = j }
 
 unfoldable pub slotsOf : Level → List Slot
-slotsOf l = flatMap slotsIn (map (placeAt l) (bucketsOf (l .size)))
+slotsOf l = flatMap slotsIn (map (placeAt l) (bucketsOf (sizeOf l)))
 
 -- the slots of the levels in use, "by top, bottom, interim, then bucket and slot ascending"
 unfoldable pub slotsInUse : State → List Slot

@@ -1,10 +1,69 @@
 // The types that the rules of document 01 and the code share: what the header says, where an item stands,
-// and what each call answers. There is no code here; specs/ has the rules, and proofs/ the laws about them.
+// and what each call answers. The only code is that of a state, which is handed on by value; specs/ has the rules, and proofs/ the
+// laws about them.
+ghost use mathlib.Core.Path.{_≡_};
+ghost use Prim.Native.Nat.{_≤_};
+ghost use Rattle.rules.specs.Words.{atRest, stateGood, stateWord};
+ghost use Rattle.rules.specs.Stores.{begunOf, endedOf};
 
 // Word 4, decoded: "k + 256·phase; phase 0 at rest, 1 growing".
 pub struct State {
     pub k: u64,
     pub phase: u64,
+}
+
+impl State {
+    // "phase 0 at rest"
+    pub fn at_rest(self) -> bool
+        ensures { λ r. ⌜ r ≡ atRest self ⌝ }
+    {
+        self.phase == 0
+    }
+
+    // "At rest 1 ≤ k ≤ c, while growing 2 ≤ k ≤ c. Other states are bad."
+    pub fn good(self, c: u64) -> bool
+        ensures { λ r. ⌜ r ≡ stateGood c self ⌝ }
+    {
+        if c < self.k {
+            return false;
+        }
+        if self.phase == 0 {
+            return 1 <= self.k;
+        }
+        if self.phase == 1 {
+            return 2 <= self.k;
+        }
+        false
+    }
+
+    // "state: k + 1, phase 1"
+    pub fn begun(self) -> State
+        requires { ⌜ self .k ≤ 20 ⌝ }
+        ensures { λ r. ⌜ r ≡ begunOf self ⌝ }
+    {
+        State {
+            k: self.k + 1,
+            phase: 1,
+        }
+    }
+
+    // "state: phase 0"
+    pub fn ended(self) -> State
+        ensures { λ r. ⌜ r ≡ endedOf self ⌝ }
+    {
+        State {
+            k: self.k,
+            phase: 0,
+        }
+    }
+
+    // "k + 256·phase"
+    pub fn word(self) -> u64
+        requires { ⌜ (self .k ≤ 21) × (self .phase ≤ 1) ⌝ }
+        ensures { λ r. ⌜ r ≡ stateWord self ⌝ }
+    {
+        self.k + 256 * self.phase
+    }
 }
 
 // Words 0 to 4, decoded.
@@ -16,10 +75,10 @@ pub struct Header {
     pub state: State,
 }
 
-// A level in use: which one it is (0 the top, 1 the bottom, 2 the interim level) and how many buckets it has.
+// A level: which one it is (0 the top, 1 the bottom, 2 the interim level), and e where it has 2^e buckets.
 pub struct Level {
     pub name: u64,
-    pub size: usize,
+    pub exponent: u64,
 }
 
 // Hash 1 and hash 2 of a key.

@@ -1,27 +1,27 @@
 -- The tests of the scan, as the code makes them one after the other.
 -- Assumes nothing.
-use Prim.Native.Nat.{ℕ, _+_, _-_, _^_, _≤_, _<_}
-use mathlib.Core.Path.{_≡_, _∙_}
-use mathlib.Core.Bool.{true, false, cond, or-false}
+use Prim.Native.Nat.{ℕ, _-_}
+use mathlib.Core.Path.{_≡_, refl, sym, ap, _∙_}
+use mathlib.Core.Bool.{Bool, true, false, cond, _||_, or-false}
 use mathlib.Core.List.{List, [], _∷_, map, foldl, foldl-map}
-use lib.ListN.{length, getD, take, drop}
 use lib.Dec.{ltb, eqb}
-use borrow.Author.Tests.{le-ltb, eq-eqb, ne-eqb}
+use borrow.Author.Tests.{eqb-true, le-ltb, eq-eqb, ne-eqb}
 use native.Mathlib.Omega.{arith}
 use Rattle.rules.specs.Choice.{any, from}
-use Rattle.rules.specs.Words.{Table, atRest, topOf, bottomOf, interimOf, levelsInUse, bucketsOf, slotAt, slotsIn, placeOf, placeAt, slotsOf, slotsInUse, isTaken, tokenOf, taken, keyIn}
-use Rattle.rules.specs.Places.{hashesOf, samePlace, probes, placesOf, lookup}
+use Rattle.rules.specs.Words.{Table, sizeOf, levelsInUse, bucketsOf, slotAt, slotsIn, placeOf, placeAt, slotsOf, slotsInUse, isTaken, tokenOf, taken, keyIn}
+use Rattle.rules.specs.Places.{hashesOf, firstPlace, secondPlace, samePlace, placesIn, probes, placesOf, lookup}
 use Rattle.rules.specs.Answers.{LookupTells}
 use Rattle.rules.proofs.Meanings.{lookup-told-by}
+use Rattle.rules.specs.declared.State.{State}
 use Rattle.rules.specs.declared.Header.{Header}
+use Rattle.rules.specs.declared.Level.{Level}
 use Rattle.rules.specs.declared.Hashes.{Hashes}
 use Rattle.rules.specs.declared.Place.{Place}
 use Rattle.rules.specs.declared.Slot.{Slot}
 use Rattle.rules.specs.declared.Lookup.{Lookup}
 use Rattle.rules.specs.declared.Lookup.the-variants.{Stands, Absent}
-use Rattle.reading.specs.Levels.{levelOf}
-use Rattle.rules.proofs.Loops.{foldFrom, fold-whole, within, fold-within}
-use Rattle.rules.proofs.Walks.{first-next, first-end}
+use Rattle.reading.specs.Levels.{placeIn}
+use Rattle.rules.proofs.Loops.{foldFrom, fold-whole, within, fold-within, testsFrom, tests-whole, any-within}
 use Rattle.rules.specs.Copies.{isBefore, inOrder, sameSlot}
 use Rattle.scanning.specs.declared.copies.Scan.{Scan}
 use Rattle.scanning.specs.declared.copies.Scan.the-variants.{Clear, Pair, Spoilt}
@@ -61,17 +61,40 @@ module _ (x y : Slot) where
   unfolding inOrder
   pair-last e = rw e
 
--- ---- the places of a key, an array of six of which the first n count
+-- ---- the places of a key, level by level
 
-abbrev pub nowhere : Place
-nowhere = record { level = 0; bucket = 0 }
+module _ (x : Slot) (y : Hashes) where
+  -- in one of its two places in a level
+  unfoldable pub atPlace : Level → Bool
+  atPlace l = any (map (samePlace (placeOf x)) (placesIn y l))
 
-module _ (n : ℕ) (ps : List Place) (most : n ≤ 6) (six : length ps ≡ 6) (i : ℕ) where
-  pub place-next : i < n → drop i (take n ps) ≡ getD ps i nowhere ∷ drop (i + 1) (take n ps)
-  place-next l = first-next nowhere n ps (omega arith) i l
+  module _ (l : Level) where
+    or-self : (b : Bool) → (b || b) ≡ b
+    or-self true = refl
+    or-self false = refl
 
-  pub place-end : n ≤ i → drop i (take n ps) ≡ []
-  place-end l = first-end nowhere n ps (omega arith) i l
+    at-either : atPlace l ≡ (samePlace (placeOf x) (firstPlace y l) || samePlace (placeOf x) (secondPlace y l))
+    unfolding atPlace placesIn samePlace placeOf
+    at-either = go (samePlace (firstPlace y l) (secondPlace y l)) refl
+      where
+        go : (b : Bool) → eqb (firstPlace y l .bucket) (secondPlace y l .bucket) ≡ b
+            → any (map (samePlace (placeOf x)) (firstPlace y l ∷ cond b [] (secondPlace y l ∷ []))) ≡ (samePlace (placeOf x) (firstPlace y l) || samePlace (placeOf x) (secondPlace y l))
+        go true e = rw (eqb-true (firstPlace y l .bucket) (secondPlace y l .bucket) e) (or-false (eqb (x .bucket) (secondPlace y l .bucket)) ∙ sym (or-self (eqb (x .bucket) (secondPlace y l .bucket))))
+        go false e = ap (λ (b : Bool). samePlace (placeOf x) (firstPlace y l) || b) (or-false (samePlace (placeOf x) (secondPlace y l)))
+
+    module _ {f : Place} (p : f ≡ placeIn l (y .first)) where
+      pub at-first : x .bucket ≡ f .bucket → true ≡ atPlace l
+      unfolding samePlace placeOf firstPlace
+      at-first e = rw (at-either, ← p, eq-eqb _ _ e)
+
+      pub at-second : (x .bucket ≡ f .bucket → ⊥) → {s : Place} → s ≡ placeIn l (y .second) → eqb (x .bucket) (s .bucket) ≡ atPlace l
+      unfolding samePlace placeOf firstPlace secondPlace
+      at-second n q = rw (at-either, ← p, ← q, ne-eqb _ _ n)
+
+  -- along the levels in use
+  pub at-any : (s : State) → any (map (samePlace (placeOf x)) (probes s y)) ≡ testsFrom any atPlace (levelsInUse s) 0
+  unfolding probes atPlace
+  at-any s = any-within (samePlace (placeOf x)) (placesIn y) (levelsInUse s) ∙ tests-whole any atPlace (levelsInUse s)
 
 -- ---- a taken slot
 
@@ -103,33 +126,24 @@ module _ (t : Table) (h : Header) (p : Place) (s : ℕ) (found : Scan) {word : �
 -- ---- the buckets of a level
 
 -- slot by slot, bucket by bucket
-pub levelMet : Table → Header → ℕ → ℕ → Scan → ℕ → Scan
-levelMet t h name e found j = foldl (slotMet t h) found (slotsIn (placeAt (levelOf name e) j))
+pub levelMet : Table → Header → Level → Scan → ℕ → Scan
+levelMet t h l found j = foldl (slotMet t h) found (slotsIn (placeAt l j))
 
-module _ (t : Table) (h : Header) (name e : ℕ) (found : Scan) {size : ℕ} (power : size ≡ 2 ^ e) where
-  pub level-whole : foldl (slotMet t h) found (slotsOf (levelOf name e)) ≡ foldFrom (levelMet t h name e) found (from (size - 1) size) 0
+module _ (t : Table) (h : Header) (l : Level) (found : Scan) {size : ℕ} (power : size ≡ sizeOf l) where
+  pub level-whole : foldl (slotMet t h) found (slotsOf l) ≡ foldFrom (levelMet t h l) found (from (size - 1) size) 0
   unfolding levelMet slotsOf bucketsOf
   level-whole =
       rw power
-      (fold-within (slotMet t h) slotsIn found (map (placeAt (levelOf name e)) (from (2 ^ e - 1) (2 ^ e)))
-      ∙ foldl-map (placeAt (levelOf name e)) (within (slotMet t h) slotsIn) (from (2 ^ e - 1) (2 ^ e)) found
-      ∙ fold-whole (levelMet t h name e) found (from (2 ^ e - 1) (2 ^ e)))
+      (fold-within (slotMet t h) slotsIn found (map (placeAt l) (from (sizeOf l - 1) (sizeOf l)))
+      ∙ foldl-map (placeAt l) (within (slotMet t h) slotsIn) (from (sizeOf l - 1) (sizeOf l)) found
+      ∙ fold-whole (levelMet t h l) found (from (sizeOf l - 1) (sizeOf l)))
 
-pub bucket-met : (t : Table) (h : Header) (name e : ℕ) (found : Scan) (p : Place) → p .level ≡ name → foldl (slotMet t h) found (slotsIn p) ≡ levelMet t h name e found (p .bucket)
+pub bucket-met : (t : Table) (h : Header) (l : Level) (found : Scan) (p : Place) → p .level ≡ l .name → foldl (slotMet t h) found (slotsIn p) ≡ levelMet t h l found (p .bucket)
 unfolding levelMet placeAt
-bucket-met t h name e found p q = rw (← q)
+bucket-met t h l found p q = rw (← q)
 
--- ---- the levels in use
+-- ---- the levels in use, one after the other
 
-module _ (t : Table) (h : Header) {a b : Scan} (e : a ≡ foldl (slotMet t h) Clear (slotsOf (levelOf 0 (h .state .k)))) (f : b ≡ foldl (slotMet t h) a (slotsOf (levelOf 1 (h .state .k - 1)))) where
-  levels : scanOf t h ≡ foldl (within (slotMet t h) slotsOf) Clear (levelsInUse (h .state))
-  unfolding scanOf slotsInUse
-  levels = fold-within (slotMet t h) slotsOf Clear (levelsInUse (h .state))
-
-  pub scan-resting : h .state .phase ≡ 0 → b ≡ scanOf t h
-  unfolding levelsInUse topOf bottomOf atRest
-  scan-resting q = rw (levels, eq-eqb _ _ q, ← e, ← f)
-
-  pub scan-growing : {d : Scan} → (h .state .phase ≡ 0 → ⊥) → d ≡ foldl (slotMet t h) b (slotsOf (levelOf 2 (h .state .k - 2))) → d ≡ scanOf t h
-  unfolding levelsInUse topOf bottomOf interimOf atRest
-  scan-growing n g = rw (levels, ne-eqb _ _ n, ← e, ← f, ← g)
+pub levels-whole : (t : Table) (h : Header) → scanOf t h ≡ foldFrom (within (slotMet t h) slotsOf) Clear (levelsInUse (h .state)) 0
+unfolding scanOf slotsInUse
+levels-whole t h = fold-within (slotMet t h) slotsOf Clear (levelsInUse (h .state)) ∙ fold-whole (within (slotMet t h) slotsOf) Clear (levelsInUse (h .state))

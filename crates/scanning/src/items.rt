@@ -5,13 +5,16 @@ use super::copies::Scan;
 use super::copies::is_same;
 use super::copies::met;
 use querying::lookup::lookup_by;
+use reading::levels::level_count;
+use reading::levels::nth_level;
 use reading::places::hashes;
-use reading::places::probed;
+use reading::places::place;
 use reading::slots::key_at;
 use reading::slots::token;
 use reading::tokens::is_taken;
 use rules::Hashes;
 use rules::Header;
+use rules::Level;
 use rules::Lookup;
 use rules::Place;
 use rules::Slot;
@@ -20,25 +23,37 @@ use words::power;
 ghost use mathlib.Core.Path.{_≡_};
 ghost use mathlib.Core.Bool.{cond};
 ghost use mathlib.Core.List.{map, foldl};
-ghost use Prim.Native.Nat.{_+_, _≤_};
-ghost use lib.ListN.{length, take};
+ghost use Prim.Native.Nat.{_≤_};
+ghost use lib.ListN.{length};
 ghost use Rattle.rules.specs.Choice.{any};
-ghost use Rattle.rules.specs.Words.{GoodHeader, placeOf, slotsIn, slotsOf};
-ghost use Rattle.rules.specs.Places.{samePlace, probes};
+ghost use Rattle.rules.specs.Words.{GoodState, GoodHeader, placeOf, slotsIn, slotsOf};
+ghost use Rattle.rules.specs.Places.{samePlace, placesIn, probes};
 ghost use Rattle.rules.specs.Copies.{inOrder};
-ghost use Rattle.reading.specs.Levels.{levelOf};
 ghost use Rattle.reading.specs.Within.{BucketWithin, SlotWithin};
 ghost use Rattle.scanning.specs.declared.copies.Scan.the-variants.{Spoilt};
 ghost use Rattle.scanning.specs.Scans.{metOf, itemMet, slotMet, scanOf};
 
-// "each taken slot in a place of its key"
-fn stands(x: Slot, places: [Place; 6], n: usize) -> bool
-    requires { ⌜ n ≤ 6 ⌝ }
-    ensures { λ r. ⌜ r ≡ any (map (samePlace (placeOf x)) (take n places)) ⌝ }
+// Whether a slot is in one of a key's two places in a level.
+fn stands_in(x: Slot, hash: Hashes, l: Level) -> bool
+    requires { ⌜ l .exponent ≤ 20 ⌝ }
+    ensures { λ r. ⌜ r ≡ any (map (samePlace (placeOf x)) (placesIn hash l)) ⌝ }
 {
-    for i in 0..n {
-        let p = places[i];
-        if x.bucket == p.bucket {
+    let first = place(hash.first, l);
+    if x.bucket == first.bucket {
+        return true;
+    }
+    let second = place(hash.second, l);
+    x.bucket == second.bucket
+}
+
+// "each taken slot in a place of its key"
+fn stands(s: State, hash: Hashes, x: Slot) -> bool
+    requires { ⌜ GoodState 20 s ⌝ }
+    ensures { λ r. ⌜ r ≡ any (map (samePlace (placeOf x)) (probes s hash)) ⌝ }
+{
+    let count = level_count(s);
+    for n in 0..count {
+        if stands_in(x, hash, nth_level(s, n)) {
             return true;
         }
     }
@@ -47,12 +62,10 @@ fn stands(x: Slot, places: [Place; 6], n: usize) -> bool
 
 // Slot x, when the lookup of its key, with these hashes, ends at slot y.
 fn copied(s: State, hash: Hashes, x: Slot, y: Slot, found: Scan) -> Scan
-    requires { ⌜ (s .phase + 1 ≤ s .k) × (s .k ≤ 20) ⌝ }
+    requires { ⌜ GoodState 20 s ⌝ }
     ensures { λ r. ⌜ r ≡ cond (any (map (samePlace (placeOf x)) (probes s hash))) (metOf found (inOrder x y)) Spoilt ⌝ }
 {
-    let p = probed(s, hash);
-    let list = p.list;
-    if !stands(x, list, p.n) {
+    if !stands(s, hash, x) {
         return Scan::Spoilt;
     }
     met(found, x, y)
@@ -95,15 +108,15 @@ fn scan_bucket(t: &[u64], h: Header, p: Place, found: Scan) -> Scan
     all
 }
 
-fn scan_level(t: &[u64], h: Header, name: u64, e: u64, found: Scan) -> Scan
-    requires { ⌜ GoodHeader (length (now t)) h × (e ≤ h .c) ⌝ }
-    ensures { λ r. ⌜ r ≡ foldl (slotMet (now (t .entry)) h) found (slotsOf (levelOf name e)) ⌝ }
+fn scan_level(t: &[u64], h: Header, l: Level, found: Scan) -> Scan
+    requires { ⌜ GoodHeader (length (now t)) h × (l .exponent ≤ h .c) ⌝ }
+    ensures { λ r. ⌜ r ≡ foldl (slotMet (now (t .entry)) h) found (slotsOf l) ⌝ }
 {
-    let size = power(e);
+    let size = power(l.exponent);
     let mut all = found;
     for i in 0..size {
         let p = Place {
-            level: name,
+            level: l.name,
             bucket: size - 1 + i,
         };
         all = scan_bucket(t, h, p, all);
@@ -116,10 +129,10 @@ pub fn scan_table(t: &[u64], h: Header) -> Scan
     requires { ⌜ GoodHeader (length (now t)) h ⌝ }
     ensures { λ r. ⌜ r ≡ scanOf (now (t .entry)) h ⌝ }
 {
-    let top = scan_level(t, h, 0, h.state.k, Scan::Clear);
-    let bottom = scan_level(t, h, 1, h.state.k - 1, top);
-    if h.state.phase == 0 {
-        return bottom;
+    let count = level_count(h.state);
+    let mut all = Scan::Clear;
+    for n in 0..count {
+        all = scan_level(t, h, nth_level(h.state, n), all);
     }
-    scan_level(t, h, 2, h.state.k - 2, bottom)
+    all
 }

@@ -1,23 +1,34 @@
 -- `growing::begin_at` meets its contract.
 -- Assumes nothing.
+use mathlib.Core.Path.{_≡_, sym, _∙_}
+use mathlib.Core.Bool.{true}
 use native.Mathlib.Omega.{arith}
+use borrow.Author.Tests.{not-true, not-false}
+use Rattle.rules.specs.Words.{atRest}
 use Rattle.listing.proofs.Outcomes.{did-list, did-refuse, did-as}
 use Rattle.growing.proofs.Growth.{begin-growing, begin-full, begin-listed}
 use borrow.Author.Needs.{needs}
 use Rattle.growing.proofs.begin_at.Statement.{statement}
 use Rattle.growing.proofs.begin_at.Tie as tie
 
+at-rest-requires : tie.Need-at-rest-requires
+at-rest-requires c κs = search needs
+
 returns : tie.Need-returns
-returns c = did-as (begin-growing _ (c .if1 .taken)) (did-refuse _ _)
+returns c = did-as (begin-growing _ (sym (c .before .at-rest .ensures) ∙ not-true _ (c .if1 .taken))) (did-refuse _ _)
+
+-- past the first test
+resting : (c : tie.Else1) → atRest (c .before .before .before .before .args .h .state) ≡ true
+resting c = sym (c .before .at-rest .ensures) ∙ not-false _ (c .if1 .left)
 
 returns-2 : tie.Need-returns-2
-returns-2 c = did-as (begin-full _ (c .before .before .before .if1 .left) (c .if2 .taken)) (did-refuse _ _)
+returns-2 c = did-as (begin-full _ (resting (c .before .before .before)) (c .if2 .taken)) (did-refuse _ _)
 
 begun-requires : tie.Need-begun-requires
 begun-requires c κs = search needs
 
-state-word-requires : tie.Need-state-word-requires
-state-word-requires c κs = search needs
+word-requires : tie.Need-word-requires
+word-requires c κs = rw (c .begun .ensures) (omega (arith, c .before .before .before .before .before .before .before .before .before .pre .1), omega arith)
 
 store-requires : tie.Need-store-requires
 store-requires c κs = search needs
@@ -30,17 +41,18 @@ returns-3 c =
     let u = c .before .before in
     let b = u .before .before in
     let f = b .before .before in
-    did-as (begin-listed _ (f .before .before .before .if1 .left) (f .if2 .left) (b .begun .ensures) (u .before .state-word .ensures))
+    did-as (begin-listed _ (resting (f .before .before .before)) (f .if2 .left) (b .begun .ensures) (u .before .word .ensures))
     (did-list (u .store .ensures) (f .before .before .before .before .before .before .before .pre .0) (omega arith))
 
 pub begin-at-spec : {M : Type 1} → statement M
 begin-at-spec =
     tie.close
     (tie.spec
+    at-rest-requires
     returns
     returns-2
     begun-requires
-    state-word-requires
+    word-requires
     store-requires
     same-length
     returns-3)

@@ -1,7 +1,8 @@
 -- `growing::end_at` meets its contract.
 -- Assumes nothing.
+use mathlib.Core.Path.{_≡_, sym, _∙_}
+use mathlib.Core.Bool.{false}
 use native.Mathlib.Omega.{arith}
-use borrow.Author.Tests.{ne-eqb}
 use Rattle.rules.specs.Words.{atRest}
 use Rattle.rules.proofs.Headers.{sizes}
 use Rattle.listing.proofs.Outcomes.{did-list, did-refuse, did-as}
@@ -10,12 +11,18 @@ use borrow.Author.Needs.{needs}
 use Rattle.growing.proofs.end_at.Statement.{statement}
 use Rattle.growing.proofs.end_at.Tie as tie
 
+at-rest-requires : tie.Need-at-rest-requires
+at-rest-requires c κs = search needs
+
 returns : tie.Need-returns
-returns c = did-as (end-resting _ _ (c .if1 .taken)) (did-refuse _ _)
+returns c = did-as (end-resting _ _ (sym (c .before .at-rest .ensures) ∙ c .if1 .taken)) (did-refuse _ _)
+
+-- past the first test
+growing : (c : tie.Else1) → atRest (c .before .before .before .before .before .args .h .state) ≡ false
+growing c = sym (c .before .at-rest .ensures) ∙ c .if1 .left
 
 first-item-requires : tie.Need-first-item-requires
-unfolding atRest
-first-item-requires c κs = (c .before .before .before .before .before .pre .1, ne-eqb _ _ (c .if1 .left))
+first-item-requires c κs = (c .before .before .before .before .before .pre .1, growing c)
 
 enum-told : tie.Need-enum-told
 enum-told c = search needs
@@ -24,13 +31,16 @@ enum-told-2 : tie.Need-enum-told-2
 enum-told-2 c = search needs
 
 returns-2 : tie.Need-returns-2
-returns-2 c = let d = c .before .before in did-as (end-taken _ _ (d .first-item .ensures .0) (d .before .if1 .left) (is-there _ (c .before .match .keys2) .1)) (did-refuse _ _)
+returns-2 c = let d = c .before .before in did-as (end-taken _ _ (d .first-item .ensures .0) (growing (d .before)) (is-there _ (c .before .match .keys2) .1)) (did-refuse _ _)
 
 ended-requires : tie.Need-ended-requires
 ended-requires c κs = search needs
 
-state-word-requires : tie.Need-state-word-requires
-state-word-requires c κs = let z = sizes _ _ (c .before .before .before .before .before .before .before .before .before .before .pre .1) in omega (arith, z .most, z .cap, c .ended .ensures .0, c .ended .ensures .1)
+word-requires : tie.Need-word-requires
+word-requires c κs =
+    let f = c .before .before .before .before in
+    let z = sizes _ _ (f .before .before .before .before .before .before .pre .1) in
+    rw (c .ended .ensures) (omega (arith, z .most, z .cap), omega arith)
 
 store-requires : tie.Need-store-requires
 store-requires c κs = search needs
@@ -44,20 +54,21 @@ returns-3 c =
     let b = u .before .before in
     let m = b .before .before .before in
     let f = m .before in
-    did-as (end-listed _ _ (f .first-item .ensures .0) (f .before .if1 .left) (is-empty _ (m .match .keys1)) (b .ended .ensures) (u .before .state-word .ensures))
+    did-as (end-listed _ _ (f .first-item .ensures .0) (growing (f .before)) (is-empty _ (m .match .keys1)) (b .ended .ensures) (u .before .word .ensures))
     (did-list (u .store .ensures) (f .before .before .before .before .before .before .pre .0) (omega arith))
 
 pub end-at-spec : {M : Type 1} → statement M
 end-at-spec =
     tie.close
     (tie.spec
+    at-rest-requires
     returns
     first-item-requires
     enum-told
     enum-told-2
     returns-2
     ended-requires
-    state-word-requires
+    word-requires
     store-requires
     same-length
     returns-3)

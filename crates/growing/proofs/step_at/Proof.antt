@@ -1,7 +1,7 @@
 -- `growing::step_at` meets its contract.
 -- Assumes nothing.
-use mathlib.Core.Path.{sym, _∙_}
-use borrow.Author.Tests.{ne-eqb}
+use mathlib.Core.Path.{_≡_, sym, _∙_}
+use mathlib.Core.Bool.{false}
 use Rattle.rules.specs.Words.{atRest}
 use Rattle.growing.proofs.Growth.{is-empty}
 use Rattle.growing.proofs.Stepping.{item-none, item-some, step-resting, step-empty, step-on, did-step-refuse}
@@ -9,15 +9,21 @@ use borrow.Author.Needs.{needs}
 use Rattle.growing.proofs.step_at.Statement.{statement}
 use Rattle.growing.proofs.step_at.Tie as tie
 
+at-rest-requires : tie.Need-at-rest-requires
+at-rest-requires c κs = search needs
+
 unplaced-requires : tie.Need-unplaced-requires
 unplaced-requires c κs = search needs
 
 returns : tie.Need-returns
-returns c = did-step-refuse _ _ _ (step-resting _ _ (c .before .if1 .taken)) (c .unplaced .ensures)
+returns c = did-step-refuse _ _ _ (step-resting _ _ (sym (c .before .before .at-rest .ensures) ∙ c .before .if1 .taken)) (c .unplaced .ensures)
+
+-- past the first test
+growing : (c : tie.Else1) → atRest (c .before .before .before .before .before .args .h .state) ≡ false
+growing c = sym (c .before .at-rest .ensures) ∙ c .if1 .left
 
 first-item-requires : tie.Need-first-item-requires
-unfolding atRest
-first-item-requires c κs = (c .before .before .before .before .before .pre .1, ne-eqb _ _ (c .if1 .left))
+first-item-requires c κs = (c .before .before .before .before .before .pre .1, growing c)
 
 enum-known-item : tie.Need-enum-known-item
 enum-known-item c = search needs
@@ -32,7 +38,7 @@ returns-2 : tie.Need-returns-2
 returns-2 c =
     let m = c .before .before in
     let f = m .before in
-    did-step-refuse _ _ _ (step-empty _ _ (f .before .if1 .left) (item-none _ (sym (f .first-item .ensures .0) ∙ is-empty _ (m .match .keys2)))) (c .unplaced2 .ensures)
+    did-step-refuse _ _ _ (step-empty _ _ (growing (f .before)) (item-none _ (sym (f .first-item .ensures .0) ∙ is-empty _ (m .match .keys2)))) (c .unplaced2 .ensures)
 
 step-item-requires : tie.Need-step-item-requires
 step-item-requires c κs =
@@ -49,12 +55,13 @@ returns-3 c =
     let d = c .before .before in
     let i = d .before .before .before in
     let f = i .before .before in
-    rw (← (step-on _ _ (f .before .if1 .left) (item-some _ (sym (f .first-item .ensures .0) ∙ i .item .given .1)))) (d .step-item .ensures)
+    rw (← (step-on _ _ (growing (f .before)) (item-some _ (sym (f .first-item .ensures .0) ∙ i .item .given .1)))) (d .step-item .ensures)
 
 pub step-at-spec : {M : Type 1} → statement M
 step-at-spec =
     tie.close
     (tie.spec
+    at-rest-requires
     unplaced-requires
     returns
     first-item-requires

@@ -2,18 +2,19 @@
 -- Assumes nothing.
 use mathlib.Core.Logic.{inr}
 use denote.Ref.{now}
-use Rattle.rules.proofs.Meanings.{placing-tells}
-use Rattle.placing.proofs.Goals.{TopAndBottom, top-and-bottom}
-use Rattle.placing.proofs.Placings.{somewhere, not-free, by-top, by-bottom, by-move}
 use borrow.Author.Needs.{needs}
+use Rattle.rules.proofs.Headers.{header-state}
+use Rattle.rules.proofs.Meanings.{placing-tells}
+use Rattle.placing.proofs.Goals.{top-within, bottom-within}
+use Rattle.placing.proofs.Placings.{somewhere, not-free, by-top, by-bottom, by-move}
 use Rattle.placing.proofs.interim_placing.Statement.{statement}
 use Rattle.placing.proofs.interim_placing.Tie as tie
 
-levels : (c : tie.Start) → TopAndBottom (now (c .args .t)) (c .args .h)
-levels c = top-and-bottom _ _ (c .pre .0)
+top-requires : tie.Need-top-requires
+top-requires c κs = header-state _ _ (c .before .pre .0)
 
 room-requires : tie.Need-room-requires
-room-requires c κs = levels (c .before) .top
+room-requires c κs = let s = c .before .before in top-within (now (s .args .t)) _ (s .pre .0) (c .top .ensures .0)
 
 enum-told : tie.Need-enum-told
 enum-told c = search needs
@@ -21,13 +22,16 @@ enum-told c = search needs
 returns : tie.Need-returns
 returns c =
     let p = c .before .room in
-    (placing-tells (by-top _ _ _ (c .before .before .before .pre .1) (p .result) (p .ensures .0) (somewhere (p .result) (c .match .keys2))), p .ensures .1)
+    let u = c .before .before in
+    (placing-tells (by-top _ _ _ (u .before .before .pre .1) (u .top .ensures .0) (p .result) (p .ensures .0) (somewhere (p .result) (c .match .keys2))), p .ensures .1)
 
-sub-room : tie.Need-sub-room
-sub-room c = levels (c .before .before .before .before) .two
+bottom-requires : tie.Need-bottom-requires
+bottom-requires c κs = header-state _ _ (c .before .before .before .before .before .pre .0)
 
 room-requires-2 : tie.Need-room-requires-2
-room-requires-2 c κs = levels (c .before .before .before .before) .bottom
+room-requires-2 c κs =
+    let s = c .before .before .before .before .before .before in
+    bottom-within (now (s .args .t)) _ (s .pre .0) (c .bottom .ensures .0)
 
 enum-told-2 : tie.Need-enum-told-2
 enum-told-2 c = search needs
@@ -35,10 +39,12 @@ enum-told-2 c = search needs
 returns-2 : tie.Need-returns-2
 returns-2 c =
     let q = c .before .room2 in
-    let d = c .before .before .before in
+    let v = c .before .before in
+    let d = v .before .before in
     let p = d .before .room in
+    let u = d .before .before in
     let n = not-free (p .result) (inr (d .match .keys1)) _ (p .ensures .0) in
-    (placing-tells (by-bottom _ _ _ (d .before .before .before .pre .1) n (q .result) (q .ensures .0) (somewhere (q .result) (c .match2 .keys2))), q .ensures .1)
+    (placing-tells (by-bottom _ _ _ (u .before .before .pre .1) (u .top .ensures .0) n (v .bottom .ensures .0) (q .result) (q .ensures .0) (somewhere (q .result) (c .match2 .keys2))), q .ensures .1)
 
 moving-requires : tie.Need-moving-requires
 moving-requires c κs = search needs
@@ -48,20 +54,23 @@ returns-3 c =
     let r = c .moving in
     let b = c .before .before in
     let q = b .before .room2 in
-    let d = b .before .before .before in
+    let v = b .before .before in
+    let d = v .before .before in
     let p = d .before .room in
+    let u = d .before .before in
     let n = not-free (p .result) (inr (d .match .keys1)) _ (p .ensures .0) in
     let m = not-free (q .result) (inr (b .match2 .keys1)) _ (q .ensures .0) in
-    (placing-tells (by-move _ _ _ (d .before .before .before .pre .1) n m (r .result) (r .ensures .0)), r .ensures .1)
+    (placing-tells (by-move _ _ _ (u .before .before .pre .1) (u .top .ensures .0) n (v .bottom .ensures .0) m (r .result) (r .ensures .0)), r .ensures .1)
 
 pub interim-placing-spec : {M : Type 1} → statement M
 interim-placing-spec =
     tie.close
     (tie.spec
+    top-requires
     room-requires
     enum-told
     returns
-    sub-room
+    bottom-requires
     room-requires-2
     enum-told-2
     returns-2

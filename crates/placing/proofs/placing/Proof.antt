@@ -2,18 +2,19 @@
 -- Assumes nothing.
 use mathlib.Core.Path.{sym, _∙_}
 use denote.Ref.{now}
-use Rattle.rules.proofs.Meanings.{placing-tells}
-use Rattle.placing.proofs.Goals.{TopAndBottom, top-and-bottom}
-use Rattle.placing.proofs.Placings.{free-somewhere, not-free, by-top, by-bottom, by-move}
 use borrow.Author.Needs.{needs}
+use Rattle.rules.proofs.Headers.{header-state}
+use Rattle.rules.proofs.Meanings.{placing-tells}
+use Rattle.placing.proofs.Goals.{top-within, bottom-within}
+use Rattle.placing.proofs.Placings.{free-somewhere, not-free, by-top, by-bottom, by-move}
 use Rattle.placing.proofs.placing.Statement.{statement}
 use Rattle.placing.proofs.placing.Tie as tie
 
-levels : (c : tie.Start) → TopAndBottom (now (c .args .t)) (c .args .h)
-levels c = top-and-bottom _ _ (c .pre .0)
+top-requires : tie.Need-top-requires
+top-requires c κs = header-state _ _ (c .before .pre .0)
 
 room-requires : tie.Need-room-requires
-room-requires c κs = levels (c .before) .top
+room-requires c κs = let s = c .before .before in top-within (now (s .args .t)) _ (s .pre .0) (c .top .ensures .0)
 
 enum-known-in-top : tie.Need-enum-known-in-top
 enum-known-in-top c = search needs
@@ -23,13 +24,14 @@ returns c =
     let f = c .before in
     let q = f .in-top .given .1 in
     let p = f .before .before .room in
-    (placing-tells (sym q ∙ by-top _ _ _ (f .before .before .before .before .pre .1) (p .result) (p .ensures .0) (free-somewhere q)), rw q at (p .ensures .1))
+    let u = f .before .before .before in
+    (placing-tells (sym q ∙ by-top _ _ _ (u .before .before .pre .1) (u .top .ensures .0) (p .result) (p .ensures .0) (free-somewhere q)), rw q at (p .ensures .1))
 
-sub-room : tie.Need-sub-room
-sub-room c = levels (c .before .before .before) .two
+bottom-requires : tie.Need-bottom-requires
+bottom-requires c κs = header-state _ _ (c .before .before .before .before .pre .0)
 
 room-requires-2 : tie.Need-room-requires-2
-room-requires-2 c κs = levels (c .before .before .before) .bottom
+room-requires-2 c κs = let s = c .before .before .before .before .before in bottom-within (now (s .args .t)) _ (s .pre .0) (c .bottom .ensures .0)
 
 enum-known-in-bottom : tie.Need-enum-known-in-bottom
 enum-known-in-bottom c = search needs
@@ -39,10 +41,12 @@ returns-2 c =
     let f = c .before in
     let q = f .in-bottom .given .1 in
     let r = f .before .before .room2 in
-    let d = f .before .before .before in
+    let v = f .before .before .before in
+    let d = v .before in
     let p = d .before .room in
+    let u = d .before .before in
     let n = not-free (p .result) (d .match .keys2) _ (p .ensures .0) in
-    (placing-tells (sym q ∙ by-bottom _ _ _ (d .before .before .before .pre .1) n (r .result) (r .ensures .0) (free-somewhere q)), rw q at (r .ensures .1))
+    (placing-tells (sym q ∙ by-bottom _ _ _ (u .before .before .pre .1) (u .top .ensures .0) n (v .bottom .ensures .0) (r .result) (r .ensures .0) (free-somewhere q)), rw q at (r .ensures .1))
 
 one-move-requires : tie.Need-one-move-requires
 one-move-requires c κs = search needs
@@ -52,20 +56,23 @@ returns-3 c =
     let r = c .one-move in
     let b = c .before in
     let q = b .before .room2 in
-    let d = b .before .before in
+    let v = b .before .before in
+    let d = v .before in
     let p = d .before .room in
+    let u = d .before .before in
     let n = not-free (p .result) (d .match .keys2) _ (p .ensures .0) in
     let m = not-free (q .result) (b .match2 .keys2) _ (q .ensures .0) in
-    (placing-tells (by-move _ _ _ (d .before .before .before .pre .1) n m (r .result) (r .ensures .0)), r .ensures .1)
+    (placing-tells (by-move _ _ _ (u .before .before .pre .1) (u .top .ensures .0) n (v .bottom .ensures .0) m (r .result) (r .ensures .0)), r .ensures .1)
 
 pub placing-spec : {M : Type 1} → statement M
 placing-spec =
     tie.close
     (tie.spec
+    top-requires
     room-requires
     enum-known-in-top
     returns
-    sub-room
+    bottom-requires
     room-requires-2
     enum-known-in-bottom
     returns-2

@@ -4,11 +4,11 @@ use borrow.Author.Needs.{needs}
 use Prim.Native.Nat.{_+_, _-_, _^_, _≤_}
 use mathlib.Core.Path.{_≡_, refl, sym, ap, _∙_}
 use native.Mathlib.Omega.{arith}
-use borrow.Author.Tests.{eqb-false}
 use denote.Ref.{now}
 use lib.Pow.{pow-mono}
-use Rattle.rules.specs.Words.{atRest, slotAt, placeAt, interimOf}
-use Rattle.rules.proofs.Headers.{sizes, bucket-fits}
+use Rattle.rules.specs.Words.{slotAt, placeAt}
+use Rattle.rules.proofs.Headers.{header-state, next-bucket-fits}
+use Rattle.rules.proofs.Levels.{interim-used, exponent-fits}
 use Rattle.reading.specs.Within.{BucketWithin}
 use Rattle.growing.specs.Interim.{itemOf}
 use Rattle.growing.proofs.FirstItem.{itemFrom, items-all, items-hit, items-pass, items-over}
@@ -16,25 +16,14 @@ use Rattle.growing.proofs.interim.first_item.Statement.{statement}
 use Rattle.growing.proofs.interim.first_item.Tie as tie
 
 abbrev Inv-loop : tie.InvT-loop
-Inv-loop t h m i₀ i = itemFrom t h 0 ≡ itemFrom t h i
+Inv-loop t h level m i₀ i = itemFrom t h 0 ≡ itemFrom t h i
 
 abbrev μ-loop : tie.MeasureT-loop
-μ-loop t h m i₀ i = m - i
+μ-loop t h level m i₀ i = m - i
 
--- while growing k is 2 to 20
-grown : (c : tie.Start Inv-loop μ-loop) → (2 ≤ c .args .h .state .k) × (c .args .h .state .k ≤ c .args .h .c) × (c .args .h .c ≤ 20)
-unfolding atRest
-grown c =
-    let z = sizes _ _ (c .pre .0) in
-    let p = eqb-false (c .args .h .state .phase) 0 (c .pre .1) in
-    (omega (arith, z .least, p), z .most, z .cap)
-
--- so its buckets are few enough to count
+-- the interim level has few enough buckets to count
 few : (c : tie.After-power Inv-loop μ-loop) → c .power .result ≤ 2 ^ 20
-few c =
-    let g = grown (c .before .before .before) in
-    let l : c .before .before .before .args .h .state .k - 2 ≤ 20 = omega (arith, g .0, g .1, g .2) in
-    rw (c .power .ensures .0) (pow-mono l)
+few c = rw (c .power .ensures .0) (pow-mono (c .before .interim .ensures .1))
 
 -- and they lie in the table
 within : (c : tie.In-loop Inv-loop μ-loop) →
@@ -42,14 +31,14 @@ within : (c : tie.In-loop Inv-loop μ-loop) →
 within c =
     let p = c .before .before in
     let s = p .before .before .before in
-    let g = grown s in
-    bucket-fits _ _ (s .pre .0) (s .args .h .state .k - 2) _ (omega (arith, g .1)) (omega (arith, p .power .ensures .0, p .power .ensures .1, c .loop-test .taken))
+    let fits = exponent-fits (s .args .h .c) _ (s .pre .0 .state) _ (interim-used (s .args .h .state) (s .pre .1)) in
+    next-bucket-fits _ _ (s .pre .0) _ (rw (p .before .interim .ensures .0) fits) (p .power .ensures .0) _ (c .loop-test .taken)
 
-sub-power : tie.Need-sub-power Inv-loop μ-loop
-sub-power c = grown (c .before .before) .0
+interim-requires : tie.Need-interim-requires Inv-loop μ-loop
+interim-requires c κs = (header-state _ _ (c .before .pre .0), c .before .pre .1)
 
 power-requires : tie.Need-power-requires Inv-loop μ-loop
-power-requires c κs = let g = grown (c .before .before) in omega (arith, g .1, g .2)
+power-requires c κs = omega (arith, c .interim .ensures .1)
 
 loop-holds : tie.Need-loop-holds Inv-loop μ-loop
 loop-holds c = refl
@@ -67,12 +56,12 @@ lowest-taken-requires : tie.Need-lowest-taken-requires Inv-loop μ-loop
 lowest-taken-requires c κs = search needs
 
 returns : tie.Need-returns Inv-loop μ-loop
-unfolding slotAt placeAt interimOf
+unfolding slotAt placeAt
 returns c =
     let d = c .before .before .before in
     let p = d .before .before in
     let s = p .before .before .before in
-    (sym (ap itemOf (items-all _ _ (s .pre .1) ∙ d .before .loop .inv ∙ items-hit _ _ _ _ (p .power .ensures .0) (d .loop-test .taken) (c .before .before .token .ensures) (c .before .lowest-taken .ensures) (c .if1 .taken))), (within d, c .if1 .taken))
+    (sym (ap itemOf (items-all _ _ (s .pre .1) ∙ d .before .loop .inv ∙ items-hit _ _ _ _ (p .before .interim .ensures .0) (p .power .ensures .0) (d .loop-test .taken) (c .before .before .token .ensures) (c .before .lowest-taken .ensures) (c .if1 .taken))), (within d, c .if1 .taken))
 
 add-i : tie.Need-add-i Inv-loop μ-loop
 add-i c = omega arith
@@ -83,12 +72,13 @@ loop-less c = omega arith
 loop-again : tie.Need-loop-again Inv-loop μ-loop
 loop-again c =
     let d = c .before .before .before in
-    d .before .loop .inv ∙ items-pass _ _ _ _ (d .before .before .power .ensures .0) (d .loop-test .taken) (c .before .before .token .ensures) (c .before .lowest-taken .ensures) (c .if1 .left)
+    let p = d .before .before in
+    d .before .loop .inv ∙ items-pass _ _ _ _ (p .before .interim .ensures .0) (p .power .ensures .0) (d .loop-test .taken) (c .before .before .token .ensures) (c .before .lowest-taken .ensures) (c .if1 .left)
 
 returns-2 : tie.Need-returns-2 Inv-loop μ-loop
 returns-2 c =
     let p = c .before .before in
-    (sym (ap itemOf (items-all _ _ (p .before .before .before .pre .1) ∙ c .before .loop .inv ∙ items-over _ _ _ _ (p .power .ensures .0) (c .loop-test .left))), tt)
+    (sym (ap itemOf (items-all _ _ (p .before .before .before .pre .1) ∙ c .before .loop .inv ∙ items-over _ _ _ _ (p .before .interim .ensures .0) (p .power .ensures .0) (c .loop-test .left))), tt)
 
 pub first-item-spec : {M : Type 1} → statement M
 first-item-spec =
@@ -96,7 +86,7 @@ first-item-spec =
     (tie.spec
     Inv-loop
     μ-loop
-    sub-power
+    interim-requires
     power-requires
     loop-holds
     sub-j

@@ -1,22 +1,32 @@
 -- `placing::moves::moving` meets its contract: the first of the three parts that moves an item.
 -- Assumes nothing.
+use mathlib.Core.Path.{_≡_}
 use denote.Ref.{now}
-use native.Mathlib.Omega.{arith}
-use Rattle.placing.proofs.Goals.{TopAndBottom, top-and-bottom}
+use borrow.Author.Needs.{needs}
+use Rattle.rules.specs.Words.{topOf, bottomOf}
+use Rattle.rules.proofs.Headers.{header-state}
+use Rattle.placing.specs.Within.{LevelWithin}
+use Rattle.placing.proofs.Goals.{top-within, bottom-within}
 use Rattle.placing.proofs.Placings.{nowhere, somewhere}
 use Rattle.placing.proofs.Moving.{first-part, second-part, third-part}
-use borrow.Author.Needs.{needs}
 use Rattle.placing.proofs.moves.moving.Statement.{statement}
 use Rattle.placing.proofs.moves.moving.Tie as tie
 
-levels : (c : tie.Start) → TopAndBottom (now (c .args .t)) (c .args .h)
-levels c = top-and-bottom _ _ (c .pre)
+-- the two levels, and that they lie in the table
+upper : (c : tie.After-bottom) → let s = c .before .before .before in LevelWithin (now (s .args .t)) (c .before .top .result)
+upper c = let s = c .before .before .before in top-within (now (s .args .t)) _ (s .pre) (c .before .top .ensures .0)
 
-sub-lower : tie.Need-sub-lower
-sub-lower c = levels (c .before) .two
+lower : (c : tie.After-bottom) → let s = c .before .before .before in LevelWithin (now (s .args .t)) (c .bottom .result)
+lower c = let s = c .before .before .before in bottom-within (now (s .args .t)) _ (s .pre) (c .bottom .ensures .0)
+
+top-requires : tie.Need-top-requires
+top-requires c κs = header-state _ _ (c .before .pre)
+
+bottom-requires : tie.Need-bottom-requires
+bottom-requires c κs = header-state _ _ (c .before .before .pre)
 
 moves-of-level-requires : tie.Need-moves-of-level-requires
-moves-of-level-requires c κs = let l = levels (c .before) in omega arith
+moves-of-level-requires c κs = (upper c, upper c)
 
 enum-told : tie.Need-enum-told
 enum-told c = search needs
@@ -24,10 +34,11 @@ enum-told c = search needs
 returns : tie.Need-returns
 returns c =
     let m = c .before .moves-of-level in
-    (first-part _ _ _ (m .result) (m .ensures .0) (somewhere (m .result) (c .match .keys2)), m .ensures .1)
+    let b = c .before .before in
+    (first-part _ _ _ (b .before .top .ensures .0) (b .bottom .ensures .0) (m .result) (m .ensures .0) (somewhere (m .result) (c .match .keys2)), m .ensures .1)
 
 moves-of-level-requires-2 : tie.Need-moves-of-level-requires-2
-moves-of-level-requires-2 c κs = let l = levels (c .before .before .before .before) in omega arith
+moves-of-level-requires-2 c κs = let b = c .before .before .before in (lower b, lower b)
 
 enum-told-2 : tie.Need-enum-told-2
 enum-told-2 c = search needs
@@ -37,25 +48,28 @@ returns-2 c =
     let m = c .before .moves-of-level2 in
     let d = c .before .before .before in
     let l = d .before .moves-of-level in
-    (second-part _ _ _ (l .result) (l .ensures .0) (nowhere (l .result) (d .match .keys1)) (m .result) (m .ensures .0) (somewhere (m .result) (c .match2 .keys2)), m .ensures .1)
+    let b = d .before .before in
+    (second-part _ _ _ (b .before .top .ensures .0) (b .bottom .ensures .0) (l .result) (l .ensures .0) (nowhere (l .result) (d .match .keys1)) (m .result) (m .ensures .0) (somewhere (m .result) (c .match2 .keys2)), m .ensures .1)
 
 moves-of-level-requires-3 : tie.Need-moves-of-level-requires-3
-moves-of-level-requires-3 c κs = let l = levels (c .before .before .before .before .before .before .before) in omega arith
+moves-of-level-requires-3 c κs = let b = c .before .before .before .before .before .before in (lower b, upper b)
 
 returns-3 : tie.Need-returns-3
 returns-3 c =
     let r = c .moves-of-level3 in
-    let b = c .before .before in
-    let m = b .before .moves-of-level2 in
-    let d = b .before .before .before in
+    let e = c .before .before in
+    let m = e .before .moves-of-level2 in
+    let d = e .before .before .before in
     let l = d .before .moves-of-level in
-    (third-part _ _ _ (l .result) (l .ensures .0) (nowhere (l .result) (d .match .keys1)) (m .result) (m .ensures .0) (r .result) (nowhere (m .result) (b .match2 .keys1)) (r .ensures .0), r .ensures .1)
+    let b = d .before .before in
+    (third-part _ _ _ (b .before .top .ensures .0) (b .bottom .ensures .0) (l .result) (l .ensures .0) (nowhere (l .result) (d .match .keys1)) (m .result) (m .ensures .0) (r .result) (nowhere (m .result) (e .match2 .keys1)) (r .ensures .0), r .ensures .1)
 
 pub moving-spec : {M : Type 1} → statement M
 moving-spec =
     tie.close
     (tie.spec
-    sub-lower
+    top-requires
+    bottom-requires
     moves-of-level-requires
     enum-told
     returns

@@ -1,20 +1,20 @@
 -- `querying::lookup::find` meets its contract.
 -- Assumes nothing.
-use Rattle.querying.proofs.Turning.{last-next}
-use Prim.Native.Nat.{_-_, _/_, _≤_, _<_}
+use Prim.Native.Nat.{_-_, _*_, _≤_, _<_}
 use mathlib.Core.Path.{_≡_, refl, sym, _∙_}
 use mathlib.Core.Logic.{⊎-elim}
 use native.Mathlib.Omega.{arith}
 use borrow.Author.Needs.{needs}
 use denote.Ref.{now}
-use Rattle.rules.specs.Words.{slotAt}
+use lib.ListN.{length}
+use Rattle.rules.specs.Words.{levelsInUse, slotAt}
 use Rattle.rules.specs.Places.{probes, hitIn, seek}
 use Rattle.rules.specs.declared.Lookup.the-variants.{Absent}
-use Rattle.rules.proofs.Headers.{sizes, bucket-fits}
+use Rattle.rules.proofs.Headers.{header-state}
 use Rattle.reading.specs.Within.{BucketWithin}
 use Rattle.querying.specs.Turns.{nthPlace}
 use Rattle.querying.proofs.Seeking.{inSlots, slots-all, slots-over, slot-free, slot-other, slot-hit}
-use Rattle.querying.proofs.Turning.{inTurns, turns-all, turns-over, turn-skip, turn-pass, turn-hit}
+use Rattle.querying.proofs.Turning.{inTurns, turns-all, turns-over, turn-skip, turn-pass, turn-hit, last-next, turn-within}
 use Rattle.querying.proofs.lookup.find.Statement.{statement}
 use Rattle.querying.proofs.lookup.find.Tie as tie
 
@@ -30,22 +30,16 @@ Inv-search t h key x state n answer₀ looked₀ last₀ i₀ answer looked last
 abbrev μ-search : tie.MeasureT-search
 μ-search t h key x state n answer₀ looked₀ last₀ i₀ answer looked last i = n - i
 
--- place i is one of level i / 2, which is in use
+-- turn i is one of the places in use
 turn-fits : (c : tie.In-search Inv-loop μ-loop Inv-search μ-search) →
     let a = c .before .before .before .before .before .args in
-    let i = c .before .search .i in
-    (i < 6) × (i / 2 ≤ a .h .state .k) × (a .h .state .k ≤ 20) × (a .h .state .k ≤ a .h .c)
-turn-fits c =
-    let p = c .before .before in
-    let z = sizes _ _ (p .before .before .before .pre) in
-    omega (arith, z .least, z .most, z .cap, z .phase, p .place-count .ensures .1, c .search-test .taken)
+    c .before .search .i < 2 * length (levelsInUse (a .h .state))
+turn-fits c = rw (← (c .before .before .place-count .ensures .0)) (c .search-test .taken)
 
 -- so its bucket lies in the table
 within : (c : tie.After-nth-place Inv-loop μ-loop Inv-search μ-search) →
     BucketWithin (now (c .before .before .before .before .before .before .args .t)) (c .nth-place .result .bucket)
-within c =
-    let f = turn-fits (c .before) in
-    bucket-fits _ _ (c .before .before .before .before .before .before .pre) _ _ (omega (arith, f .3)) (c .nth-place .ensures .1)
+within c = rw (c .nth-place .ensures) (turn-within _ _ (c .before .before .before .before .before .before .pre) _ _ (turn-fits (c .before)))
 
 place-count-requires : tie.Need-place-count-requires Inv-loop μ-loop Inv-search μ-search
 place-count-requires c κs = search needs
@@ -54,13 +48,13 @@ search-holds : tie.Need-search-holds Inv-loop μ-loop Inv-search μ-search
 search-holds c = (refl, omega arith, λ e. absurd (e refl), turns-all _ _ _ _ _)
 
 nth-place-requires : tie.Need-nth-place-requires Inv-loop μ-loop Inv-search μ-search
-nth-place-requires c κs = let f = turn-fits c in (f .0, f .1, f .2)
+nth-place-requires c κs = (header-state _ _ (c .before .before .before .before .before .pre), turn-fits c)
 
 is-fresh-requires : tie.Need-is-fresh-requires Inv-loop μ-loop Inv-search μ-search
 is-fresh-requires c κs = search needs
 
 add-looked : tie.Need-add-looked Inv-loop μ-loop Inv-search μ-search
-add-looked c = let s = c .before .before .before in let f = turn-fits s in omega (arith, f .0, s .before .search .inv .1)
+add-looked c = let s = c .before .before .before in omega (arith, s .search-test .taken, s .before .before .place-count .ensures .1, s .before .search .inv .1)
 
 loop-holds : tie.Need-loop-holds Inv-loop μ-loop Inv-search μ-search
 loop-holds c = (refl, slots-all _ _ _ _)
@@ -94,7 +88,7 @@ loop-again c =
     )
 
 add-i : tie.Need-add-i Inv-loop μ-loop Inv-search μ-search
-add-i c = let f = turn-fits (c .before .before .before) in omega (arith, f .0)
+add-i c = let s = c .before .before .before in omega (arith, s .search-test .taken, s .before .before .place-count .ensures .1)
 
 search-less : tie.Need-search-less Inv-loop μ-loop Inv-search μ-search
 search-less c = omega arith
@@ -107,7 +101,7 @@ search-again c =
     let s = d .before in
     let v = s .search .inv in
     let l = rw (s .before .place-count .ensures .0) at (d .search-test .taken) in
-    let q = p .nth-place .ensures .0 in
+    let q = p .nth-place .ensures in
     let e = sym (f .is-fresh .ensures) in
     ⊎-elim
     (λ w.
@@ -131,7 +125,7 @@ returns-2 c =
     let l = rw (s .before .place-count .ensures .0) at (d .search-test .taken) in
     sym
     (s .search .inv .3
-    ∙ turn-hit _ _ _ _ _ _ _ _ l (s .search .inv .2) (p .nth-place .ensures .0) (sym (f .is-fresh .ensures) ∙ k .before .before .if1 .taken)
+    ∙ turn-hit _ _ _ _ _ _ _ _ l (s .search .inv .2) (p .nth-place .ensures) (sym (f .is-fresh .ensures) ∙ k .before .before .if1 .taken)
     (k .before .loop .inv .1
     ∙ slot-hit _ _ _ _ _ (k .loop-test .taken) (b .token .ensures) (sym (c .before .is-taken .ensures) ∙ c .if3 .taken) (sym (b .before .before .key-at .ensures) ∙ b .before .if2 .taken)))
 

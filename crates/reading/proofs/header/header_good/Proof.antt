@@ -46,14 +46,14 @@ returns-5 c = even1 _ _ (c .if5 .taken)
 returns-6 : tie.Need-returns-6
 returns-6 c = even2 _ _ (c .if6 .taken)
 
-state-good-requires : tie.Need-state-good-requires
-state-good-requires c κs = search needs
+good-requires : tie.Need-good-requires
+good-requires c κs = search needs
 
 returns-7 : tie.Need-returns-7
 returns-7 c =
     let d = c .before .before .before .before .before .before .before in
     let e = d .before .before .before in
-    c .state-good .ensures
+    c .good2 .ensures
     ∙ by-state _ _ (e .before .before .if1 .left) (e .if2 .left) (d .if3 .left ∙ sized _ _ (d .before .power .ensures .0)) (c .before .before .before .before .before .if4 .left)
     (c .before .before .before .if5 .left) (c .before .if6 .left)
 
@@ -72,5 +72,5 @@ header-good-spec =
     returns-4
     returns-5
     returns-6
-    state-good-requires
+    good-requires
     returns-7)

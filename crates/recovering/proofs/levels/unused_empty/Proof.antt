@@ -8,7 +8,7 @@ use native.Mathlib.Omega.{arith}
 use borrow.Author.Tests.{not-true, not-false}
 use Rattle.rules.specs.Choice.{all, from}
 use Rattle.rules.specs.Words.{unusedBuckets}
-use Rattle.rules.proofs.Headers.{sizes}
+use Rattle.rules.proofs.Headers.{header-state, sizes}
 use Rattle.rules.proofs.Walks.{from-next, from-end}
 use Rattle.rules.proofs.Loops.{testsFrom, tests-end, all-next}
 use Rattle.recovering.specs.Found.{zeroToken}
@@ -29,7 +29,7 @@ loop-holds : tie.Need-loop-holds Inv-loop μ-loop
 loop-holds c = unused-whole _ _
 
 in-use-requires : tie.Need-in-use-requires Inv-loop μ-loop
-in-use-requires c κs = omega (arith, sizes _ _ (c .before .before .before .before .pre))
+in-use-requires c κs = header-state _ _ (c .before .before .before .before .pre)
 
 level-empty-requires : tie.Need-level-empty-requires Inv-loop μ-loop
 level-empty-requires c κs = (c .before .before .before .before .before .before .pre, omega (arith, c .before .before .loop-test .taken))

@@ -1,12 +1,13 @@
 -- `recovering::target::find_target` meets its contract.
 -- Assumes nothing.
-use mathlib.Core.Path.{sym, _∙_}
+use mathlib.Core.Path.{sym, ap, _∙_}
 use native.Mathlib.Omega.{arith}
 use borrow.Author.Tests.{not-true, not-false}
 use borrow.Author.Needs.{needs}
 use Rattle.rules.specs.Words.{targetOf}
-use Rattle.rules.proofs.Headers.{sizes, header-fits}
-use Rattle.recovering.proofs.Word6.{word-low, word-between, word-outside, word-free, named-within, word-names}
+use Rattle.rules.proofs.Headers.{header-state, header-fits}
+use Rattle.recovering.specs.Found.{homeMeans}
+use Rattle.recovering.proofs.Word6.{no-home, word-low, word-between, word-outside, word-free, named-within, word-names}
 use Rattle.recovering.proofs.target.find_target.Statement.{statement}
 use Rattle.recovering.proofs.target.find_target.Tie as tie
 
@@ -21,19 +22,28 @@ returns-2 : tie.Need-returns-2
 unfolding targetOf
 returns-2 c = word-between _ (c .if2 .taken)
 
-level-of-requires : tie.Need-level-of-requires
-level-of-requires c κs = omega (arith, sizes _ _ (c .before .before .before .before .pre .0))
+home-of-requires : tie.Need-home-of-requires
+home-of-requires c κs = header-state _ _ (c .before .before .before .before .pre .0)
+
+enum-known-home : tie.Need-enum-known-home
+enum-known-home c = search needs
+
+enum-told : tie.Need-enum-told
+enum-told c = search needs
 
 returns-3 : tie.Need-returns-3
 unfolding targetOf
-returns-3 c = word-outside _ (c .before .before .before .before .before .before .pre .1) (sym (c .if3 .taken) ∙ c .before .level-of .ensures)
+returns-3 c =
+    let d = c .before .before in
+    word-outside _ (d .before .before .before .before .before .pre .1) (sym (d .home-of .ensures) ∙ no-home (d .home-of .result) (c .before .match .keys2))
 
 token-requires : tie.Need-token-requires
 unfolding targetOf
 token-requires c κs =
-    let d = c .before .before in
-    let p = d .before .before .before .before .pre in
-    named-within _ (p .1) (p .0) (d .if2 .left) (c .before .level-of .ensures) (c .if3 .left)
+    let i = c .before in
+    let d = i .before .before in
+    let p = d .before .before .before .before .before .pre in
+    named-within _ (p .1) (p .0) (d .before .if2 .left) (sym (d .home-of .ensures) ∙ ap homeMeans (i .home .given .1))
 
 is-taken-requires : tie.Need-is-taken-requires
 is-taken-requires c κs = search needs
@@ -41,16 +51,18 @@ is-taken-requires c κs = search needs
 returns-4 : tie.Need-returns-4
 unfolding targetOf
 returns-4 c =
-    let p = c .before .before .before .before .before .before .before .before .before .pre in
-    word-free _ (p .1) (rw (← c .before .before .token .ensures) (sym (c .before .is-taken .ensures) ∙ not-true _ (c .if4 .taken)))
+    let d = c .before .before .before .before .before .before in
+    let p = d .before .before .before .before .before .pre in
+    word-free _ (p .1) (rw (← c .before .before .token .ensures) (sym (c .before .is-taken .ensures) ∙ not-true _ (c .if3 .taken)))
 
 returns-5 : tie.Need-returns-5
 unfolding targetOf
 returns-5 c =
-    let d = c .before .before .before .before in
+    let i = c .before .before .before .before in
+    let d = i .before .before in
     let p = d .before .before .before .before .before .pre in
-    word-names _ (p .1) (p .0) (d .before .if2 .left) (d .level-of .ensures) (c .before .before .before .if3 .left) (d .before .before .if1 .left)
-    (rw (← c .before .before .token .ensures) (sym (c .before .is-taken .ensures) ∙ not-false _ (c .if4 .left)))
+    word-names _ (p .1) (p .0) (d .before .if2 .left) (sym (d .home-of .ensures) ∙ ap homeMeans (i .home .given .1)) (d .before .before .if1 .left)
+    (rw (← c .before .before .token .ensures) (sym (c .before .is-taken .ensures) ∙ not-false _ (c .if3 .left)))
 
 pub find-target-spec : {M : Type 1} → statement M
 find-target-spec =
@@ -59,7 +71,9 @@ find-target-spec =
     shared-slice-read-word
     returns
     returns-2
-    level-of-requires
+    home-of-requires
+    enum-known-home
+    enum-told
     returns-3
     token-requires
     is-taken-requires

@@ -6,23 +6,17 @@ use borrow.Author.Needs.{needs}
 use Rattle.scanning.proofs.items.copied.Statement.{statement}
 use Rattle.scanning.proofs.items.copied.Tie as tie
 
-probed-requires : tie.Need-probed-requires
-probed-requires c κs = search needs
-
 stands-requires : tie.Need-stands-requires
 stands-requires c κs = search needs
 
 returns : tie.Need-returns
-returns c = rw (← (c .before .before .before .probed .ensures .0), sym (c .before .stands .ensures) ∙ not-true _ (c .if1 .taken))
+returns c = rw (sym (c .before .stands .ensures) ∙ not-true _ (c .if1 .taken))
 
 met-requires : tie.Need-met-requires
 met-requires c κs = search needs
 
 returns-2 : tie.Need-returns-2
-returns-2 c =
-    let d = c .before in
-    rw (← (d .before .before .before .probed .ensures .0), sym (d .before .stands .ensures) ∙ not-false _ (d .if1 .left)) (c .met .ensures)
+returns-2 c = let d = c .before in rw (sym (d .before .stands .ensures) ∙ not-false _ (d .if1 .left)) (c .met .ensures)
 
 pub copied-spec : {M : Type 1} → statement M
-copied-spec =
-    tie.close (tie.spec probed-requires stands-requires returns met-requires returns-2)
+copied-spec = tie.close (tie.spec stands-requires returns met-requires returns-2)

@@ -1,9 +1,8 @@
 -- `scanning::items::item` meets its contract.
 -- Assumes nothing.
 use mathlib.Core.Path.{sym, _∙_}
-use native.Mathlib.Omega.{arith}
 use borrow.Author.Needs.{needs}
-use Rattle.rules.proofs.Headers.{sizes}
+use Rattle.rules.proofs.Headers.{header-state}
 use Rattle.scanning.proofs.Meeting.{item-absent, item-itself, item-copied}
 use Rattle.scanning.proofs.items.item.Statement.{statement}
 use Rattle.scanning.proofs.items.item.Tie as tie
@@ -29,7 +28,9 @@ returns c =
     item-itself _ _ _ _ (l .before .before .key-at .ensures) (l .lookup-by .ensures .0) (c .before .before .before .end .given .1) (sym (c .before .is-same .ensures) ∙ c .if1 .taken)
 
 copied-requires : tie.Need-copied-requires
-copied-requires c κs = omega (arith, sizes _ _ (c .before .before .before .before .before .before .before .before .before .pre .0))
+copied-requires c κs =
+    let l = c .before .before .before .before .before in
+    header-state _ _ (l .before .before .before .before .pre .0)
 
 enum-told : tie.Need-enum-told
 enum-told c = search needs

@@ -7,21 +7,20 @@ use native.Mathlib.Omega.{arith}
 use denote.Ref.{now}
 use Rattle.rules.specs.Choice.{from}
 use Rattle.rules.specs.Words.{slotsOf}
-use Rattle.rules.proofs.Headers.{sizes, next-bucket-fits}
+use Rattle.rules.proofs.Headers.{next-bucket-fits}
 use Rattle.rules.proofs.Walks.{from-next, from-end}
 use Rattle.rules.proofs.Loops.{foldFrom, fold-next, fold-end}
 use Rattle.reading.specs.Within.{BucketWithin}
-use Rattle.reading.specs.Levels.{levelOf}
 use Rattle.scanning.specs.Scans.{slotMet}
 use Rattle.scanning.proofs.Meeting.{levelMet, level-whole, bucket-met}
 use Rattle.scanning.proofs.items.scan_level.Statement.{statement}
 use Rattle.scanning.proofs.items.scan_level.Tie as tie
 
 abbrev Inv-loop : tie.InvT-loop
-Inv-loop t h name e size all₀ i₀ all i = foldl (slotMet t h) all₀ (slotsOf (levelOf name e)) ≡ foldFrom (levelMet t h name e) all (from (size - 1) size) i
+Inv-loop t h l size all₀ i₀ all i = foldl (slotMet t h) all₀ (slotsOf l) ≡ foldFrom (levelMet t h l) all (from (size - 1) size) i
 
 abbrev μ-loop : tie.MeasureT-loop
-μ-loop t h name e size all₀ i₀ all i = size - i
+μ-loop t h l size all₀ i₀ all i = size - i
 
 -- the bucket that is looked at lies in the table
 fits : (c : tie.In-loop Inv-loop μ-loop) →
@@ -32,16 +31,16 @@ fits c =
     next-bucket-fits _ _ (g .0) _ (g .1) (d .power .ensures .0) _ (c .loop-test .taken)
 
 power-requires : tie.Need-power-requires Inv-loop μ-loop
-power-requires c κs = omega (arith, sizes _ _ (c .before .pre .0))
+power-requires c κs = let g = c .before .pre in omega (arith, g .0 .capacity .1, g .1)
 
 loop-holds : tie.Need-loop-holds Inv-loop μ-loop
-loop-holds c = level-whole _ _ _ _ _ (c .power .ensures .0)
+loop-holds c = level-whole _ _ _ _ (c .power .ensures .0)
 
-sub-t11 : tie.Need-sub-t11 Inv-loop μ-loop
-sub-t11 c = omega arith
+sub-t10 : tie.Need-sub-t10 Inv-loop μ-loop
+sub-t10 c = omega arith
 
-add-t12 : tie.Need-add-t12 Inv-loop μ-loop
-add-t12 c = omega (arith, fits c)
+add-t11 : tie.Need-add-t11 Inv-loop μ-loop
+add-t11 c = omega (arith, fits c)
 
 scan-bucket-requires : tie.Need-scan-bucket-requires Inv-loop μ-loop
 scan-bucket-requires c κs = (c .before .before .before .before .pre .0, fits c)
@@ -53,7 +52,7 @@ loop-less : tie.Need-loop-less Inv-loop μ-loop
 loop-less c = omega arith
 
 loop-again : tie.Need-loop-again Inv-loop μ-loop
-loop-again c = c .before .before .loop .inv ∙ fold-next _ _ _ (from-next _ _ _ (c .before .loop-test .taken)) (sym (c .scan-bucket .ensures ∙ bucket-met _ _ _ _ _ _ refl))
+loop-again c = c .before .before .loop .inv ∙ fold-next _ _ _ (from-next _ _ _ (c .before .loop-test .taken)) (sym (c .scan-bucket .ensures ∙ bucket-met _ _ _ _ _ refl))
 
 returns : tie.Need-returns Inv-loop μ-loop
 returns c = sym (c .before .loop .inv ∙ fold-end _ _ _ _ (from-end _ _ _ (c .loop-test .left)))
@@ -66,8 +65,8 @@ scan-level-spec =
     μ-loop
     power-requires
     loop-holds
-    sub-t11
-    add-t12
+    sub-t10
+    add-t11
     scan-bucket-requires
     add-i
     loop-less

@@ -1,42 +1,67 @@
--- `scanning::items::scan_table` meets its contract.
+-- `scanning::items::scan_table` meets its contract: the fold over all levels goes on from the n-th.
 -- Assumes nothing.
+use Prim.Native.Nat.{_-_}
+use mathlib.Core.Path.{_≡_, sym, _∙_}
 use native.Mathlib.Omega.{arith}
-use Rattle.rules.proofs.Headers.{sizes}
-use Rattle.scanning.proofs.Meeting.{scan-resting, scan-growing}
+use borrow.Author.Needs.{needs}
+use lib.ListN.{drop-of-length-le}
+use Rattle.rules.specs.Words.{levelsInUse, slotsOf}
+use Rattle.rules.proofs.Headers.{header-state}
+use Rattle.rules.proofs.Levels.{exponent-fits}
+use Rattle.rules.proofs.Walks.{stands-in}
+use Rattle.rules.proofs.Loops.{foldFrom, fold-next, fold-end, within}
+use Rattle.scanning.specs.Scans.{slotMet, scanOf}
+use Rattle.scanning.proofs.Meeting.{levels-whole}
 use Rattle.scanning.proofs.items.scan_table.Statement.{statement}
 use Rattle.scanning.proofs.items.scan_table.Tie as tie
 
-scan-level-requires : tie.Need-scan-level-requires
-scan-level-requires c κs = (c .before .pre, sizes _ _ (c .before .pre) .most)
+abbrev Inv-loop : tie.InvT-loop
+Inv-loop t h count all₀ n₀ all n = scanOf t h ≡ foldFrom (within (slotMet t h) slotsOf) all (levelsInUse (h .state)) n
 
-sub-scan-level : tie.Need-sub-scan-level
-sub-scan-level c = omega (arith, sizes _ _ (c .before .before .before .pre))
+abbrev μ-loop : tie.MeasureT-loop
+μ-loop t h count all₀ n₀ all n = count - n
 
-scan-level-requires-2 : tie.Need-scan-level-requires-2
-scan-level-requires-2 c κs = let g = c .before .before .before .pre in (g, omega (arith, sizes _ _ g))
+level-count-requires : tie.Need-level-count-requires Inv-loop μ-loop
+level-count-requires c κs = search needs
 
-returns : tie.Need-returns
-returns c = scan-resting _ _ (c .before .before .before .before .scan-level .ensures) (c .before .before .scan-level2 .ensures) (c .if1 .taken)
+loop-holds : tie.Need-loop-holds Inv-loop μ-loop
+loop-holds c = levels-whole _ _
 
-sub-scan-level-2 : tie.Need-sub-scan-level-2
-sub-scan-level-2 c = omega (arith, c .before .if1 .left, sizes _ _ (c .before .before .before .before .before .before .before .pre))
+nth-level-requires : tie.Need-nth-level-requires Inv-loop μ-loop
+nth-level-requires c κs =
+    let d = c .before .before in
+    (header-state _ _ (d .before .before .pre), rw (← (d .level-count .ensures .0)) (c .loop-test .taken))
 
-scan-level-requires-3 : tie.Need-scan-level-requires-3
-scan-level-requires-3 c κs = let g = c .before .before .before .before .before .before .before .pre in (g, omega (arith, sizes _ _ g))
+scan-level-requires : tie.Need-scan-level-requires Inv-loop μ-loop
+scan-level-requires c κs =
+    let s = c .before .before .before .before .before in
+    (s .pre, exponent-fits (s .args .h .c) (s .args .h .state) (s .pre .state) (c .nth-level .result) (stands-in (levelsInUse (s .args .h .state)) (c .before .before .loop .n) (c .nth-level .ensures .0)))
 
-returns-2 : tie.Need-returns-2
-returns-2 c =
-    let d = c .before .before .before .before in
-    scan-growing _ _ (d .before .before .scan-level .ensures) (d .scan-level2 .ensures) (c .before .before .if1 .left) (c .scan-level3 .ensures)
+add-n : tie.Need-add-n Inv-loop μ-loop
+add-n c = omega arith
+
+loop-less : tie.Need-loop-less Inv-loop μ-loop
+loop-less c = omega arith
+
+loop-again : tie.Need-loop-again Inv-loop μ-loop
+loop-again c = c .before .before .before .loop .inv ∙ fold-next _ _ _ (c .before .nth-level .ensures .0) (sym (c .scan-level .ensures))
+
+returns : tie.Need-returns Inv-loop μ-loop
+returns c =
+    let over = rw (c .before .before .level-count .ensures .0) at (c .loop-test .left) in
+    sym (c .before .loop .inv ∙ fold-end _ _ _ _ (drop-of-length-le _ over))
 
 pub scan-table-spec : {M : Type 1} → statement M
 scan-table-spec =
     tie.close
     (tie.spec
+    Inv-loop
+    μ-loop
+    level-count-requires
+    loop-holds
+    nth-level-requires
     scan-level-requires
-    sub-scan-level
-    scan-level-requires-2
-    returns
-    sub-scan-level-2
-    scan-level-requires-3
-    returns-2)
+    add-n
+    loop-less
+    loop-again
+    returns)

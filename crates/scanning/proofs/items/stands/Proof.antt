@@ -1,58 +1,61 @@
--- `scanning::items::stands` meets its contract.
+-- `scanning::items::stands` meets its contract: the tests of all levels are those from the n-th on.
 -- Assumes nothing.
 use Prim.Native.Nat.{_-_}
 use mathlib.Core.Path.{_≡_, sym, _∙_}
 use mathlib.Core.List.{map}
 use native.Mathlib.Omega.{arith}
-use lib.ListN.{take}
-use borrow.Author.Tests.{eq-eqb, ne-eqb}
+use borrow.Author.Needs.{needs}
+use lib.ListN.{drop-of-length-le}
 use Rattle.rules.specs.Choice.{any}
-use Rattle.rules.specs.Words.{placeOf}
-use Rattle.rules.specs.Places.{samePlace}
-use Rattle.rules.proofs.Loops.{testsFrom, tests-whole, tests-end, any-next}
-use Rattle.scanning.proofs.Meeting.{place-next, place-end}
+use Rattle.rules.specs.Words.{levelsInUse, placeOf}
+use Rattle.rules.specs.Places.{samePlace, probes}
+use Rattle.rules.proofs.Loops.{testsFrom, tests-end, any-next}
+use Rattle.scanning.proofs.Meeting.{atPlace, at-any}
 use Rattle.scanning.proofs.items.stands.Statement.{statement}
 use Rattle.scanning.proofs.items.stands.Tie as tie
 
 abbrev Inv-loop : tie.InvT-loop
-Inv-loop x n places i₀ i = any (map (samePlace (placeOf x)) (take n places)) ≡ testsFrom any (samePlace (placeOf x)) (take n places) i
+Inv-loop s hash x count n₀ n = any (map (samePlace (placeOf x)) (probes s hash)) ≡ testsFrom any (atPlace x hash) (levelsInUse s) n
 
 abbrev μ-loop : tie.MeasureT-loop
-μ-loop x n places i₀ i = n - i
+μ-loop s hash x count n₀ n = count - n
+
+level-count-requires : tie.Need-level-count-requires Inv-loop μ-loop
+level-count-requires c κs = search needs
 
 loop-holds : tie.Need-loop-holds Inv-loop μ-loop
-loop-holds c = tests-whole _ _ _
+loop-holds c = at-any _ _ _
 
-mul-p : tie.Need-mul-p Inv-loop μ-loop
-mul-p c = omega arith
+nth-level-requires : tie.Need-nth-level-requires Inv-loop μ-loop
+nth-level-requires c κs = let d = c .before .before in (d .before .pre, rw (← (d .level-count .ensures .0)) (c .loop-test .taken))
 
-array-copy-out-p : tie.Need-array-copy-out-p Inv-loop μ-loop
-array-copy-out-p c = omega arith
+stands-in-requires : tie.Need-stands-in-requires Inv-loop μ-loop
+stands-in-requires c κs = c .nth-level .ensures .1
 
 returns : tie.Need-returns Inv-loop μ-loop
-unfolding samePlace placeOf
+unfolding atPlace
 returns c =
-    let d = c .before .before .before .before in
-    let s = d .before .before in
-    sym (d .before .loop .inv ∙ any-next _ _ _ (place-next _ _ (s .pre) (s .good .1 .0 .1 .0 .1) _ (d .loop-test .taken)) (eq-eqb _ _ (c .if1 .taken)))
+    let m = c .before .before in
+    let b = sym (c .before .stands-in .ensures) ∙ c .if1 .taken in
+    sym (m .before .before .loop .inv ∙ any-next _ _ _ (m .nth-level .ensures .0) b)
 
-add-i : tie.Need-add-i Inv-loop μ-loop
-add-i c = omega arith
+add-n : tie.Need-add-n Inv-loop μ-loop
+add-n c = omega arith
 
 loop-less : tie.Need-loop-less Inv-loop μ-loop
 loop-less c = omega arith
 
 loop-again : tie.Need-loop-again Inv-loop μ-loop
-unfolding samePlace placeOf
+unfolding atPlace
 loop-again c =
-    let d = c .before .before .before .before in
-    let s = d .before .before in
-    d .before .loop .inv ∙ any-next _ _ _ (place-next _ _ (s .pre) (s .good .1 .0 .1 .0 .1) _ (d .loop-test .taken)) (ne-eqb _ _ (c .if1 .left))
+    let m = c .before .before in
+    let b = sym (c .before .stands-in .ensures) ∙ c .if1 .left in
+    m .before .before .loop .inv ∙ any-next _ _ _ (m .nth-level .ensures .0) b
 
 returns-2 : tie.Need-returns-2 Inv-loop μ-loop
 returns-2 c =
-    let s = c .before .before in
-    sym (c .before .loop .inv ∙ tests-end _ _ _ _ (place-end _ _ (s .pre) (s .good .1 .0 .1 .0 .1) _ (c .loop-test .left)))
+    let over = rw (c .before .before .level-count .ensures .0) at (c .loop-test .left) in
+    sym (c .before .loop .inv ∙ tests-end _ _ _ _ (drop-of-length-le _ over))
 
 pub stands-spec : {M : Type 1} → statement M
 stands-spec =
@@ -60,11 +63,12 @@ stands-spec =
     (tie.spec
     Inv-loop
     μ-loop
+    level-count-requires
     loop-holds
-    mul-p
-    array-copy-out-p
+    nth-level-requires
+    stands-in-requires
     returns
-    add-i
+    add-n
     loop-less
     loop-again
     returns-2)

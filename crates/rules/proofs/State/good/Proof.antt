@@ -1,8 +1,8 @@
--- `reading::header::state_good` meets its contract: each way through it is a law of `HeaderTests`.
+-- `rules::State::good` meets its contract: each way through it is a law of `States`.
 -- Assumes nothing.
-use Rattle.reading.proofs.HeaderTests.{state-above, state-other, state-rest, state-growing}
-use Rattle.reading.proofs.header.state_good.Statement.{statement}
-use Rattle.reading.proofs.header.state_good.Tie as tie
+use Rattle.rules.proofs.States.{state-above, state-other, state-rest, state-growing}
+use Rattle.rules.proofs.State.good.Statement.{statement}
+use Rattle.rules.proofs.State.good.Tie as tie
 
 returns : tie.Need-returns
 returns c = state-above _ _ (c .if1 .taken)
@@ -16,5 +16,5 @@ returns-3 c = let d = c .before .before .before .before .before in state-growing
 returns-4 : tie.Need-returns-4
 returns-4 c = state-other _ _ (c .before .before .if2 .left) (c .if3 .left)
 
-pub state-good-spec : {M : Type 1} → statement M
-state-good-spec = tie.close (tie.spec returns returns-2 returns-3 returns-4)
+pub good-spec : {M : Type 1} → statement M
+good-spec = tie.close (tie.spec returns returns-2 returns-3 returns-4)

@@ -1,0 +1,20 @@
+-- `rules::State::word` meets its contract.
+-- Assumes nothing.
+use mathlib.Core.Path.{refl}
+use borrow.Author.Needs.{needs}
+use Rattle.rules.specs.Words.{stateWord}
+use Rattle.rules.proofs.State.word.Statement.{statement}
+use Rattle.rules.proofs.State.word.Tie as tie
+
+mul-result : tie.Need-mul-result
+mul-result c = search needs
+
+add-result : tie.Need-add-result
+add-result c = search needs
+
+returns : tie.Need-returns
+unfolding stateWord
+returns c = refl
+
+pub word-spec : {M : Type 1} → statement M
+word-spec = tie.close (tie.spec mul-result add-result returns)
