@@ -1,5 +1,5 @@
 // The types that the rules of document 01 and the code share: what the header says, where an item stands,
-// and what each call answers. There is no code here; specs/ has the rules, and proofs/ the laws about them.
+// the calls, and what each call answers. There is no code here; specs/ has the rules, and proofs/ the laws about them.
 
 // Word 4, decoded: "k + 256·phase; phase 0 at rest, 1 growing".
 pub struct State {
@@ -45,6 +45,18 @@ pub struct Slot {
 pub struct Record {
     pub function: u64,
     pub place: u64,
+}
+
+// The calls that may be made on a table, but for create, and make, which makes their stores. A script's events are these calls.
+pub enum Call {
+    Query(u64),
+    Insert(u64, Record),
+    Update(u64, Record),
+    Delete(u64),
+    Begin,
+    Step,
+    End,
+    Recover,
 }
 
 // What the search for a key finds, with the number of buckets looked at.
