@@ -6,7 +6,7 @@ use mathlib.Core.List.{List}
 use lib.ListN.{getD}
 use Rattle.rules.specs.Words.{Table}
 use Rattle.rules.specs.Answers.{Meaning}
-use Rattle.rules.specs.Calls.{Call}
+use Rattle.rules.specs.declared.Call.{Call}
 use Rattle.numbering.specs.Told.{told, toldWith}
 use Rattle.querying.specs.Promises.{QueriedBy}
 use Rattle.making.specs.Promises.{CreatedBy, MadeBy}

@@ -4,7 +4,7 @@
 use Prim.Native.Nat.{ℕ}
 use mathlib.Core.List.{List, [], _∷_}
 use Rattle.rules.specs.Words.{Table}
-use Rattle.rules.specs.Calls.{Call}
+use Rattle.rules.specs.declared.Call.{Call}
 use Rattle.numbering.specs.Told.{toldWith}
 use Rattle.listing.specs.Promises.{ChangedBy}
 

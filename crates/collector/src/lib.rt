@@ -18,7 +18,7 @@ use rules::Record;
 ghost use mathlib.Core.Path.{_≡_};
 ghost use mathlib.Core.List.{[], _∷_};
 ghost use Rattle.rules.specs.Answers.{changeMeans};
-ghost use Rattle.rules.specs.Calls.{insert as insertCall, update as updateCall, delete as deleteCall, begin as beginCall, step as stepCall, end as endCall, recover as recoverCall};
+ghost use Rattle.rules.specs.declared.Call.the-variants.{Insert as insertCall, Update as updateCall, Delete as deleteCall, Begin as beginCall, Step as stepCall, End as endCall, Recover as recoverCall};
 ghost use Rattle.querying.specs.Promises.{QueriedBy};
 ghost use Rattle.making.specs.Promises.{CreatedBy, MadeBy};
 ghost use Rattle.numbering.specs.Told.{told, toldWith};

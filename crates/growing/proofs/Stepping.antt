@@ -13,7 +13,8 @@ use lib.ListN.{length, length-append}
 use Rattle.rules.specs.Words.{Table, headerOf, atRest, keyIn, recordIn, tokenOf}
 use Rattle.rules.specs.Placing.{placing}
 use Rattle.rules.specs.Stores.{written, placingStores, clearStores, stepStores}
-use Rattle.rules.specs.Calls.{Outcome, refused, listed, changingTests, stepItem, stepIn, stepTests, stepOf, step, outcome}
+use Rattle.rules.specs.Calls.{Outcome, refused, listed, changingTests, stepItem, stepIn, stepTests, stepOf, outcome}
+use Rattle.rules.specs.declared.Call.the-variants.{Step as step}
 use Rattle.rules.specs.Results.{stepPlacing, stepResult}
 use Rattle.rules.specs.declared.Header.{Header}
 use Rattle.rules.specs.declared.Slot.{Slot}

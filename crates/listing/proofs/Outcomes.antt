@@ -8,7 +8,8 @@ use borrow.Author.Tests.{leb-true}
 use lib.ListN.{length}
 use Rattle.rules.specs.Words.{Table, headerOf}
 use Rattle.rules.specs.Stores.{Store}
-use Rattle.rules.specs.Calls.{listLong, changingTests, recoverTests, Outcome, refused, listed, Call, testsOf, actOf, outcome}
+use Rattle.rules.specs.Calls.{listLong, changingTests, recoverTests, Outcome, refused, listed, testsOf, actOf, outcome}
+use Rattle.rules.specs.declared.Call.{Call}
 use Rattle.rules.specs.Results.{changeResult}
 use Rattle.rules.specs.declared.Header.{Header}
 use Rattle.rules.specs.declared.Refusal.{Refusal}

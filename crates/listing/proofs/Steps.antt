@@ -5,7 +5,7 @@ use mathlib.Core.Path.{_≡_, ap, _∙_}
 use mathlib.Core.List.{List}
 use Rattle.rules.specs.Words.{Table}
 use Rattle.rules.specs.Answers.{changeMeans}
-use Rattle.rules.specs.Calls.{step}
+use Rattle.rules.specs.declared.Call.the-variants.{Step as step}
 use Rattle.rules.specs.Results.{stepResult}
 use Rattle.rules.specs.declared.Stepped.{Stepped}
 use Rattle.rules.proofs.Meanings.{stepped-one}

@@ -6,7 +6,8 @@ use mathlib.Core.Path.{_≡_}
 use mathlib.Core.List.{List}
 use Rattle.rules.specs.Words.{Table}
 use Rattle.rules.specs.Answers.{Meaning, changeMeans, steppedMeans}
-use Rattle.rules.specs.Calls.{Outcome, Call}
+use Rattle.rules.specs.Calls.{Outcome}
+use Rattle.rules.specs.declared.Call.{Call}
 use Rattle.rules.specs.Results.{changeOf, listAfter, changeResult, stepResult}
 use Rattle.rules.specs.declared.Change.{Change}
 use Rattle.rules.specs.declared.Stepped.{Stepped}

@@ -6,7 +6,8 @@ use mathlib.Core.List.{List}
 use lib.ListN.{replicate}
 use Rattle.rules.specs.Words.{Table}
 use Rattle.rules.specs.Answers.{changeMeans}
-use Rattle.rules.specs.Calls.{Call, insert, update, delete, begin, step, end, recover}
+use Rattle.rules.specs.declared.Call.{Call}
+use Rattle.rules.specs.declared.Call.the-variants.{Insert as insert, Update as update, Delete as delete, Begin as begin, Step as step, End as end, Recover as recover}
 use Rattle.rules.specs.Results.{changeResult}
 use Rattle.rules.specs.Histories.{Event, whole, cut, reported, after}
 use Rattle.following.specs.declared.Act.{Act}

@@ -10,7 +10,7 @@ use lib.ListN.{take, drop}
 use Rattle.rules.specs.Words.{Table, wordsFor}
 use Rattle.rules.specs.Answers.{changeMeans, queryMeans, verdictMeans}
 use Rattle.rules.specs.Results.{changeResult, queryResult, createResult, makeResult}
-use Rattle.rules.specs.Calls.{insert, update, delete, begin, step, end, recover}
+use Rattle.rules.specs.declared.Call.the-variants.{Insert as insert, Update as update, Delete as delete, Begin as begin, Step as step, End as end, Recover as recover}
 use Rattle.following.specs.Scripts.{endingOf}
 use Rattle.following.specs.declared.Act.{Act}
 use Rattle.following.specs.declared.Act.the-variants.{Insert as insertAct, Update as updateAct, Delete as deleteAct, Begin as beginAct, Step as stepAct, End as endAct, Recover as recoverAct}

@@ -26,6 +26,8 @@ use Rattle.rules.specs.declared.Finding.{Finding}
 use Rattle.rules.specs.declared.Finding.the-variants.{Sound, Doubled, Flagged, Neither}
 use Rattle.rules.specs.declared.Refusal.{Refusal}
 use Rattle.rules.specs.declared.Refusal.the-variants.{BadHeader, ShortList, FlagSet, KeyPresent, KeyAbsent, NoPlace, AlreadyGrowing, NotGrowing, AtCapacity, InterimTaken, InterimEmpty, NoKind}
+pub use Rattle.rules.specs.declared.Call.{Call}
+pub use Rattle.rules.specs.declared.Call.the-variants.{Query as query, Insert as insert, Update as update, Delete as delete, Begin as begin, Step as step, End as end, Recover as recover}
 
 -- ---- tests 1, 2 and 3
 
@@ -127,13 +129,7 @@ recoverOf t h (Doubled kept later) = listed (clearStores h (tokenOf t (later .bu
 recoverOf t h (Flagged x) = listed (redoStores x (loggedOf t))
 recoverOf t h Neither = refused NoKind
 
--- the calls that may be made on a table, but for create, and make, which makes their stores
-pub data Call : Type 0 where
-  query : ℕ → Call
-  insert : ℕ → Record → Call
-  update : ℕ → Record → Call
-  delete : ℕ → Call
-  begin step end recover : Call
+-- ---- a call on a table
 
 abbrev pub testsOf : Table → ℕ → Call → List (Bool × Refusal)
 testsOf t n (query key) = queryTests t

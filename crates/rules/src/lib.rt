@@ -1,6 +1,6 @@
 // The types that the rules of document 01 and the code share: what the header says, where an item stands,
-// and what each call answers. The only code is that of a state, which is handed on by value; specs/ has the rules, and proofs/ the
-// laws about them.
+// the calls, and what each call answers. The only code is that of a state, which is handed on by value; specs/ has the rules, and
+// proofs/ the laws about them.
 ghost use mathlib.Core.Path.{_≡_};
 ghost use Prim.Native.Nat.{_≤_};
 ghost use Rattle.rules.specs.Words.{atRest, stateGood, stateWord};
@@ -104,6 +104,18 @@ pub struct Slot {
 pub struct Record {
     pub function: u64,
     pub place: u64,
+}
+
+// The calls that may be made on a table, but for create, and make, which makes their stores. A script's events are these calls.
+pub enum Call {
+    Query(u64),
+    Insert(u64, Record),
+    Update(u64, Record),
+    Delete(u64),
+    Begin,
+    Step,
+    End,
+    Recover,
 }
 
 // What the search for a key finds, with the number of buckets looked at.
