@@ -11,7 +11,7 @@ use lib.Dec.{eqb}
 use lib.Pow.{pow-lt}
 use borrow.Author.Tests.{eq-eqb, ne-eqb}
 use Rattle.rules.specs.Choice.{all, select, from}
-use Rattle.rules.specs.Words.{Table, atRest, topOf, bottomOf, interimOf, levelsInUse, sizeInUse, bucketsOf, allBuckets, unusedBuckets, tokenOf, tidy, tidyOf}
+use Rattle.rules.specs.Words.{Table, atRest, topOf, bottomOf, interimOf, levelsInUse, sizeInUse, bucketsOf, allBuckets, unusedBuckets, tokenOf, keysOf, meant, meantOf}
 use Rattle.rules.specs.declared.State.{State}
 use Rattle.rules.specs.declared.Header.{Header}
 use Rattle.rules.proofs.Loops.{testsFrom, tests-whole}
@@ -19,8 +19,8 @@ use Rattle.recovering.specs.Found.{tidyToken, zeroToken}
 
 -- ---- the words
 
-pub tidy-test : (t : Table) (h : Header) (j : ℕ) {word tidied : ℕ} → word ≡ tokenOf t j → tidied ≡ tidy h word → tidyToken t h (0 + j) ≡ eqb word tidied
-unfolding tidyToken tidyOf
+pub tidy-test : (t : Table) (h : Header) (j : ℕ) {word should : ℕ} → word ≡ tokenOf t j → should ≡ meant h word (keysOf t j) → tidyToken t h (0 + j) ≡ eqb word should
+unfolding tidyToken meantOf
 tidy-test t h j w d = rw (zero-add, ← w, ← d)
 
 pub zero-test : (t : Table) (j : ℕ) {word : ℕ} → word ≡ tokenOf t j → zeroToken t j ≡ eqb word 0
