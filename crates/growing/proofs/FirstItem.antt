@@ -4,10 +4,10 @@ use Prim.Native.Nat.{ℕ, _+_, _-_, _≤_, _<_}
 use mathlib.Core.Path.{_≡_, refl, ap, _∙_}
 use mathlib.Core.Bool.{Bool, true, false, cond}
 use mathlib.Core.List.{List, [], _∷_, map, flatMap, head?, append-nil}
-use mathlib.Core.Option.{Option, none, some, Option·map, Option·getD}
+use mathlib.Core.Option.{Option, none, some, Option·map}
 use lib.ListN.{drop}
 use Rattle.rules.specs.Choice.{given, orElse, select, firstOf}
-use Rattle.rules.specs.Words.{Table, atRest, sizeOf, topOf, bottomOf, interimOf, levelsInUse, bucketsOf, slotAt, slotsIn, placeAt, slotsOf, isTaken, tokenOf, taken}
+use Rattle.rules.specs.Words.{Table, atRest, sizeOf, topOf, bottomOf, interimOf, levelsInUse, bucketsOf, slotAt, slotsIn, placeAt, slotsOf, tokenOf, isTaken, slots, lowestTaken, taken}
 use Rattle.rules.specs.Calls.{interimSlots, interimItems, stepItem}
 use Rattle.rules.specs.declared.State.{State}
 use Rattle.rules.specs.declared.Header.{Header}
@@ -17,15 +17,9 @@ use Rattle.rules.specs.declared.Slot.{Slot}
 use Rattle.rules.proofs.Lists.{firstOf-map, firstOf-given, firstOf-flatMap}
 use Rattle.rules.proofs.Along.{along, along-all, along-pass, along-hit, along-over}
 use Rattle.rules.proofs.Walks.{from-next, from-end}
-use Rattle.rules.proofs.Lowest.{slots, passing, lowest-some, lowest-none}
-use Rattle.growing.specs.Interim.{lowestTaken}
+use Rattle.rules.proofs.Lowest.{passing, lowest-some, lowest-none}
 
 -- ---- in the interim level
-
--- the number of the lowest taken slot
-numbered : (h : Header) (w : ℕ) {s : ℕ} → s ≡ lowestTaken h w → s ≡ Option·getD (firstOf (passing (isTaken h w)) slots) 4
-unfolding lowestTaken
-numbered h w v = v
 
 head-first : {A : Type 0} (p : A → Bool) (l : List A) → head? (select p l) ≡ firstOf (λ (x : A). given (p x) x) l
 head-first p [] = refl
@@ -67,10 +61,12 @@ module _ (t : Table) (h : Header) where
         (firstOf-given (isTaken h (tokenOf t j)) (slotAt (placeAt (interimOf (h .state)) j)) slots)
 
     item-here : s < 4 → itemIn j ≡ some (slotAt (placeAt (interimOf (h .state)) j) s)
-    item-here l = bucket-item ∙ ap (Option·map (slotAt (placeAt (interimOf (h .state)) j))) (lowest-some (isTaken h w) s (numbered h w v) l)
+    unfolding lowestTaken
+    item-here l = bucket-item ∙ ap (Option·map (slotAt (placeAt (interimOf (h .state)) j))) (lowest-some (isTaken h w) s v l)
 
     item-none : 4 ≤ s → itemIn j ≡ none
-    item-none l = bucket-item ∙ ap (Option·map (slotAt (placeAt (interimOf (h .state)) j))) (lowest-none (isTaken h w) s (numbered h w v) l)
+    unfolding lowestTaken
+    item-none l = bucket-item ∙ ap (Option·map (slotAt (placeAt (interimOf (h .state)) j))) (lowest-none (isTaken h w) s v l)
 
   -- the level's i-th bucket, of m
   module _ (m i : ℕ) {l : Level} (e : l ≡ interimOf (h .state)) (q : m ≡ sizeOf l) (r : i < m) {w s : ℕ} (u : w ≡ tokenOf t (m - 1 + i)) (v : s ≡ lowestTaken h w) where

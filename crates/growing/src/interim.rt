@@ -1,8 +1,7 @@
 // The item that a growth step takes: "the first taken interim slot (bucket, then slot ascending)".
 use reading::levels::interim;
 use reading::slots::token;
-use reading::tokens::is_taken;
-use reading::tokens::tidy;
+use reading::tokens::lowest_taken;
 use rules::Header;
 use rules::Slot;
 use words::power;
@@ -11,26 +10,11 @@ ghost use mathlib.Core.Bool.{false};
 ghost use lib.ListN.{length};
 ghost use Rattle.rules.specs.Words.{GoodHeader, atRest};
 ghost use Rattle.rules.specs.Calls.{stepItem};
-ghost use Rattle.growing.specs.Interim.{lowestTaken, itemOf, ItemWithin};
+ghost use Rattle.growing.specs.Interim.{itemOf, ItemWithin};
 
 pub enum Item {
     At(Slot),
     Empty,
-}
-
-// Late in a growth most interim buckets are empty, which one test tells.
-fn lowest_taken(h: Header, word: u64) -> usize
-    ensures { λ r. ⌜ r ≡ lowestTaken h word ⌝ }
-{
-    if tidy(h, word) == 0 {
-        return 4;
-    }
-    for s in 0..4 {
-        if is_taken(h, word, s) {
-            return s;
-        }
-    }
-    4
 }
 
 pub fn first_item(t: &[u64], h: Header) -> Item

@@ -1,16 +1,15 @@
 -- A bucket's records, and what its token word says of its slots.
 -- Assumes nothing.
-use Prim.Native.Nat.{ℕ, _*_, _/_, _%_, _^_, _≤_, _<_}
+use Prim.Native.Nat.{ℕ, _≤_, _<_}
 use mathlib.Core.Path.{_≡_, refl, sym, ap, _∙_}
 use mathlib.Core.Bool.{Bool, true, false, not, cond}
 use mathlib.Core.List.{List, [], _∷_}
 use mathlib.Core.Option.{Option, none, some, Option·map, Option·getD}
 use native.Mathlib.Omega.{arith}
-use borrow.Author.Tests.{eqb-true, lt-ltb, le-ltb}
-use lib.Dec.{eqb}
+use borrow.Author.Tests.{lt-ltb, le-ltb}
 use lib.ListN.{length}
-use Rattle.rules.specs.Choice.{given, orElse, select, firstOf}
-use Rattle.rules.specs.Words.{Table, slotAt, slotsIn, tokenOf, tidy, isTaken, taken}
+use Rattle.rules.specs.Choice.{given, orElse, firstOf}
+use Rattle.rules.specs.Words.{Table, slotAt, slotsIn, tokenOf, isTaken, slots, takenOf, lowestFree, taken}
 use Rattle.rules.specs.Places.{firstPlace, secondPlace}
 use Rattle.rules.specs.Placing.{takenIn, freeSlot, fewer, emptier, roomIn}
 use Rattle.rules.specs.declared.Header.{Header}
@@ -19,12 +18,11 @@ use Rattle.rules.specs.declared.Hashes.{Hashes}
 use Rattle.rules.specs.declared.Place.{Place}
 use Rattle.rules.specs.declared.Slot.{Slot}
 use Rattle.rules.specs.declared.Placing.the-variants.{Free}
-use Rattle.rules.proofs.Lists.{select-length, firstOf-map, firstOf-given}
-use Rattle.rules.proofs.Tokens.{taken-tidy, tidy-tested}
-use Rattle.rules.proofs.FreeSlots.{taken-count}
+use Rattle.rules.proofs.Lists.{firstOf-map, firstOf-given}
+use Rattle.rules.proofs.FreeSlots.{taken-in}
 use Rattle.reading.specs.Levels.{placeIn}
 use Rattle.rules.proofs.Lowest.{lowest-some, lowest-none}
-use Rattle.placing.specs.Buckets.{itemIn, itemsIn, slots, takenOf, lowestFree}
+use Rattle.placing.specs.Buckets.{itemIn, itemsIn, firstFree}
 
 -- ---- the four records
 
@@ -36,21 +34,7 @@ module _ (t : Table) (p : Place) where
 
 -- ---- the slots of a token word
 
--- how many slots each of the sixteen tidy words says are taken, as the hexadecimal digits of one number
-abbrev counts : ℕ
-counts = 4841987667533046032
-
 module _ (h : Header) (word : ℕ) where
-  -- a word has as many taken slots as its tidy word
-  taken-tidied : takenOf h (tidy h word) ≡ takenOf h word
-  unfolding takenOf
-  taken-tidied = λ i. length (select (λ (z : ℕ). taken-tidy h word z i) slots)
-
-  -- by a computed test of all sixteen
-  pub taken-counted : {w : ℕ} → w ≡ tidy h word → counts / 2 ^ (4 * w) % 16 ≡ takenOf h word
-  unfolding takenOf isTaken tidy
-  taken-counted e = rw e (eqb-true _ _ (tidy-tested h (λ v. eqb (counts / 2 ^ (4 * v) % 16) (takenOf h v)) refl word) ∙ taken-tidied)
-
   -- the first free slot, and as a number the first free record of any four
   unfoldable pub freeIn : Option ℕ
   freeIn = firstOf (λ (s : ℕ). given (not (isTaken h word s)) s) slots
@@ -65,8 +49,8 @@ module _ (h : Header) (word : ℕ) where
   of-four true true true false = refl
   of-four true true true true = refl
 
-  pub first-record : (items : List (List ℕ)) → length items ≡ 4 → Option·getD freeIn 4 ≡ lowestFree h word items
-  unfolding freeIn lowestFree
+  pub first-record : (items : List (List ℕ)) → length items ≡ 4 → lowestFree h word ≡ firstFree h word items
+  unfolding lowestFree firstFree
   first-record (i₀ ∷ i₁ ∷ i₂ ∷ i₃ ∷ []) l = of-four (isTaken h word 0) (isTaken h word 1) (isTaken h word 2) (isTaken h word 3)
   first-record [] l = absurd (omega arith)
   first-record (i₀ ∷ []) l = absurd (omega arith)
@@ -75,13 +59,13 @@ module _ (h : Header) (word : ℕ) where
   first-record (i₀ ∷ i₁ ∷ i₂ ∷ i₃ ∷ i₄ ∷ is) l = absurd (omega arith)
 
   -- the number tells whether there is a free slot
-  module _ {s : ℕ} (e : s ≡ Option·getD freeIn 4) where
+  module _ {s : ℕ} (e : s ≡ lowestFree h word) where
     pub no-free : s ≡ 4 → freeIn ≡ none
-    unfolding freeIn
+    unfolding freeIn lowestFree
     no-free q = lowest-none (λ (z : ℕ). not (isTaken h word z)) s e (omega arith)
 
     pub one-free : s < 4 → freeIn ≡ some s
-    unfolding freeIn
+    unfolding freeIn lowestFree
     one-free l = lowest-some (λ (z : ℕ). not (isTaken h word z)) s e l
 
 -- ---- the slots of a place
@@ -93,14 +77,10 @@ module _ (t : Table) (h : Header) (p : Place) where
       firstOf-map (λ (x : Slot). given (not (taken t h x)) x) (slotAt p) slots
       ∙ firstOf-given (λ (s : ℕ). not (isTaken h (tokenOf t (p .bucket)) s)) (slotAt p) slots
 
-  pub taken-in : takenIn t h p ≡ takenOf h (tokenOf t (p .bucket))
-  unfolding takenOf taken slotAt
-  taken-in = taken-count t h p ∙ sym (rw (select-length, select-length, select-length, select-length))
-
 -- ---- the free slot of a place, and of a level
 
-module _ (t : Table) (h : Header) (p : Place) {word s : ℕ} {items : List (List ℕ)} (w : word ≡ tokenOf t (p .bucket)) (b : items ≡ itemsIn t p) (e : s ≡ lowestFree h word items) where
-  number : s ≡ Option·getD (freeIn h word) 4
+module _ (t : Table) (h : Header) (p : Place) {word s : ℕ} {items : List (List ℕ)} (w : word ≡ tokenOf t (p .bucket)) (b : items ≡ itemsIn t p) (e : s ≡ firstFree h word items) where
+  number : s ≡ lowestFree h word
   unfolding itemsIn slotsIn
   number = e ∙ sym (first-record h word items (ap length b))
 

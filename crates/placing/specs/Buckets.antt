@@ -3,8 +3,7 @@
 use Prim.Native.Nat.{ℕ, suc}
 use mathlib.Core.Bool.{cond}
 use mathlib.Core.List.{List, [], _∷_, map}
-use lib.ListN.{length, getD}
-use Rattle.rules.specs.Choice.{select, from}
+use lib.ListN.{getD}
 use Rattle.rules.specs.Words.{Table, slotsIn, keyIn, recordIn, isTaken}
 use Rattle.rules.specs.declared.Header.{Header}
 use Rattle.rules.specs.declared.Place.{Place}
@@ -26,13 +25,5 @@ abbrev pub freeFrom : Header → ℕ → ℕ → List (List ℕ) → ℕ
 freeFrom h word s [] = s
 freeFrom h word s (item ∷ items) = cond (isTaken h word s) (freeFrom h word (suc s) items) s
 
-unfoldable pub lowestFree : Header → ℕ → List (List ℕ) → ℕ
-lowestFree h word items = freeFrom h word 0 items
-
--- "slots 0 to 3"
-abbrev pub slots : List ℕ
-slots = from 0 4
-
--- how many slots a token word calls taken
-unfoldable pub takenOf : Header → ℕ → ℕ
-takenOf h word = length (select (isTaken h word) slots)
+unfoldable pub firstFree : Header → ℕ → List (List ℕ) → ℕ
+firstFree h word items = freeFrom h word 0 items

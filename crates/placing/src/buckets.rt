@@ -2,8 +2,6 @@
 // slot in one.
 use reading::slots::key_at;
 use reading::slots::record_at;
-use reading::tokens::is_taken;
-use reading::tokens::tidy;
 use rules::Header;
 use rules::Place;
 use rules::Slot;
@@ -11,7 +9,7 @@ ghost use mathlib.Core.Path.{_≡_};
 ghost use Prim.Native.Nat.{_≤_};
 ghost use Rattle.rules.specs.Words.{slotAt};
 ghost use Rattle.reading.specs.Within.{BucketWithin, SlotWithin};
-ghost use Rattle.placing.specs.Buckets.{itemIn, itemsIn, lowestFree, takenOf};
+ghost use Rattle.placing.specs.Buckets.{itemIn, itemsIn, firstFree};
 
 // The record of a slot: key, function, place.
 fn item(t: &[u64], x: Slot) -> [u64; 3]
@@ -48,27 +46,9 @@ pub fn bucket(t: &[u64], p: Place) -> [[u64; 3]; 4]
 }
 
 // Slot choice where a slot is free: the "lowest free slot" of a bucket with that token word. Its number is that of the first free
-// record, or 4, one past the last record, where there is none. Every bit is asked, from the highest down, and none ends the loop:
-// which slot is free first is not to be foreseen.
+// record, or 4, one past the last record, where there is none. The token word alone tells which it is.
 pub fn lowest_free(h: Header, word: u64, items: [[u64; 3]; 4]) -> usize
-    ensures { λ r. ⌜ (r ≡ lowestFree h word items) × (r ≤ 4) ⌝ }
+    ensures { λ r. ⌜ (r ≡ firstFree h word items) × (r ≤ 4) ⌝ }
 {
-    let mut lowest = items.len();
-    for i in 0..items.len() {
-        let s = items.len() - 1 - i;
-        if !is_taken(h, word, s) {
-            lowest = s;
-        }
-    }
-    lowest
-}
-
-// How many slots each of the sixteen tidy token words says are taken: word 0 in the lowest digit, word 15 in the highest.
-const TAKEN_COUNTS: u64 = 0x4332_3221_3221_2110;
-
-// How many slots a token word says are taken.
-pub fn taken_count(h: Header, word: u64) -> u64
-    ensures { λ r. ⌜ r ≡ takenOf h word ⌝ }
-{
-    (TAKEN_COUNTS >> (4 * tidy(h, word))) % 16
+    reading::tokens::lowest_free(h, word)
 }

@@ -2,9 +2,9 @@
 use super::buckets::bucket;
 use super::buckets::lowest_free;
 use super::buckets::slot_of;
-use super::buckets::taken_count;
 use reading::places::place;
 use reading::slots::token;
+use reading::tokens::taken_count;
 use rules::Hashes;
 use rules::Header;
 use rules::Level;

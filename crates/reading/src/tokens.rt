@@ -1,12 +1,13 @@
-// What token words mean: known only here, since another form of table may keep more in them.
+// What token words hold and mean: known only here, since another form of table may keep more in them.
 use rules::Header;
 ghost use mathlib.Core.Path.{_≡_};
-ghost use Prim.Native.Nat.{_<_};
-ghost use Rattle.rules.specs.Words.{tidy as tidyWord, isTaken, show as shown, hide as hidden};
+ghost use Prim.Native.Nat.{_≤_, _<_};
+ghost use Rattle.rules.specs.Words.{keysOf, tokenNumber, isTaken, show as shown, hide as hidden, takenOf, lowestFree, lowestTaken, meant as meantWord};
+ghost use Rattle.reading.specs.Within.{BucketWithin};
 
-// "Calls read token words modulo 16"
-pub fn tidy(h: Header, word: u64) -> u64
-    ensures { λ r. ⌜ (r ≡ tidyWord h word) × (r < 16) ⌝ }
+// "Calls read token words modulo 16": the four bits.
+fn token_number(word: u64) -> u64
+    ensures { λ r. ⌜ (r ≡ tokenNumber word) × (r < 16) ⌝ }
 {
     word % 16
 }
@@ -16,7 +17,7 @@ pub fn is_taken(h: Header, word: u64, s: usize) -> bool
     requires { ⌜ s < 4 ⌝ }
     ensures { λ r. ⌜ r ≡ isTaken h word s ⌝ }
 {
-    (tidy(h, word) >> s) % 2 == 1
+    (token_number(word) >> s) % 2 == 1
 }
 
 // The token word with slot s taken by a key.
@@ -24,11 +25,11 @@ pub fn show(h: Header, word: u64, s: usize, key: u64) -> u64
     requires { ⌜ s < 4 ⌝ }
     ensures { λ r. ⌜ r ≡ shown h word s key ⌝ }
 {
-    let tidied = tidy(h, word);
+    let number = token_number(word);
     if is_taken(h, word, s) {
-        return tidied;
+        return number;
     }
-    tidied + (1u64 << s)
+    number + (1u64 << s)
 }
 
 // The token word with slot s free.
@@ -36,9 +37,57 @@ pub fn hide(h: Header, word: u64, s: usize) -> u64
     requires { ⌜ s < 4 ⌝ }
     ensures { λ r. ⌜ r ≡ hidden h word s ⌝ }
 {
-    let tidied = tidy(h, word);
+    let number = token_number(word);
     if is_taken(h, word, s) {
-        return tidied - (1u64 << s);
+        return number - (1u64 << s);
     }
-    tidied
+    number
+}
+
+// The word that should stand in bucket j, by the slots that its token word calls taken and by their keys, which play no part in form 1.
+pub fn meant(t: &[u64], h: Header, j: usize, word: u64) -> u64
+    requires { ⌜ BucketWithin (now t) j ⌝ }
+    ensures { λ r. ⌜ r ≡ meantWord h word (keysOf (now (t .entry)) j) ⌝ }
+{
+    token_number(word)
+}
+
+// How many slots each of the sixteen token numbers says are taken: number 0 in the lowest digit, number 15 in the highest.
+const TAKEN_COUNTS: u64 = 0x4332_3221_3221_2110;
+
+// How many slots a token word says are taken.
+pub fn taken_count(h: Header, word: u64) -> u64
+    ensures { λ r. ⌜ r ≡ takenOf h word ⌝ }
+{
+    (TAKEN_COUNTS >> (4 * token_number(word))) % 16
+}
+
+// The "lowest free slot", or 4 where there is none. Every bit is asked, from the highest down, and none ends the loop: which slot is
+// free first is not to be foreseen.
+pub fn lowest_free(h: Header, word: u64) -> usize
+    ensures { λ r. ⌜ (r ≡ lowestFree h word) × (r ≤ 4) ⌝ }
+{
+    let mut lowest = 4;
+    for i in 0..4 {
+        let s = 3 - i;
+        if !is_taken(h, word, s) {
+            lowest = s;
+        }
+    }
+    lowest
+}
+
+// The lowest taken slot, or 4 where there is none, which one test tells: late in a growth most interim buckets are empty.
+pub fn lowest_taken(h: Header, word: u64) -> usize
+    ensures { λ r. ⌜ r ≡ lowestTaken h word ⌝ }
+{
+    if token_number(word) == 0 {
+        return 4;
+    }
+    for s in 0..4 {
+        if is_taken(h, word, s) {
+            return s;
+        }
+    }
+    4
 }

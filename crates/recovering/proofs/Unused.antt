@@ -8,7 +8,7 @@ use native.Mathlib.Nat.{zero-add}
 use lib.Dec.{eqb}
 use borrow.Author.Tests.{eq-eqb, ne-eqb}
 use Rattle.rules.specs.Choice.{all, any, select, from}
-use Rattle.rules.specs.Words.{Table, levelsInUse, exponentInUse, bucketsOf, allBuckets, unusedBuckets, tokenOf, tidy, tidyOf}
+use Rattle.rules.specs.Words.{Table, levelsInUse, exponentInUse, bucketsOf, allBuckets, unusedBuckets, tokenOf, keysOf, meant, meantOf}
 use Rattle.rules.specs.declared.State.{State}
 use Rattle.rules.specs.declared.Header.{Header}
 use Rattle.rules.specs.declared.Level.{Level}
@@ -17,8 +17,8 @@ use Rattle.recovering.specs.Found.{tidyToken, zeroToken}
 
 -- ---- the words
 
-pub tidy-test : (t : Table) (h : Header) (j : ℕ) {word tidied : ℕ} → word ≡ tokenOf t j → tidied ≡ tidy h word → tidyToken t h (0 + j) ≡ eqb word tidied
-unfolding tidyToken tidyOf
+pub tidy-test : (t : Table) (h : Header) (j : ℕ) {word should : ℕ} → word ≡ tokenOf t j → should ≡ meant h word (keysOf t j) → tidyToken t h (0 + j) ≡ eqb word should
+unfolding tidyToken meantOf
 tidy-test t h j w d = rw (zero-add, ← w, ← d)
 
 pub zero-test : (t : Table) (j : ℕ) {word : ℕ} → word ≡ tokenOf t j → zeroToken t j ≡ eqb word 0

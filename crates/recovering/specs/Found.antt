@@ -5,7 +5,7 @@ use mathlib.Core.Bool.{Bool, cond, _&&_}
 use mathlib.Core.Option.{Option, none, some}
 use lib.Dec.{leb, eqb}
 use Rattle.rules.specs.Choice.{given, firstOf}
-use Rattle.rules.specs.Words.{Table, recordIn, tokenOf, tidyOf, sizeOf, levelsInUse}
+use Rattle.rules.specs.Words.{Table, recordIn, tokenOf, meantOf, sizeOf, levelsInUse}
 use Rattle.rules.specs.Soundness.{sameRecord}
 use Rattle.rules.specs.declared.State.{State}
 use Rattle.rules.specs.declared.Header.{Header}
@@ -24,7 +24,7 @@ use Rattle.recovering.specs.declared.target.Target.the-variants.{At, Not
 -- ---- "every token word at most 15, and 0 in levels not in use"
 
 unfoldable pub tidyToken : Table → Header → ℕ → Bool
-tidyToken t h j = eqb (tokenOf t j) (tidyOf t h j)
+tidyToken t h j = eqb (tokenOf t j) (meantOf t h j)
 
 unfoldable pub zeroToken : Table → ℕ → Bool
 zeroToken t j = eqb (tokenOf t j) 0

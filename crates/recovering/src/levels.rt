@@ -2,7 +2,7 @@
 use reading::levels::level_count;
 use reading::levels::nth_level;
 use reading::slots::token;
-use reading::tokens::tidy;
+use reading::tokens::meant;
 use rules::Header;
 use rules::State;
 use words::power;
@@ -21,7 +21,7 @@ pub fn tokens_tidy(t: &[u64], h: Header) -> bool
     let buckets = power(h.c + 1) - 1;
     for j in 0..buckets {
         let word = token(t, j);
-        if word != tidy(h, word) {
+        if word != meant(t, h, j, word) {
             return false;
         }
     }

@@ -12,10 +12,9 @@ use Rattle.rules.specs.Soundness.{PlainMap}
 use Rattle.rules.specs.declared.Slot.{Slot}
 use Rattle.rules.proofs.Addresses.{Of, off-token}
 use Rattle.rules.proofs.Made.{Each, Misses, made-kept}
-use Rattle.rules.proofs.Carried.{carried-placed}
-use Rattle.rules.proofs.Moving.{Nothing, kept-alone, kept-map}
-use Rattle.rules.proofs.Touched.{Near, touched, unseen, touched-orderly}
-use Rattle.rules.proofs.Putting.{SoundMap, token-low}
+use Rattle.rules.proofs.Moving.{kept-alone, kept-map}
+use Rattle.rules.proofs.Touched.{Near, touched, unseen, unseen-orderly}
+use Rattle.rules.proofs.Putting.{SoundMap}
 
 -- a store to the log, or to a word of slot x
 abbrev pub Hidden : Slot → Store → Type 0
@@ -56,7 +55,7 @@ module _ (t : Table) (m : PlainMap) (whole : SoundMap t m) (x : Slot) (here : In
       let flag : flagOf u ≡ 0 = made-kept t xs 5 (hidden-misses x (here .slot) 5 (not-flag x (here .slot)) xs hidden) ∙ o .flag in
       let good = o .header .state in
       let carried = unseen (headerOf t .c) t u x near good here token same in
-      let orderly = touched-orderly (headerOf t .c) t u x near good here 0 0 o (rw token (token-low 0 t o x here)) flag (carried-placed t u Nothing Nothing carried (near .header) (o .placed) (λ z a n. absurd n)) in
+      let orderly = unseen-orderly (headerOf t .c) t u x near good here 0 0 o token same flag in
       record {
         sound = record { orderly = orderly; alone = kept-alone t u _ (orderly .header .state) m (whole .map) carried (whole .sound .alone) };
         map = kept-map t u _ (orderly .header .state) m (whole .map) carried;

@@ -12,7 +12,7 @@ use lib.ListN.{length, replicate, length-replicate}
 use lib.Seq.{getD-drop}
 use borrow.Author.Tests.{leb-true, le-leb, eqb-true, eq-eqb}
 use Rattle.rules.specs.Choice.{all}
-use Rattle.rules.specs.Words.{Table, word, wordsFor, odd, capacityTests, stateOf, stateWord, headerOf, GoodHeader, flagOf, tokenOf, tokenWord, tidyOf, taken}
+use Rattle.rules.specs.Words.{Table, word, wordsFor, odd, capacityTests, stateOf, stateWord, headerOf, GoodHeader, flagOf, tokenOf, tokenWord, keysOf, taken, meantOf}
 use Rattle.rules.specs.Answers.{verdictMeans}
 use Rattle.rules.specs.Results.{createTests, created, createResult}
 use Rattle.rules.specs.Soundness.{SoundTable, TakenSlot, HasMap}
@@ -22,7 +22,7 @@ use Rattle.rules.specs.declared.Refusal.the-variants.{BadCreation}
 use Rattle.rules.specs.declared.Verdict.{Verdict}
 use Rattle.rules.specs.declared.Verdict.the-variants.{Done, Denied}
 use Rattle.rules.proofs.Lists.{never, not-some}
-use Rattle.rules.proofs.Tokens.{zero-tidy, zero-free}
+use Rattle.rules.proofs.Tokens.{zero-meant, zero-free}
 use Rattle.rules.proofs.Tests.{Tells, all-yes}
 
 module _ (size c k mul1 mul2 : ℕ) where
@@ -107,13 +107,13 @@ module _ (c k mul1 mul2 : ℕ) (u : Table) (good : GoodCreation (length u) c k m
   none-taken x s = never (s .shown) (rw (no-token (x .bucket)) (zero-free (headerOf u) (x .slot)))
 
   created-sound : SoundTable u
-  unfolding flagOf tidyOf
+  unfolding flagOf meantOf
   created-sound =
       record {
         orderly = record {
           header = header-good;
           flag = made .zeros 5 (omega arith);
-          tidied = λ j h. rw (no-token j, zero-tidy);
+          tidied = λ j h. rw (no-token j) (zero-meant (headerOf u) (keysOf u j));
           unused = λ j h d. no-token j;
           placed = λ x s. absurd (none-taken x s);
         };

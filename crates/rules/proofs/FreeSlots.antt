@@ -1,8 +1,8 @@
 -- The lowest free slot of a bucket: where there is one it is free, and every lower slot of the bucket is taken; where there is
 -- none every slot is taken. And how many are taken.
 -- Assumes nothing.
-use Prim.Native.Nat.{_+_, _<_}
-use mathlib.Core.Path.{_≡_, ap, _∙_}
+use Prim.Native.Nat.{ℕ, _+_, _<_}
+use mathlib.Core.Path.{_≡_, sym, ap, _∙_}
 use mathlib.Core.Bool.{Bool, true, false, not}
 use mathlib.Core.List.{[], _∷_, _++_, List·Memᴰ as In, List·Memᴰ·cases-cons, List·Memᴰ·append-cases}
 use mathlib.Core.Logic.{_⊎_, inl, inr}
@@ -10,7 +10,7 @@ use mathlib.Core.Option.{none, some}
 use native.Mathlib.Omega.{arith}
 use borrow.Author.Tests.{not-true, not-false}
 use Rattle.rules.specs.Choice.{given, firstOf}
-use Rattle.rules.specs.Words.{Table, slotAt, slotsIn, placeOf, taken}
+use Rattle.rules.specs.Words.{Table, slotAt, slotsIn, placeOf, tokenOf, isTaken, takenOf, taken}
 use Rattle.rules.specs.Placing.{takenIn, freeSlot}
 use Rattle.rules.specs.declared.Header.{Header}
 use Rattle.rules.specs.declared.Place.{Place}
@@ -61,6 +61,11 @@ module _ (q : Slot → Bool) (p : Place) where
   pub lowest-passing : (s : Slot) → firstOf (λ (x : Slot). given (q x) x) (slotsIn p) ≡ some s → LowestPassing s
   lowest-passing s e = passing-of s (firstOf-some (λ (x : Slot). given (q x) x) (slotsIn p) s e)
 
+-- how many slots a token word calls taken, one by one
+pub taken-sum : (h : Header) (w : ℕ) → takenOf h w ≡ one (isTaken h w 0) + (one (isTaken h w 1) + (one (isTaken h w 2) + (one (isTaken h w 3) + 0)))
+unfolding takenOf
+taken-sum h w = rw (select-length, select-length, select-length, select-length)
+
 -- slot s of place p is its lowest free one
 pub record Lowest (t : Table) (h : Header) (p : Place) (s : Slot) : Type 0 where
   pub place : placeOf s ≡ p
@@ -80,10 +85,10 @@ module _ (t : Table) (h : Header) (p : Place) where
         lower = λ y i l. not-false (taken t h y) (f .lower y i l);
       }
 
-  -- how many slots are taken
-  pub taken-count : takenIn t h p ≡ one (taken t h (slotAt p 0)) + (one (taken t h (slotAt p 1)) + (one (taken t h (slotAt p 2)) + (one (taken t h (slotAt p 3)) + 0)))
-  unfolding takenIn slotsIn
-  taken-count = rw (select-length, select-length, select-length, select-length)
+  -- as many slots are taken as the bucket's token word says
+  pub taken-in : takenIn t h p ≡ takenOf h (tokenOf t (p .bucket))
+  unfolding takenIn slotsIn slotAt taken
+  taken-in = rw (select-length, select-length, select-length, select-length) (sym (taken-sum h (tokenOf t (p .bucket))))
 
   pub all-taken : freeSlot t h p ≡ none → (s : Slot) → In s (slotsIn p) → taken t h s ≡ true
   unfolding freeSlot

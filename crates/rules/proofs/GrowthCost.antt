@@ -12,7 +12,7 @@ use lib.ListN.{length}
 use lib.Pow.{pow-pos, pow-add}
 use borrow.Author.Tests.{eqb-true}
 use Rattle.rules.specs.Choice.{from}
-use Rattle.rules.specs.Words.{Table, GoodHeader, headerOf, flagOf, atRest, stateWord, sizeOf, interimOf, bucketsOf, InLevel, placeOf, keyIn, tokenOf}
+use Rattle.rules.specs.Words.{Table, GoodHeader, headerOf, flagOf, atRest, stateWord, sizeOf, interimOf, bucketsOf, InLevel, placeOf, keyIn, tokenOf, takenOf}
 use Rattle.rules.specs.Places.{lookup}
 use Rattle.rules.specs.Placing.{freeSlot, placing}
 use Rattle.rules.specs.Stores.{Store, placingStores, updateStores, stepStores, made}
@@ -42,7 +42,7 @@ use Rattle.rules.proofs.StoreLists.{listed-one, never-listed, storesAsW
 use Rattle.rules.proofs.StoreNumbers.{storeNumbers}
 use Rattle.rules.proofs.Inside.{accepted-header}
 use Rattle.rules.proofs.MadeLists.{storesOf, reported-stores, after-whole, accepted-lists, lists-accepted}
-use Rattle.rules.proofs.InterimBits.{total, total-least, total-less, total-most, bitsOf, bits-most}
+use Rattle.rules.proofs.InterimBits.{total, total-least, total-less, total-most, taken-most}
 use Rattle.rules.proofs.InterimKept.{Shrinks, Steps, keeps-shrinks, placing-keeps, clear-shrinks, update-shrinks, redo-shrinks, step-less}
 
 -- ---- the calls that leave the state: their stores, on a table that they accept
@@ -125,7 +125,7 @@ module _ (t : Table) (n : ℕ) (growing : Growing t) where
 -- ---- the items of the interim level
 
 unfoldable count : Table → ℕ
-count t = total (λ (j : ℕ). bitsOf (headerOf t) (tokenOf t j)) (bucketsOf (sizeOf (interimOf (headerOf t .state))))
+count t = total (λ (j : ℕ). takenOf (headerOf t) (tokenOf t j)) (bucketsOf (sizeOf (interimOf (headerOf t .state))))
 
 in-interim : (s : State) (j : ℕ) → In j (bucketsOf (sizeOf (interimOf s))) → InLevel (interimOf s) j
 unfolding bucketsOf
@@ -139,12 +139,12 @@ module _ (t u : Table) where
   shrinks-count : Shrinks t u → count u ≤ count t
   unfolding count
   shrinks-count s =
-      rw (s .header) (total-least (λ j. bitsOf (headerOf t) (tokenOf u j)) (λ j. bitsOf (headerOf t) (tokenOf t j)) (bucketsOf (sizeOf (interimOf (headerOf t .state)))) (λ j i. s .bits j (in-interim (headerOf t .state) j i)))
+      rw (s .header) (total-least (λ j. takenOf (headerOf t) (tokenOf u j)) (λ j. takenOf (headerOf t) (tokenOf t j)) (bucketsOf (sizeOf (interimOf (headerOf t .state)))) (λ j i. s .bits j (in-interim (headerOf t .state) j i)))
 
   steps-count : (x : Slot) → Steps t u x → count u + 1 ≤ count t
   unfolding count
   steps-count x s =
-      rw (s .shrinks .header) (total-less (λ j. bitsOf (headerOf t) (tokenOf u j)) (λ j. bitsOf (headerOf t) (tokenOf t j)) (bucketsOf (sizeOf (interimOf (headerOf t .state))))
+      rw (s .shrinks .header) (total-less (λ j. takenOf (headerOf t) (tokenOf u j)) (λ j. takenOf (headerOf t) (tokenOf t j)) (bucketsOf (sizeOf (interimOf (headerOf t .state))))
       (λ j i. s .shrinks .bits j (in-interim (headerOf t .state) j i)) (x .bucket) (interim-in (headerOf t .state) (x .bucket) (s .range)) (s .less))
 
   still-growing : headerOf u ≡ headerOf t → Growing t → Growing u
@@ -235,7 +235,7 @@ spent-most (whole q l ∷ es) t growing p o = go (outcome t (length l) q) refl o
 -- the interim level's buckets have four slots each
 count-most : (t : Table) → count t ≤ 4 * sizeOf (interimOf (headerOf t .state))
 unfolding count bucketsOf
-count-most t = total-most (λ j. bitsOf (headerOf t) (tokenOf t j)) 4 (λ j. bits-most (headerOf t) (tokenOf t j)) _ (sizeOf (interimOf (headerOf t .state)))
+count-most t = total-most (λ j. takenOf (headerOf t) (tokenOf t j)) 4 (λ j. taken-most (headerOf t) (tokenOf t j)) _ (sizeOf (interimOf (headerOf t .state)))
 
 -- after begin the state is k + 1, phase 1
 begun : (t : Table) (n : ℕ) (xs : List Store) → outcome t n begin ≡ listed xs → (length xs ≡ 1) × (headerOf (made t xs) .state ≡ record { k = headerOf t .state .k + 1; phase = 1 })

@@ -28,7 +28,7 @@ use Rattle.rules.proofs.Addresses.{Of, off-token}
 use Rattle.rules.proofs.Made.{Each, each-in, each-append}
 use Rattle.rules.proofs.Checked.{checked-passed}
 use Rattle.rules.proofs.Headers.{good-header, header-fits}
-use Rattle.rules.proofs.Tokens.{show-bit, hide-bit}
+use Rattle.rules.proofs.Tokens.{Stored, show-bit, hide-bit}
 use Rattle.rules.proofs.FreeSlots.{free-slot}
 use Rattle.rules.proofs.PlacesInUse.{among-used, place-of-slot, slot-of-place, slot-within}
 use Rattle.rules.proofs.Placings.{placing-free, placing-move}
@@ -39,36 +39,36 @@ use Rattle.rules.proofs.StoreLists.{storesAsWritten}
 -- ---- kinds of stores, in a table of so many words
 
 module _ (size : ℕ) where
-  -- it lies in the table; where it is to a token word, it is below 16
+  -- it lies in the table; where it is to a token word, it is what a store may write there
   record Fits (x : Store) : Type 0 where
     inside : x .0 < size
-    low : (j : ℕ) → x .0 ≡ bucketStart j → x .1 < 16
+    token : (j : ℕ) → x .0 ≡ bucketStart j → Stored (x .1)
 
   abbrev AllFit : List Store → Type 0
   AllFit = Each Fits
 
   header-store : (w v : ℕ) → w < 9 → 9 ≤ size → Fits (w, v)
   unfolding tokenWord
-  header-store w v l h = record { inside = omega arith; low = λ j e. absurd (omega arith) }
+  header-store w v l h = record { inside = omega arith; token = λ j e. absurd (omega arith) }
 
   -- a slot of a bucket in the table
   module _ (x : Slot) (within : (9 + 13 * x .bucket + 13 ≤ size) × (x .slot < 4)) where
     slot-store : (w v : ℕ) → Of x w → Fits (w, v)
     unfolding keyWord tokenWord
-    slot-store w v l = record { inside = omega arith; low = λ j e. absurd (off-token x j w (within .1) l e) }
+    slot-store w v l = record { inside = omega arith; token = λ j e. absurd (off-token x j w (within .1) l e) }
 
-    token-store : (v : ℕ) → v < 16 → Fits (tokenWord (x .bucket), v)
+    token-store : (v : ℕ) → Stored v → Fits (tokenWord (x .bucket), v)
     unfolding tokenWord
-    token-store v l = record { inside = omega arith; low = λ j e. l }
+    token-store v l = record { inside = omega arith; token = λ j e. l }
 
     put-each : (h : Header) (w key : ℕ) (r : Record) → AllFit (recordStores h w x key r)
     unfolding keyWord tokenWord
     put-each h w key r =
-        (slot-store _ key (omega arith), (slot-store _ (r .function) (omega arith), (slot-store _ (r .place) (omega arith), (token-store _ (show-bit h w (x .slot) key (within .1) .low), tt))))
+        (slot-store _ key (omega arith), (slot-store _ (r .function) (omega arith), (slot-store _ (r .place) (omega arith), (token-store _ (show-bit h w (x .slot) key (within .1) .stored), tt))))
 
     clear-each : (h : Header) (w : ℕ) → AllFit ((bucketStart (x .bucket), hide h w (x .slot)) ∷ [])
     unfolding tokenWord
-    clear-each h w = (token-store _ (hide-bit h w (x .slot) (within .1) .low), tt)
+    clear-each h w = (token-store _ (hide-bit h w (x .slot) (within .1) .stored), tt)
 
     redo-each : (function place : ℕ) → 9 ≤ size → AllFit ((slotStart x + 1, function) ∷ (slotStart x + 2, place) ∷ (5, 0) ∷ [])
     unfolding keyWord tokenWord
@@ -158,4 +158,4 @@ pub storesInside : StoresInside
 storesInside t n q xs e x i = listed-fits t n q xs e x i .inside
 
 pub tokenStoresLow : TokenStoresLow
-tokenStoresLow t n q xs e x i = listed-fits t n q xs e x i .low
+tokenStoresLow t n q xs e x i = listed-fits t n q xs e x i .token

@@ -8,9 +8,10 @@ use mathlib.Core.List.{List, [], _∷_, List·Memᴰ as In, List·Memᴰ·head a
 use mathlib.Core.Logic.{_⊎_, inl, inr}
 use native.Mathlib.Omega.{arith}
 use Rattle.rules.specs.Choice.{from}
-use Rattle.rules.specs.Words.{isTaken, show, hide}
+use Rattle.rules.specs.Words.{slots, isTaken, show, hide, takenOf}
 use Rattle.rules.specs.declared.Header.{Header}
-use Rattle.rules.proofs.Lists.{one}
+use Rattle.rules.proofs.Lists.{one, select-most}
+use Rattle.rules.proofs.FreeSlots.{taken-sum}
 use Rattle.rules.proofs.Tokens.{Bit, show-bit, hide-bit}
 
 -- ---- sums over buckets
@@ -38,34 +39,26 @@ total-most f most h a (suc n) = omega (arith, h a, total-most f most h (suc a) n
 
 -- ---- the taken slots of a token word
 
-unfoldable pub bitsOf : Header → ℕ → ℕ
-bitsOf h w = one (isTaken h w 0) + (one (isTaken h w 1) + (one (isTaken h w 2) + one (isTaken h w 3)))
-
-one-most : (b : Bool) → one b ≤ 1
-one-most true = omega arith
-one-most false = omega arith
-
-pub bits-most : (h : Header) (w : ℕ) → bitsOf h w ≤ 4
-unfolding bitsOf
-bits-most h w = omega (arith, one-most (isTaken h w 0), one-most (isTaken h w 1), one-most (isTaken h w 2), one-most (isTaken h w 3))
+pub taken-most : (h : Header) (w : ℕ) → takenOf h w ≤ 4
+unfolding takenOf
+taken-most h w = select-most (isTaken h w) slots
 
 -- a word with one bit changed counts that bit otherwise, and the rest alike
 module _ (h : Header) (w v : ℕ) (b : Bool) where
-  bits-changed : (s : ℕ) → s < 4 → Bit h w v s b → bitsOf h v + one (isTaken h w s) ≡ bitsOf h w + one b
-  unfolding bitsOf
-  bits-changed zero l bit = rw (bit .here, bit .other 1 (omega arith) (λ e. omega arith), bit .other 2 (omega arith) (λ e. omega arith), bit .other 3 (omega arith) (λ e. omega arith)) (omega arith)
-  bits-changed (suc zero) l bit = rw (bit .here, bit .other 0 (omega arith) (λ e. omega arith), bit .other 2 (omega arith) (λ e. omega arith), bit .other 3 (omega arith) (λ e. omega arith)) (omega arith)
-  bits-changed (suc (suc zero)) l bit = rw (bit .here, bit .other 0 (omega arith) (λ e. omega arith), bit .other 1 (omega arith) (λ e. omega arith), bit .other 3 (omega arith) (λ e. omega arith)) (omega arith)
-  bits-changed (suc (suc (suc zero))) l bit = rw (bit .here, bit .other 0 (omega arith) (λ e. omega arith), bit .other 1 (omega arith) (λ e. omega arith), bit .other 2 (omega arith) (λ e. omega arith)) (omega arith)
-  bits-changed (suc (suc (suc (suc s)))) l bit = absurd (omega arith)
+  taken-changed : (s : ℕ) → s < 4 → Bit h w v s b → takenOf h v + one (isTaken h w s) ≡ takenOf h w + one b
+  taken-changed zero l bit = rw (taken-sum h v, taken-sum h w, bit .here, bit .other 1 (omega arith) (λ e. omega arith), bit .other 2 (omega arith) (λ e. omega arith), bit .other 3 (omega arith) (λ e. omega arith)) (omega arith)
+  taken-changed (suc zero) l bit = rw (taken-sum h v, taken-sum h w, bit .here, bit .other 0 (omega arith) (λ e. omega arith), bit .other 2 (omega arith) (λ e. omega arith), bit .other 3 (omega arith) (λ e. omega arith)) (omega arith)
+  taken-changed (suc (suc zero)) l bit = rw (taken-sum h v, taken-sum h w, bit .here, bit .other 0 (omega arith) (λ e. omega arith), bit .other 1 (omega arith) (λ e. omega arith), bit .other 3 (omega arith) (λ e. omega arith)) (omega arith)
+  taken-changed (suc (suc (suc zero))) l bit = rw (taken-sum h v, taken-sum h w, bit .here, bit .other 0 (omega arith) (λ e. omega arith), bit .other 1 (omega arith) (λ e. omega arith), bit .other 2 (omega arith) (λ e. omega arith)) (omega arith)
+  taken-changed (suc (suc (suc (suc s)))) l bit = absurd (omega arith)
 
 module _ (h : Header) (w s : ℕ) (low : s < 4) where
-  pub hide-fewer : bitsOf h (hide h w s) ≤ bitsOf h w
-  hide-fewer = omega (arith, bits-changed h w (hide h w s) false s low (hide-bit h w s low))
+  pub hide-fewer : takenOf h (hide h w s) ≤ takenOf h w
+  hide-fewer = omega (arith, taken-changed h w (hide h w s) false s low (hide-bit h w s low))
 
-  pub hide-less : isTaken h w s ≡ true → bitsOf h (hide h w s) + 1 ≤ bitsOf h w
-  hide-less e = omega (arith, (rw e at (bits-changed h w (hide h w s) false s low (hide-bit h w s low))))
+  pub hide-less : isTaken h w s ≡ true → takenOf h (hide h w s) + 1 ≤ takenOf h w
+  hide-less e = omega (arith, (rw e at (taken-changed h w (hide h w s) false s low (hide-bit h w s low))))
 
   -- one set and one cleared
-  pub beside-fewer : isTaken h w s ≡ true → (z key : ℕ) → z < 4 → bitsOf h (show h (hide h w s) z key) ≤ bitsOf h w
-  beside-fewer e z key l = omega (arith, hide-less e, bits-changed h (hide h w s) (show h (hide h w s) z key) true z l (show-bit h (hide h w s) z key l))
+  pub beside-fewer : isTaken h w s ≡ true → (z key : ℕ) → z < 4 → takenOf h (show h (hide h w s) z key) ≤ takenOf h w
+  beside-fewer e z key l = omega (arith, hide-less e, taken-changed h (hide h w s) (show h (hide h w s) z key) true z l (show-bit h (hide h w s) z key l))

@@ -9,7 +9,7 @@ use mathlib.Core.Option.{Option, none, some}
 use native.Mathlib.Omega.{arith}
 use native.Mathlib.Decide.{ℕ-discrete}
 use lib.ListN.{length}
-use Rattle.rules.specs.Words.{Table, GoodHeader, headerOf, flagOf, interim, topOf, bottomOf, interimOf, levelsInUse, InLevel, InUse, placeOf, tokenWord, keyWord, functionWord, placeWord, keyIn, recordIn, tokenOf, hide, taken}
+use Rattle.rules.specs.Words.{Table, GoodHeader, headerOf, flagOf, interim, topOf, bottomOf, interimOf, levelsInUse, InLevel, InUse, placeOf, tokenWord, keyWord, functionWord, placeWord, keyIn, recordIn, tokenOf, hide, takenOf, taken}
 use Rattle.rules.specs.Placing.{freeSlot, placing}
 use Rattle.rules.specs.Stores.{putStores, clearStores, moveStores, placingStores, redoStores, updateWith, stepStores, made}
 use Rattle.rules.specs.Soundness.{TakenSlot}
@@ -29,7 +29,7 @@ use Rattle.rules.proofs.StoreKinds.{SlotWritten, put-written, clear-wri
 use Rattle.rules.proofs.Putting.{place-bucket}
 use Rattle.rules.proofs.BeginEnd.{growing-interim}
 use Rattle.rules.proofs.GrowthSteps.{Settled, not-interim}
-use Rattle.rules.proofs.InterimBits.{bitsOf, hide-fewer, hide-less, beside-fewer}
+use Rattle.rules.proofs.InterimBits.{hide-fewer, hide-less, beside-fewer}
 
 -- the interim level's token words stay
 pub record Keeps (t u : Table) : Type 0 where
@@ -40,13 +40,13 @@ pub record Keeps (t u : Table) : Type 0 where
 -- none of them has more slots taken
 pub record Shrinks (t u : Table) : Type 0 where
   pub header : headerOf u ≡ headerOf t
-  pub bits : (j : ℕ) → InLevel (interimOf (headerOf t .state)) j → bitsOf (headerOf t) (tokenOf u j) ≤ bitsOf (headerOf t) (tokenOf t j)
+  pub bits : (j : ℕ) → InLevel (interimOf (headerOf t .state)) j → takenOf (headerOf t) (tokenOf u j) ≤ takenOf (headerOf t) (tokenOf t j)
 
 -- and that of slot x's bucket has fewer
 pub record Steps (t u : Table) (x : Slot) : Type 0 where
   pub shrinks : Shrinks t u
   pub range : InLevel (interimOf (headerOf t .state)) (x .bucket)
-  pub less : bitsOf (headerOf t) (tokenOf u (x .bucket)) + 1 ≤ bitsOf (headerOf t) (tokenOf t (x .bucket))
+  pub less : takenOf (headerOf t) (tokenOf u (x .bucket)) + 1 ≤ takenOf (headerOf t) (tokenOf t (x .bucket))
 
 pub keeps-shrinks : (t u : Table) → Keeps t u → Shrinks t u
 keeps-shrinks t u k = record { header = k .header; bits = λ j r. rw (k .tokens j r) (omega arith) }
@@ -69,10 +69,10 @@ module _ (t u : Table) (x : Slot) (v k : ℕ) (r : Record) (written : SlotWritte
   written-keeps : (InLevel (interimOf (headerOf t .state)) (x .bucket) → ⊥) → Keeps t u
   written-keeps far = record { long = written .near .long; header = written .near .header; tokens = λ j range. written .near .tokens j (λ e. far (rw e at range)) }
 
-  written-shrinks : bitsOf (headerOf t) v ≤ bitsOf (headerOf t) (tokenOf t (x .bucket)) → Shrinks t u
+  written-shrinks : takenOf (headerOf t) v ≤ takenOf (headerOf t) (tokenOf t (x .bucket)) → Shrinks t u
   written-shrinks few = record { header = written .near .header; bits = λ j range. go j (ℕ-discrete j (x .bucket)) }
     where
-      go : (j : ℕ) → Dec (j ≡ x .bucket) → bitsOf (headerOf t) (tokenOf u j) ≤ bitsOf (headerOf t) (tokenOf t j)
+      go : (j : ℕ) → Dec (j ≡ x .bucket) → takenOf (headerOf t) (tokenOf u j) ≤ takenOf (headerOf t) (tokenOf t j)
       go j (yes e) = rw (e, written .token) few
       go j (no n) = rw (written .near .tokens j n) (omega arith)
 
@@ -147,7 +147,7 @@ module _ (t : Table) (good : GoodHeader (length t) (headerOf t)) (growing : Grow
       record { header = near .header; bits = λ j range. go near token j (ℕ-discrete j (x .bucket)) }
     where
       go : Touched t (made t (redoStores x r)) x → tokenOf (made t (redoStores x r)) (x .bucket) ≡ tokenOf t (x .bucket) → (j : ℕ) → Dec (j ≡ x .bucket)
-          → bitsOf (headerOf t) (tokenOf (made t (redoStores x r)) j) ≤ bitsOf (headerOf t) (tokenOf t j)
+          → takenOf (headerOf t) (tokenOf (made t (redoStores x r)) j) ≤ takenOf (headerOf t) (tokenOf t j)
       go near token j (yes e) = rw (e, token) (omega arith)
       go near token j (no n) = rw (near .tokens j n) (omega arith)
 
@@ -163,7 +163,7 @@ module _ (t : Table) (good : GoodHeader (length t) (headerOf t)) (growing : Grow
       let token = k .tokens (x .bucket) range in
       let clear = clear-written (made t puts) x (used .slot) (rw (k .long) (within x used)) h (tokenOf t (x .bucket)) in
       let whole = made-append t puts (clearStores h (tokenOf t (x .bucket)) x) in
-      let fewer : bitsOf h (hide h (tokenOf t (x .bucket)) (x .slot)) ≤ bitsOf h (tokenOf t (x .bucket)) = hide-fewer h (tokenOf t (x .bucket)) (x .slot) (used .slot) in
+      let fewer : takenOf h (hide h (tokenOf t (x .bucket)) (x .slot)) ≤ takenOf h (tokenOf t (x .bucket)) = hide-fewer h (tokenOf t (x .bucket)) (x .slot) (used .slot) in
       let second = written-shrinks (made t puts) _ x _ _ _ clear (rw (k .header, token) fewer) in
       rw whole (record {
         shrinks = shrinks-twice t (made t puts) _ (keeps-shrinks t (made t puts) k) second;

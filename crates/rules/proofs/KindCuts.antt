@@ -21,12 +21,12 @@ use Rattle.rules.proofs.Lists.{never}
 use Rattle.rules.proofs.Made.{Each, Misses, made-append, made-kept, made-left}
 use Rattle.rules.proofs.Cuts.{EveryCut, cuts-append, cuts-weaken}
 use Rattle.rules.proofs.PlacesInUse.{slot-within}
-use Rattle.rules.proofs.Carried.{carried-placed, carried-stays}
+use Rattle.rules.proofs.Carried.{carried-stays}
 use Rattle.rules.proofs.Moving.{Nothing, kept-alone}
-use Rattle.rules.proofs.Touched.{Touched, touched, unseen, touched-orderly}
+use Rattle.rules.proofs.Touched.{Touched, touched, unseen, unseen-orderly}
 use Rattle.rules.proofs.StoreKinds.{record-parts}
 use Rattle.rules.proofs.Blank.{Hidden, blank-sound}
-use Rattle.rules.proofs.Putting.{SoundMap, token-low, put-twin, log-sound}
+use Rattle.rules.proofs.Putting.{SoundMap, put-twin, log-sound}
 use Rattle.rules.proofs.ItemMoved.{move-whole}
 use Rattle.rules.proofs.Mending.{RedoMap, Mends, asSound, asTwin, redo-cuts}
 
@@ -110,8 +110,7 @@ module _ (t : Table) (m : PlainMap) (whole : SoundMap t m) (x : Slot) (item : Ta
       let good = o .header .state in
       let carried = unseen (headerOf t .c) t u x log-near good (item .used) log-token (λ q. kept) in
       let flag = made-left t logged 5 1 (omega (arith, within)) (inr (inr (inr (inl (refl, refl, tt))))) in
-      let placed = carried-placed t u Nothing Nothing carried (log-near .header) (o .placed) (λ z a n. absurd n) in
-      let orderly = touched-orderly (headerOf t .c) t u x log-near good (item .used) 0 1 o (rw log-token (token-low 0 t o x (item .used))) flag placed in
+      let orderly = unseen-orderly (headerOf t .c) t u x log-near good (item .used) 0 1 o log-token (λ q. kept) flag in
       record {
         orderly = orderly;
         alone = kept-alone t u _ (orderly .header .state) m (whole .map) carried (whole .sound .alone);

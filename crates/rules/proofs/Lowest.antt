@@ -3,18 +3,16 @@
 use Prim.Native.Nat.{ℕ, _+_, _≤_, _<_}
 use mathlib.Core.Path.{_≡_, refl, ap, _∙_}
 use mathlib.Core.Bool.{Bool, true, false}
-use mathlib.Core.List.{List, _∷_}
+use mathlib.Core.List.{_∷_}
 use mathlib.Core.Option.{Option, none, some, Option·getD}
 use native.Mathlib.Nat.{zero-add}
 use native.Mathlib.Omega.{arith}
 use lib.ListN.{drop}
-use Rattle.rules.specs.Choice.{given, firstOf, from}
+use Rattle.rules.specs.Choice.{given, firstOf}
+use Rattle.rules.specs.Words.{slots, lowest}
 use Rattle.rules.proofs.Lists.{firstOf-some, given-some, from-in}
 use Rattle.rules.proofs.Walks.{from-next, from-end}
 use Rattle.rules.proofs.Along.{along, along-all, along-pass, along-hit, along-over}
-
-abbrev pub slots : List ℕ
-slots = from 0 4
 
 -- slot s of them, and those after it
 slot-next : (s : ℕ) → s < 4 → drop s slots ≡ s ∷ drop (s + 1) slots
@@ -28,7 +26,7 @@ module _ (p : ℕ → Bool) where
   pub lowestFrom : ℕ → ℕ
   lowestFrom s = Option·getD (along passing slots s) 4
 
-  pub lowest-all : Option·getD (firstOf passing slots) 4 ≡ lowestFrom 0
+  pub lowest-all : lowest p ≡ lowestFrom 0
   unfolding lowestFrom
   lowest-all = ap (λ (o : Option ℕ). Option·getD o 4) (along-all passing slots)
 
@@ -47,14 +45,14 @@ module _ (p : ℕ → Bool) where
 
   -- what the number n means: a slot where it is below 4
   module _ (n : ℕ) where
-    pub lowest-some : n ≡ Option·getD (firstOf passing slots) 4 → n < 4 → firstOf passing slots ≡ some n
+    pub lowest-some : n ≡ lowest p → n < 4 → firstOf passing slots ≡ some n
     lowest-some e l = go (firstOf passing slots) e
       where
         go : (o : Option ℕ) → n ≡ Option·getD o 4 → o ≡ some n
         go (some s) q = rw q
         go none q = absurd (omega arith)
 
-    pub lowest-none : n ≡ Option·getD (firstOf passing slots) 4 → 4 ≤ n → firstOf passing slots ≡ none
+    pub lowest-none : n ≡ lowest p → 4 ≤ n → firstOf passing slots ≡ none
     lowest-none e l = go (firstOf passing slots) refl e
       where
         go : (o : Option ℕ) → firstOf passing slots ≡ o → n ≡ Option·getD o 4 → o ≡ none

@@ -8,7 +8,7 @@ use mathlib.Core.Logic.{_⊎_, inl, inr, ⊎-elim}
 use native.Mathlib.Omega.{arith}
 use lib.ListN.{length, set}
 use lib.Seq.{set-set, set-comm}
-use Rattle.rules.specs.Words.{Table, word, taken, GoodHeader, headerOf, flagOf, targetOf, loggedOf, InUse, tokenWord, keyWord, functionWord, placeWord, keyIn, recordIn, tokenOf}
+use Rattle.rules.specs.Words.{Table, word, taken, GoodHeader, headerOf, flagOf, targetOf, loggedOf, InUse, tokenWord, keyWord, functionWord, placeWord, keyIn, recordIn, tokenOf, keysOf}
 use Rattle.rules.specs.Stores.{Store, clearStores, redoStores, made}
 use Rattle.rules.specs.Soundness.{PlainMap, Before, twins, DoubledTable, FlaggedTable}
 use Rattle.rules.specs.Calls.{listed, recover, recoverOf, outcome}
@@ -24,13 +24,14 @@ use Rattle.rules.proofs.Lookups.{placed-in}
 use Rattle.rules.proofs.Carried.{carried-alone}
 use Rattle.rules.proofs.Touched.{Near, touched}
 use Rattle.rules.proofs.StoreKinds.{SlotWritten}
+use Rattle.rules.proofs.Tokens.{kept-follows}
 use Rattle.rules.proofs.SlotChanged.{shown-after, rewrite-carried, written-orderly, placed-here}
 use Rattle.rules.proofs.Twins.{same-or-twins, twins-ordered}
 use Rattle.rules.proofs.Findings.{KindOf, kind-found, recover-passes}
 use Rattle.rules.proofs.Moving.{Only, map-value}
 use Rattle.rules.proofs.MadeLists.{storesOf, after-whole}
 use Rattle.rules.proofs.Cuts.{EveryCut}
-use Rattle.rules.proofs.Putting.{SoundMap, TwinMap, token-low, clear-twin, twin-turned}
+use Rattle.rules.proofs.Putting.{SoundMap, TwinMap, clear-twin, twin-turned}
 
 -- flag 1 with a good log, which made brings the map
 pub record RedoMap (t : Table) (m : PlainMap) (x : Slot) : Type 0 where
@@ -136,15 +137,14 @@ module _ (t : Table) (x : Slot) (f : FlaggedTable t x) (xs : List Store) (record
 
   -- flag, log, token and key stay
   still-flagged : FlaggedTable (made t xs) x
-  unfolding targetOf keyWord tokenWord taken
+  unfolding targetOf keysOf keyIn keyWord tokenWord taken
   still-flagged =
       let u = made t xs in
       let o = f .orderly in
       let r = recordIn u x in
       let carried = rewrite-carried 1 t u x _ (keyIn t x) r o used rewritten refl in
-      let low = token-low 1 t o x used in
-      let placed = placed-here 1 t u x _ (keyIn t x) r o used rewritten low (placed-in 1 t o x (f .named)) in
-      let orderly = written-orderly 1 t u x _ (keyIn t x) r o used rewritten low (Only x) (Only x) carried placed in
+      let placed = placed-here 1 t u x _ (keyIn t x) r o used rewritten (placed-in 1 t o x (f .named)) in
+      let orderly = written-orderly 1 t u x _ (keyIn t x) r o used rewritten (kept-follows (headerOf t) _ _ _ (x .slot) _ (λ q. refl)) (Only x) (Only x) carried placed in
       record {
         orderly = orderly;
         alone = carried-alone t u (Only x) (Only x) carried _ (orderly .header .state) (λ a b p q d e k. f .alone a b p q k) (λ a b p q. p ∙ sym q)

@@ -2,15 +2,14 @@
 -- one that it replaces with one token store, a record rewritten. A record that is put while another slot has its key makes a twin, and
 -- clearing either of the two gives the map back.
 -- Assumes nothing.
-use Prim.Native.Nat.{ℕ, _+_, _-_, _*_, _^_, _≤_, _<_}
+use Prim.Native.Nat.{ℕ, _+_, _*_, _≤_, _<_}
 use mathlib.Core.Path.{_≡_, refl, sym, ap, _∙_}
 use mathlib.Core.Bool.{true, false}
 use mathlib.Core.List.{_∷_, List·Memᴰ as In}
 use mathlib.Core.Logic.{_⊎_, inl, inr}
 use mathlib.Core.Option.{none, some}
-use native.Mathlib.Omega.{arith}
 use lib.ListN.{length}
-use Rattle.rules.specs.Words.{Table, wordsFor, GoodState, headerOf, InUse, placeOf, keyWord, keyIn, recordIn, tokenOf, tidyOf, isTaken, taken, show, hide}
+use Rattle.rules.specs.Words.{Table, GoodState, headerOf, InUse, placeOf, keyWord, keyIn, recordIn, tokenOf, keysOf, isTaken, taken, show, hide}
 use Rattle.rules.specs.Places.{placesOf}
 use Rattle.rules.specs.Stores.{putStores, clearStores, redoStores, made}
 use Rattle.rules.specs.Soundness.{TakenSlot, OrderlyTable, SoundTable, PlainMap, HasMap}
@@ -19,7 +18,7 @@ use Rattle.rules.specs.declared.Place.{Place}
 use Rattle.rules.specs.declared.Slot.{Slot}
 use Rattle.rules.specs.declared.Record.{Record}
 use Rattle.rules.proofs.Lists.{never}
-use Rattle.rules.proofs.Tokens.{Bit, tidy-low, show-bit, hide-bit}
+use Rattle.rules.proofs.Tokens.{Bit, Follows, show-bit, hide-bit, kept-follows, show-follows, hide-follows, beside-follows}
 use Rattle.rules.proofs.SlotsInUse.{slots-of-place}
 use Rattle.rules.proofs.PlacesInUse.{slot-within, place-of-slot, slot-of-place}
 use Rattle.rules.proofs.Lookups.{placed-in}
@@ -75,7 +74,7 @@ module _ (t : Table) (m : PlainMap) (whole : SoundMap t m) where
     put-shown = shown-after 0 t put x _ key r orderly here put-writes (bit .here)
 
     put-orderly : OrderlyTable 0 put
-    put-orderly = written-orderly 0 t put x _ key r orderly here put-writes (bit .low) Nothing (Only x) put-carries (placed-here 0 t put x _ key r orderly here put-writes (bit .low) among)
+    put-orderly = written-orderly 0 t put x _ key r orderly here put-writes (show-follows (headerOf t) _ _ _ (x .slot) key (here .slot)) Nothing (Only x) put-carries (placed-here 0 t put x _ key r orderly here put-writes among)
 
     pub put-sound : m key ≡ none → Becomes t put (changed m key (some r))
     put-sound absent =
@@ -144,7 +143,7 @@ module _ (t : Table) (o : OrderlyTable 0 t) (x : Slot) (there : TakenSlot t x) w
   clear-carries = clear-carried 0 t cleared x _ _ _ o (there .used) clear-writes clear-bit
 
   clear-orderly : OrderlyTable 0 cleared
-  clear-orderly = written-orderly 0 t cleared x _ _ _ o (there .used) clear-writes (clear-bit .low) (Only x) Nothing clear-carries (λ z a n. absurd n)
+  clear-orderly = written-orderly 0 t cleared x _ _ _ o (there .used) clear-writes (hide-follows (headerOf t) _ _ _ (x .slot) (keyIn t x) (there .used .slot)) (Only x) Nothing clear-carries (λ z a n. absurd n)
 
   pub good-cleared : GoodState (headerOf t .c) (headerOf cleared .state)
   good-cleared = good-after 0 t cleared x _ _ _ o (there .used) clear-writes
@@ -193,18 +192,12 @@ pub place-bucket : (z x : Slot) → placeOf z ≡ placeOf x → z .bucket ≡ x 
 unfolding placeOf
 place-bucket z x e = ap (λ (p : Place). p .bucket) e
 
--- "every token word at most 15"
-pub token-low : (f : ℕ) (t : Table) → OrderlyTable f t → (x : Slot) → InUse (headerOf t .state) x → tokenOf t (x .bucket) < 16
-unfolding tidyOf wordsFor
-token-low f t o x here =
-    let inside : x .bucket < 2 ^ (headerOf t .c + 1) - 1 = omega (arith, slot-within (length t) (headerOf t) (o .header) x here .0, o .header .long) in
-    rw (o .tidied (x .bucket) inside) (tidy-low (headerOf t) (tokenOf t (x .bucket)))
-
 module _ (t : Table) (m : PlainMap) (whole : SoundMap t m) (x : Slot) (there : TakenSlot t x) (r : Record) where
   -- u has r in slot z, under x's key, and x's item no more
-  replaced : (u : Table) (z : Slot) (v : ℕ) → InUse (headerOf t .state) z → SlotWritten t u z v (keyIn t x) r → v < 16 → isTaken (headerOf t) v (z .slot) ≡ true
+  replaced : (u : Table) (z : Slot) (v : ℕ) → InUse (headerOf t .state) z → SlotWritten t u z v (keyIn t x) r
+      → Follows (headerOf t) (tokenOf t (z .bucket)) v (keysOf t (z .bucket)) (keysOf u (z .bucket)) (z .slot) (keyIn t x) → isTaken (headerOf t) v (z .slot) ≡ true
       → In (placeOf z) (placesOf (headerOf t) (keyIn t x)) → Carried t u (Only x) (Only z) → Becomes t u (changed m (keyIn t x) (some r))
-  replaced u z v here writes low bit among carried =
+  replaced u z v here writes follows bit among carried =
       let o = whole .sound .orderly in
       let good = good-after 0 t u z v (keyIn t x) r o here writes in
       let now = shown-after 0 t u z v (keyIn t x) r o here writes bit in
@@ -213,7 +206,7 @@ module _ (t : Table) (m : PlainMap) (whole : SoundMap t m) (x : Slot) (there : T
       record {
         whole = record {
           sound = record {
-            orderly = written-orderly 0 t u z v (keyIn t x) r o here writes low (Only x) (Only z) carried (placed-here 0 t u z v (keyIn t x) r o here writes low among);
+            orderly = written-orderly 0 t u z v (keyIn t x) r o here writes follows (Only x) (Only z) carried (placed-here 0 t u z v (keyIn t x) r o here writes among);
             alone = set-alone t u (headerOf t .c) good m (whole .map) (Only x) z carried now gone left (whole .sound .alone);
           };
           map = rw (writes .key, writes .value) at (set-map t u (headerOf t .c) good m (whole .map) (Only x) z carried now gone left);
@@ -230,12 +223,12 @@ module _ (t : Table) (m : PlainMap) (whole : SoundMap t m) (x : Slot) (there : T
 
   -- "words 6, 7, 8; flag 1; function, place in the slot; flag 0"
   pub log-sound : Becomes t (made t ((6, keyWord x) ∷ (7, r .function) ∷ (8, r .place) ∷ (5, 1) ∷ redoStores x r)) (changed m (keyIn t x) (some r))
-  unfolding taken
+  unfolding taken keysOf keyIn keyWord
   log-sound =
       let o = whole .sound .orderly in
       let used = there .used in
       let writes = log-written t x (used .slot) (slot-within (length t) (headerOf t) (o .header) x used .0) r (o .flag) in
-      replaced _ x (tokenOf t (x .bucket)) used writes (token-low 0 t o x used) (there .shown) among-places (rewrite-carried 0 t _ x _ _ _ o used writes refl)
+      replaced _ x (tokenOf t (x .bucket)) used writes (kept-follows (headerOf t) _ _ _ (x .slot) _ (λ q. refl)) (there .shown) among-places (rewrite-carried 0 t _ x _ _ _ o used writes refl)
 
   -- "three words to its lowest free slot; one token store that sets it and clears the old"
   pub beside-sound : (z : Slot) → placeOf z ≡ placeOf x → z .slot < 4 → taken t (headerOf t) z ≡ false
@@ -249,5 +242,5 @@ module _ (t : Table) (m : PlainMap) (whole : SoundMap t m) (x : Slot) (there : T
       let writes = put-written t z low (slot-within (length t) h (o .header) z here .0) h w (keyIn t x) r in
       let set = show-bit h w (z .slot) (keyIn t x) low in
       let clear : Bit h (tokenOf t (z .bucket)) w (x .slot) false = rw bucket (hide-bit h (tokenOf t (x .bucket)) (x .slot) (there .used .slot)) in
-      replaced _ z _ here writes (set .low) (set .here) (rw place among-places)
+      replaced _ z _ here writes (rw bucket (beside-follows h _ _ _ (z .slot) (keyIn t x) low (x .slot) (there .used .slot))) (set .here) (rw place among-places)
       (beside-carried 0 t _ z _ _ _ o here writes x (there .used) (sym bucket) w clear set free (λ e. beside-itself z bucket e free))

@@ -9,7 +9,7 @@ use mathlib.Core.Logic.{_⊎_, inl, inr, ⊎-elim}
 use native.Mathlib.Omega.{arith}
 use native.Mathlib.Decide.{decLe}
 use lib.ListN.{length}
-use Rattle.rules.specs.Words.{Table, word, GoodState, stateOf, stateWord, headerOf, flagOf, sizeOf, levelsInUse, InLevel, InUse, placeAt, tokenWord, keyWord, functionWord, placeWord, keyIn, recordIn, tokenOf, tidy, tidyOf, isTaken, taken}
+use Rattle.rules.specs.Words.{Table, word, GoodState, stateOf, stateWord, headerOf, flagOf, sizeOf, levelsInUse, InLevel, InUse, placeAt, tokenWord, keyWord, functionWord, placeWord, keyIn, recordIn, tokenOf, keysOf, isTaken, taken, meantOf}
 use Rattle.rules.specs.Places.{hashesOf, firstPlace, secondPlace, placesIn, probes, placesOf}
 use Rattle.rules.specs.Stores.{made}
 use Rattle.rules.specs.Soundness.{TakenSlot, OrderlyTable}
@@ -21,7 +21,7 @@ use Rattle.rules.specs.declared.Hashes.{Hashes}
 use Rattle.rules.specs.declared.Place.{Place}
 use Rattle.rules.specs.declared.Slot.{Slot}
 use Rattle.rules.proofs.Lists.{never, flatMap-in, in-flatMap}
-use Rattle.rules.proofs.Tokens.{zero-free, zero-of-free}
+use Rattle.rules.proofs.Tokens.{zero-free, meant-of-free, same-meant, state-taken, state-meant}
 use Rattle.rules.proofs.Made.{made-long, made-kept, made-left}
 use Rattle.rules.proofs.PlacesWithin.{place-in-level}
 use Rattle.rules.proofs.Candidates.{place-among}
@@ -106,8 +106,12 @@ module _ (f : ℕ) (t u : Table) (s : State) (o : OrderlyTable f t) (re : Restat
   after = ap (λ (h : Header). h .state) (re .header)
 
   same-bits : (y z : Slot) → z .bucket ≡ y .bucket → z .slot ≡ y .slot → taken u (headerOf u) z ≡ taken t (headerOf t) y
-  unfolding taken isTaken tidy
-  same-bits y z b n = rw (b, n, re .tokens (y .bucket))
+  unfolding taken
+  same-bits y z b n = rw (b, n, re .tokens (y .bucket), re .header, state-taken (headerOf t) s (tokenOf t (y .bucket)) (y .slot))
+
+  same-keys : (j z : ℕ) → keysOf u j z ≡ keysOf t j z
+  unfolding keysOf keyIn keyWord
+  same-keys j z = let x : Slot = record { level = 0; bucket = j; slot = z } in re .keys x x refl refl
 
   carry : (y z : Slot) → TakenSlot t y → InUse s z → z .bucket ≡ y .bucket → z .slot ≡ y .slot → Carry t u y z
   carry y z a used b n = record {
@@ -168,8 +172,8 @@ module _ (f : ℕ) (t u : Table) (s : State) (o : OrderlyTable f t) (re : Restat
 
     -- a level without an item has no token
     tokenless : (l : Level) → In l (levelsInUse (headerOf t .state)) → ((y : Slot) → TakenSlot t y → InLevel l (y .bucket) → ⊥) → (j : ℕ) → j < 2 ^ (headerOf t .c + 1) - 1 → InLevel l j → tokenOf t j ≡ 0
-    unfolding taken tidyOf
-    tokenless l i none j inside range = o .tidied j inside ∙ zero-of-free (headerOf t) (tokenOf t j) (λ n low. bit n low (isTaken (headerOf t) (tokenOf t j) n) refl)
+    unfolding taken meantOf
+    tokenless l i none j inside range = o .tidied j inside ∙ meant-of-free (headerOf t) (tokenOf t j) (keysOf t j) (λ n low. bit n low (isTaken (headerOf t) (tokenOf t j) n) refl)
       where
         bit : (n : ℕ) → n < 4 → (b : Bool) → isTaken (headerOf t) (tokenOf t j) n ≡ b → b ≡ false
         bit n low true q = absurd (none (record { level = l .name; bucket = j; slot = n }) (record { used = record { level = l; used = i; name = refl; bucket = range; slot = low }; shown = q }) range)
@@ -187,7 +191,7 @@ module _ (f : ℕ) (t u : Table) (s : State) (o : OrderlyTable f t) (re : Restat
         go (inr none) = o .unused j inside none
 
     pub restated-orderly : GoodState (headerOf t .c) s → OrderlyTable f u
-    unfolding withState tidyOf tidy
+    unfolding withState meantOf
     restated-orderly good = record {
       header = record {
         capacity = rw (re .header) (o .header .capacity);
@@ -198,7 +202,7 @@ module _ (f : ℕ) (t u : Table) (s : State) (o : OrderlyTable f t) (re : Restat
         state = rw (re .header) good;
       };
       flag = re .flag ∙ o .flag;
-      tidied = λ j l. rw (re .tokens j) (o .tidied j (rw (re .header) at l));
+      tidied = λ j l. rw (re .header, re .tokens j, state-meant (headerOf t) s (tokenOf t j) (keysOf u j)) (same-meant (headerOf t) _ _ _ (λ z k q. same-keys j z) (o .tidied j (rw (re .header) at l)));
       unused = λ j l free. re .tokens j ∙ restated-unused j (rw (re .header) at l) (λ m i. free m (rw after i));
       placed = restated-placed;
     }

@@ -1,19 +1,19 @@
 -- Where the words of one slot and its bucket's token word are written: which items are carried over, which is gone and which is new, by
 -- the bits of the token word; and what stays orderly.
 -- Assumes nothing.
-use Prim.Native.Nat.{ℕ, _<_}
+use Prim.Native.Nat.{ℕ}
 use mathlib.Core.Path.{_≡_, refl, sym, ap, _∙_}
 use mathlib.Core.Bool.{true, false}
 use mathlib.Core.List.{List·Memᴰ as In}
 use mathlib.Core.Logic.{_⊎_, inl, inr}
 use native.Mathlib.Decide.{ℕ-discrete}
-use Rattle.rules.specs.Words.{Table, GoodState, headerOf, InUse, placeOf, tokenOf, isTaken, taken}
+use Rattle.rules.specs.Words.{Table, GoodState, headerOf, InUse, placeOf, tokenOf, keysOf, isTaken, taken}
 use Rattle.rules.specs.Places.{placesOf}
 use Rattle.rules.specs.Soundness.{TakenSlot, OrderlyTable}
 use Rattle.rules.specs.declared.Slot.{Slot}
 use Rattle.rules.specs.declared.Record.{Record}
 use Rattle.rules.proofs.Lists.{never}
-use Rattle.rules.proofs.Tokens.{Bit}
+use Rattle.rules.proofs.Tokens.{Bit, Follows}
 use Rattle.rules.proofs.PlacesInUse.{slot-by-bucket}
 use Rattle.rules.proofs.Carried.{Carried, PlacedAt, carried-placed}
 use Rattle.rules.proofs.Touched.{turned, touched-orderly}
@@ -72,13 +72,13 @@ module _ (f : ℕ) (t u : Table) (x : Slot) (v key : ℕ) (r : Record) (o : Orde
 
   -- ---- what stays orderly
 
-  module _ (low : v < 16) where
-    pub written-orderly : (Gone New : Slot → Type 0) → Carried t u Gone New → ((z : Slot) → TakenSlot u z → New z → PlacedAt u z) → OrderlyTable f u
-    written-orderly Gone New carried new =
-        touched-orderly (headerOf t .c) t u x (written .near) good here f f o (rw (written .token) low) (written .flag ∙ o .flag)
-        (carried-placed t u Gone New carried (written .near .header) (o .placed) new)
+  pub written-orderly : Follows (headerOf t) (tokenOf t (x .bucket)) v (keysOf t (x .bucket)) (keysOf u (x .bucket)) (x .slot) key
+      → (Gone New : Slot → Type 0) → Carried t u Gone New → ((z : Slot) → TakenSlot u z → New z → PlacedAt u z) → OrderlyTable f u
+  written-orderly follows Gone New carried new =
+      touched-orderly (headerOf t .c) t u x (written .near) good here f f o (λ m k. rw (written .token) (follows m (rw (written .key) at k))) (written .flag ∙ o .flag)
+      (carried-placed t u Gone New carried (written .near .header) (o .placed) new)
 
-    -- with the new item in a place of its key
-    pub placed-here : In (placeOf x) (placesOf (headerOf t) key) → (z : Slot) → TakenSlot u z → Only x z → PlacedAt u z
-    unfolding placeOf
-    placed-here among z a e = (placeOf x, rw (e, written .near .header, written .key) among, sym (ap (λ (s : Slot). s .bucket) e))
+  -- with the new item in a place of its key
+  pub placed-here : In (placeOf x) (placesOf (headerOf t) key) → (z : Slot) → TakenSlot u z → Only x z → PlacedAt u z
+  unfolding placeOf
+  placed-here among z a e = (placeOf x, rw (e, written .near .header, written .key) among, sym (ap (λ (s : Slot). s .bucket) e))

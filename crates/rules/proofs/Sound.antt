@@ -10,7 +10,7 @@ use native.Mathlib.Omega.{arith}
 use lib.ListN.{length}
 use lib.Dec.{eqb}
 use Rattle.rules.specs.Choice.{all, empty}
-use Rattle.rules.specs.Words.{Table, headerOf, GoodHeader, headerTests, allBuckets, unusedBuckets, placeOf, keyIn, tokenOf, tidyOf}
+use Rattle.rules.specs.Words.{Table, headerOf, GoodHeader, headerTests, allBuckets, unusedBuckets, placeOf, keyIn, tokenOf, meantOf}
 use Rattle.rules.specs.Places.{samePlace, placesOf}
 use Rattle.rules.specs.Soundness.{takenSlots, tokensTidy, unusedEmpty, inPlace, orderlyTests, twins, soundTests, TakenSlot, OrderlyTable}
 use Rattle.rules.specs.Demands.{SoundnessIsTested}
@@ -29,11 +29,11 @@ header-tells size h = (good-header size h, header-passes size h)
 
 module _ (t : Table) where
   -- "every token word at most 15"
-  tidy-tells : Tells (tokensTidy t) ((j : ℕ) → j < 2 ^ (headerOf t .c + 1) - 1 → tokenOf t j ≡ tidyOf t (headerOf t) j)
+  tidy-tells : Tells (tokensTidy t) ((j : ℕ) → j < 2 ^ (headerOf t .c + 1) - 1 → tokenOf t j ≡ meantOf t (headerOf t) j)
   unfolding tokensTidy allBuckets
   tidy-tells =
       let n = 2 ^ (headerOf t .c + 1) - 1 in
-      Iff·trans (tells-all (λ (j : ℕ). eqb (tokenOf t j) (tidyOf t (headerOf t) j)) _ (λ j. tells-eq _ _) (allBuckets (headerOf t)))
+      Iff·trans (tells-all (λ (j : ℕ). eqb (tokenOf t j) (meantOf t (headerOf t) j)) _ (λ j. tells-eq _ _) (allBuckets (headerOf t)))
       (λ f j l. f j (in-from 0 n j (omega arith) (omega arith)), λ f j i. f j (omega (arith, from-in 0 n j i)))
 
   -- "and 0 in levels not in use"

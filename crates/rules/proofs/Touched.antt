@@ -9,18 +9,18 @@ use mathlib.Core.Logic.{_⊎_, inl, inr}
 use native.Mathlib.Omega.{arith}
 use native.Mathlib.Decide.{ℕ-discrete}
 use lib.ListN.{length}
-use Rattle.rules.specs.Words.{Table, word, GoodState, headerOf, flagOf, InUse, InLevel, levelsInUse, tokenWord, keyWord, functionWord, placeWord, keyIn, recordIn, tokenOf, tidyOf, isTaken, taken}
+use Rattle.rules.specs.Words.{Table, word, GoodState, headerOf, flagOf, InUse, InLevel, levelsInUse, tokenWord, keyWord, functionWord, placeWord, keyIn, recordIn, tokenOf, keysOf, isTaken, taken, meantOf}
 use Rattle.rules.specs.Stores.{Store, made}
 use Rattle.rules.specs.Soundness.{TakenSlot, OrderlyTable}
 use Rattle.rules.specs.declared.Level.{Level}
 use Rattle.rules.specs.declared.Slot.{Slot}
 use Rattle.rules.proofs.Addresses.{Of, off-token, of-one}
 use Rattle.rules.proofs.Lists.{never}
-use Rattle.rules.proofs.Tokens.{tidy-of-low}
+use Rattle.rules.proofs.Tokens.{Rekeyed, Follows, same-meant, kept-follows}
 use Rattle.rules.proofs.Made.{Each, Misses, made-long, made-kept}
 use Rattle.rules.proofs.PlacesInUse.{slot-by-bucket}
 use Rattle.rules.proofs.Moving.{Nothing}
-use Rattle.rules.proofs.Carried.{Carry, Carried, Placed}
+use Rattle.rules.proofs.Carried.{Carry, Carried, Placed, carried-placed}
 
 abbrev pub Near : Slot → ℕ → Type 0
 Near x i = ((5 ≤ i) × (i ≤ 8)) ⊎ ((i ≡ tokenWord (x .bucket)) ⊎ Of x i)
@@ -154,9 +154,18 @@ module _ (c : ℕ) (t u : Table) (x : Slot) (near : Touched t u x) (good : GoodS
 
   -- ---- what stays orderly
 
-  pub touched-orderly : (f g : ℕ) → OrderlyTable f t → tokenOf u (x .bucket) < 16 → flagOf u ≡ g → Placed u → OrderlyTable g u
-  unfolding tidyOf
-  touched-orderly f g o low flag placed = record {
+  keys-kept : (j z : ℕ) → z < 4 → (j ≡ x .bucket → z ≡ x .slot → ⊥) → keysOf u j z ≡ keysOf t j z
+  unfolding keysOf keyIn keyWord
+  keys-kept j z l d = near .items (record { level = 0; bucket = j; slot = z }) l d .0
+
+  rekeyed : Rekeyed (keysOf t (x .bucket)) (keysOf u (x .bucket)) (x .slot) (keyIn u x)
+  unfolding keysOf keyIn keyWord
+  rekeyed = record { here = refl; other = λ z l d. keys-kept (x .bucket) z l (λ b. d) }
+
+  pub touched-orderly : (f g : ℕ) → OrderlyTable f t → Follows (headerOf t) (tokenOf t (x .bucket)) (tokenOf u (x .bucket)) (keysOf t (x .bucket)) (keysOf u (x .bucket)) (x .slot) (keyIn u x)
+      → flagOf u ≡ g → Placed u → OrderlyTable g u
+  unfolding meantOf
+  touched-orderly f g o follows flag placed = record {
     header = rw (near .header, near .long) (o .header);
     flag = flag;
     tidied = λ j l. tidied j (rw (near .header) at l) (ℕ-discrete j (x .bucket));
@@ -164,10 +173,18 @@ module _ (c : ℕ) (t u : Table) (x : Slot) (near : Touched t u x) (good : GoodS
     placed = placed;
   }
     where
-      tidied : (j : ℕ) → j < 2 ^ (headerOf t .c + 1) - 1 → Dec (j ≡ x .bucket) → tokenOf u j ≡ tidyOf u (headerOf u) j
-      tidied j l (yes e) = rw e (sym (tidy-of-low (headerOf u) (tokenOf u (x .bucket)) low))
-      tidied j l (no n) = rw (near .header, near .tokens j n) (o .tidied j l)
+      tidied : (j : ℕ) → j < 2 ^ (headerOf t .c + 1) - 1 → Dec (j ≡ x .bucket) → tokenOf u j ≡ meantOf u (headerOf u) j
+      tidied j l (yes e) = rw (e, near .header) (follows (o .tidied (x .bucket) (rw e at l)) rekeyed)
+      tidied j l (no n) = rw (near .header, near .tokens j n) (same-meant (headerOf t) _ _ _ (λ z k q. keys-kept j z k (λ b. absurd (n b))) (o .tidied j l))
 
       unused : (j : ℕ) → j < 2 ^ (headerOf t .c + 1) - 1 → ((l : Level) → In l (levelsInUse (headerOf t .state)) → InLevel l j → ⊥) → Dec (j ≡ x .bucket) → tokenOf u j ≡ 0
       unused j l free (yes e) = absurd (free (here .level) (here .used) (rw e (here .bucket)))
       unused j l free (no n) = near .tokens j n ∙ o .unused j l free
+
+  -- where nothing is seen
+  pub unseen-orderly : (f g : ℕ) → OrderlyTable f t → tokenOf u (x .bucket) ≡ tokenOf t (x .bucket) → (taken t (headerOf t) x ≡ true → (keyIn u x ≡ keyIn t x) × (recordIn u x ≡ recordIn t x))
+      → flagOf u ≡ g → OrderlyTable g u
+  unfolding taken keysOf keyIn keyWord
+  unseen-orderly f g o token same flag =
+      touched-orderly f g o (λ m k. rw token (kept-follows (headerOf t) _ _ _ (x .slot) _ (λ q. same q .0) m k)) flag
+      (carried-placed t u Nothing Nothing (unseen token same) (near .header) (o .placed) (λ z a n. absurd n))

@@ -10,7 +10,7 @@ use mathlib.Core.Option.{Option, none, some}
 use lib.ListN.{length}
 use lib.Dec.{eqb}
 use Rattle.rules.specs.Choice.{all, any, given, select, empty, firstOf}
-use Rattle.rules.specs.Words.{Table, word, headerOf, headerTests, GoodHeader, flagOf, targetOf, levelsInUse, InLevel, allBuckets, unusedBuckets, slotsInUse, InUse, placeOf, keyWord, keyIn, recordIn, tokenOf, tidyOf, taken}
+use Rattle.rules.specs.Words.{Table, word, headerOf, headerTests, GoodHeader, flagOf, targetOf, levelsInUse, InLevel, allBuckets, unusedBuckets, slotsInUse, InUse, placeOf, keyWord, keyIn, recordIn, tokenOf, taken, meantOf}
 use Rattle.rules.specs.Places.{samePlace, placesOf}
 use Rattle.rules.specs.declared.Level.{Level}
 use Rattle.rules.specs.declared.Place.{Place}
@@ -25,9 +25,9 @@ use Rattle.rules.specs.declared.Finding.the-variants.{Sound, Doubled, Fl
 unfoldable pub takenSlots : Table → List Slot
 takenSlots t = select (taken t (headerOf t)) (slotsInUse (headerOf t .state))
 
--- "every token word at most 15": it is its own tidy word
+-- "every token word at most 15": each is what it should be
 unfoldable pub tokensTidy : Table → Bool
-tokensTidy t = all (map (λ (j : ℕ). eqb (tokenOf t j) (tidyOf t (headerOf t) j)) (allBuckets (headerOf t)))
+tokensTidy t = all (map (λ (j : ℕ). eqb (tokenOf t j) (meantOf t (headerOf t) j)) (allBuckets (headerOf t)))
 
 -- "and 0 in levels not in use"
 unfoldable pub unusedEmpty : Table → Bool
@@ -70,7 +70,7 @@ pub record TakenSlot (t : Table) (x : Slot) : Type 0 where
 pub record OrderlyTable (f : ℕ) (t : Table) : Type 0 where
   pub header : GoodHeader (length t) (headerOf t)
   pub flag : flagOf t ≡ f
-  pub tidied : (j : ℕ) → j < 2 ^ (headerOf t .c + 1) - 1 → tokenOf t j ≡ tidyOf t (headerOf t) j
+  pub tidied : (j : ℕ) → j < 2 ^ (headerOf t .c + 1) - 1 → tokenOf t j ≡ meantOf t (headerOf t) j
   pub unused : (j : ℕ) → j < 2 ^ (headerOf t .c + 1) - 1 → ((l : Level) → In l (levelsInUse (headerOf t .state)) → InLevel l j → ⊥) → tokenOf t j ≡ 0
   pub placed : (x : Slot) → TakenSlot t x → (p : Place) × In p (placesOf (headerOf t) (keyIn t x)) × (p .bucket ≡ x .bucket)
 

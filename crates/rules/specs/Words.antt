@@ -2,16 +2,17 @@
 --
 -- A table is a list of words; a word past its end reads as 0. Nothing here tests anything but what it says it tests:
 -- which tables a call accepts is said in `Calls`.
--- Token words are read and written only by `tidy`, `isTaken`, `show` and `hide`, which also know the header and the key.
+-- Token words are read and written only by `isTaken`, `show` and `hide`, and `meant` says which should stand where.
 -- Assumes nothing.
 use Prim.Native.Nat.{ℕ, _+_, _-_, _*_, _/_, _%_, _^_, _≤_, _<_}
 use mathlib.Core.Path.{_≡_}
 use mathlib.Core.Bool.{Bool, not, cond}
 use mathlib.Core.List.{List, [], _∷_, map, flatMap, List·Memᴰ as In}
 use mathlib.Core.Logic.{_⊎_}
-use lib.ListN.{getD}
+use mathlib.Core.Option.{Option·getD}
+use lib.ListN.{length, getD}
 use lib.Dec.{eqb, leb}
-use Rattle.rules.specs.Choice.{all, any, select, from}
+use Rattle.rules.specs.Choice.{all, any, given, select, firstOf, from}
 use Rattle.rules.specs.declared.State.{State}
 use Rattle.rules.specs.declared.Header.{Header}
 use Rattle.rules.specs.declared.Level.{Level}
@@ -186,24 +187,53 @@ recordIn t x = record { function = word t (functionWord x); place = word t (plac
 unfoldable pub tokenOf : Table → ℕ → ℕ
 tokenOf t j = word t (tokenWord j)
 
--- "Calls read token words modulo 16"
-unfoldable pub tidy : Header → ℕ → ℕ
-tidy h w = w % 16
+-- the keys of bucket j's four slots
+unfoldable pub keysOf : Table → ℕ → ℕ → ℕ
+keysOf t j s = word t (tokenWord j + (1 + 3 * s))
 
--- what bucket j's token word should be
-unfoldable pub tidyOf : Table → Header → ℕ → ℕ
-tidyOf t h j = tidy h (tokenOf t j)
+-- ---- token words: what one holds is known only here
+
+-- "Calls read token words modulo 16": the token number, which is the four bits
+unfoldable pub tokenNumber : ℕ → ℕ
+tokenNumber w = w % 16
 
 -- "Token bit s is 1 when slot s is taken."
 unfoldable pub isTaken : Header → ℕ → ℕ → Bool
-isTaken h w s = eqb (tidy h w / 2 ^ s % 2) 1
+isTaken h w s = eqb (tokenNumber w / 2 ^ s % 2) 1
 
 -- the token word with slot s taken by a key, and with slot s free; "a token store is always below 16"
 unfoldable pub show : Header → ℕ → ℕ → ℕ → ℕ
-show h w s key = cond (isTaken h w s) (tidy h w) (tidy h w + 2 ^ s)
+show h w s key = cond (isTaken h w s) (tokenNumber w) (tokenNumber w + 2 ^ s)
 
 unfoldable pub hide : Header → ℕ → ℕ → ℕ
-hide h w s = cond (isTaken h w s) (tidy h w - 2 ^ s) (tidy h w)
+hide h w s = cond (isTaken h w s) (tokenNumber w - 2 ^ s) (tokenNumber w)
+
+-- "slots 0 to 3" of a token word: how many are taken; its "lowest free slot" and its lowest taken one, 4 where there is none
+abbrev pub slots : List ℕ
+slots = from 0 4
+
+unfoldable pub takenOf : Header → ℕ → ℕ
+takenOf h w = length (select (isTaken h w) slots)
+
+abbrev pub lowest : (ℕ → Bool) → ℕ
+lowest p = Option·getD (firstOf (λ (s : ℕ). given (p s) s) slots) 4
+
+unfoldable pub lowestFree : Header → ℕ → ℕ
+lowestFree h w = lowest (λ (s : ℕ). not (isTaken h w s))
+
+unfoldable pub lowestTaken : Header → ℕ → ℕ
+lowestTaken h w = lowest (isTaken h w)
+
+-- the word that should stand where w does, by its taken slots and the keys of its four slots: "every token word at most 15".
+-- The keys play no part in form 1
+unfoldable pub meant : Header → ℕ → (ℕ → ℕ) → ℕ
+meant h w keys = tokenNumber w
+
+-- ---- the token words of a table
 
 unfoldable pub taken : Table → Header → Slot → Bool
 taken t h x = isTaken h (tokenOf t (x .bucket)) (x .slot)
+
+-- what bucket j's token word should be
+unfoldable pub meantOf : Table → Header → ℕ → ℕ
+meantOf t h j = meant h (tokenOf t j) (keysOf t j)

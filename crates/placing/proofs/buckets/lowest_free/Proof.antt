@@ -1,73 +1,17 @@
--- `placing::buckets::lowest_free` meets its contract: from the highest slot down, what is found is the lowest free slot from there on.
+-- `placing::buckets::lowest_free` meets its contract: of any four records, the first free one is the lowest free slot of the token word.
 -- Assumes nothing.
-use mathlib.Core.Path.{_≡_, sym, ap, _∙_}
-use mathlib.Core.Logic.{⊎-elim}
-use mathlib.Core.Bool.{not}
-use Prim.Native.Nat.{_+_, _-_, _≤_, _<_}
+use mathlib.Core.Path.{_∙_}
 use native.Mathlib.Omega.{arith}
-use Rattle.placing.proofs.Choosing.{freeIn, first-record}
-use Rattle.rules.specs.Words.{isTaken}
-use Rattle.rules.proofs.Lowest.{lowestFrom, lowest-all, lowest-here, lowest-next, lowest-over}
+use Rattle.placing.proofs.Choosing.{first-record}
+use borrow.Author.Needs.{needs}
 use Rattle.placing.proofs.buckets.lowest_free.Statement.{statement}
 use Rattle.placing.proofs.buckets.lowest_free.Tie as tie
 
-abbrev Inv-loop : tie.InvT-loop
-Inv-loop h word items lowest₀ i₀ lowest i = (lowest ≡ lowestFrom (λ z. not (isTaken h word z)) (4 - i)) × (lowest ≤ 4)
+lowest-free-requires : tie.Need-lowest-free-requires
+lowest-free-requires c κs = search needs
 
-abbrev μ-loop : tie.MeasureT-loop
-μ-loop h word items lowest₀ i₀ lowest i = 4 - i
-
-loop-holds : tie.Need-loop-holds Inv-loop μ-loop
-loop-holds c = (sym (lowest-over _ _ (omega arith)), omega arith)
-
-sub-s : tie.Need-sub-s Inv-loop μ-loop
-sub-s c = omega arith
-
-sub-s-2 : tie.Need-sub-s-2 Inv-loop μ-loop
-sub-s-2 c = omega arith
-
-is-taken-requires : tie.Need-is-taken-requires Inv-loop μ-loop
-is-taken-requires c κs = omega arith
-
-add-i : tie.Need-add-i Inv-loop μ-loop
-add-i c = omega arith
-
-loop-less : tie.Need-loop-less Inv-loop μ-loop
-loop-less c = omega arith
-
-loop-again : tie.Need-loop-again Inv-loop μ-loop
-loop-again c =
-    let d = c .before .before in
-    let v = d .before .loop .inv in
-    let i = d .before .loop .i in
-    let l = d .loop-test .taken in
-    let s : 4 - (i + 1) ≡ 4 - 1 - i = omega arith in
-    let next : 4 - 1 - i + 1 ≡ 4 - i = omega (arith, l) in
-    let below : 4 - 1 - i < 4 = omega arith in
-    let free = ap not (sym (c .before .is-taken .ensures)) in
-    ⊎-elim
-    (λ w. rw (w .1, s) (sym (lowest-here _ _ below (free ∙ w .0 .taken)), omega arith))
-    (λ w. rw (w .1, s) (v .0 ∙ sym (lowest-next _ _ below (free ∙ w .0 .left) ∙ ap (lowestFrom _) next), v .1))
-    (c .if1 .came)
-
-returns : tie.Need-returns Inv-loop μ-loop
-unfolding freeIn
-returns c =
-    let v = c .before .loop .inv in
-    let over : 4 - c .before .loop .i ≡ 0 = omega (arith, c .loop-test .left) in
-    (rw over at (v .0) ∙ sym (lowest-all _) ∙ first-record _ _ _ (omega (arith, c .before .before .good .1 .1 .0 .1 .0 .1)), v .1)
+returns : tie.Need-returns
+returns c = let r = c .lowest-free .ensures in (r .0 ∙ first-record _ _ _ (omega (arith, c .before .good .1 .1 .0 .1 .0 .1)), r .1)
 
 pub lowest-free-spec : {M : Type 1} → statement M
-lowest-free-spec =
-    tie.close
-    (tie.spec
-    Inv-loop
-    μ-loop
-    loop-holds
-    sub-s
-    sub-s-2
-    is-taken-requires
-    add-i
-    loop-less
-    loop-again
-    returns)
+lowest-free-spec = tie.close (tie.spec lowest-free-requires returns)

@@ -5,7 +5,6 @@ use mathlib.Core.Path.{_≡_, sym, _∙_}
 use mathlib.Core.List.{map}
 use native.Mathlib.Omega.{arith}
 use borrow.Author.Tests.{eq-eqb, ne-eqb}
-use borrow.Author.Needs.{needs}
 use Rattle.rules.specs.Choice.{all, from}
 use Rattle.rules.specs.Words.{allBuckets}
 use Rattle.rules.proofs.Headers.{sizes, all-buckets-fit}
@@ -37,15 +36,15 @@ loop-holds c = table-whole _ _ (c .power .ensures .0)
 token-requires : tie.Need-token-requires Inv-loop μ-loop
 token-requires c κs = all-buckets-fit _ _ (c .before .before .before .before .before .pre) _ (c .before .before .power .ensures .0) (c .loop-test .taken)
 
-tidy-requires : tie.Need-tidy-requires Inv-loop μ-loop
-tidy-requires c κs = search needs
+meant-requires : tie.Need-meant-requires Inv-loop μ-loop
+meant-requires c κs = token-requires (c .before) κs
 
 returns : tie.Need-returns Inv-loop μ-loop
 returns c =
     let d = c .before .before .before in
     sym
     (d .before .loop .inv
-    ∙ all-next _ _ _ (from-next _ _ _ (d .loop-test .taken)) (tidy-test _ _ _ (c .before .before .token .ensures) (c .before .tidy .ensures .0) ∙ ne-eqb _ _ (c .if1 .taken)))
+    ∙ all-next _ _ _ (from-next _ _ _ (d .loop-test .taken)) (tidy-test _ _ _ (c .before .before .token .ensures) (c .before .meant .ensures) ∙ ne-eqb _ _ (c .if1 .taken)))
 
 add-j : tie.Need-add-j Inv-loop μ-loop
 add-j c = omega arith
@@ -57,7 +56,7 @@ loop-again : tie.Need-loop-again Inv-loop μ-loop
 loop-again c =
     let d = c .before .before .before in
     d .before .loop .inv
-    ∙ all-next _ _ _ (from-next _ _ _ (d .loop-test .taken)) (tidy-test _ _ _ (c .before .before .token .ensures) (c .before .tidy .ensures .0) ∙ eq-eqb _ _ (c .if1 .left))
+    ∙ all-next _ _ _ (from-next _ _ _ (d .loop-test .taken)) (tidy-test _ _ _ (c .before .before .token .ensures) (c .before .meant .ensures) ∙ eq-eqb _ _ (c .if1 .left))
 
 returns-2 : tie.Need-returns-2 Inv-loop μ-loop
 returns-2 c = sym (c .before .loop .inv ∙ tests-end _ _ _ _ (from-end _ _ _ (c .loop-test .left)))
@@ -73,7 +72,7 @@ tokens-tidy-spec =
     sub-buckets
     loop-holds
     token-requires
-    tidy-requires
+    meant-requires
     returns
     add-j
     loop-less

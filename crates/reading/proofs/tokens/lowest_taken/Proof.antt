@@ -1,14 +1,13 @@
--- `growing::interim::lowest_taken` meets its contract.
+-- `reading::tokens::lowest_taken` meets its contract.
 -- Assumes nothing.
 use Prim.Native.Nat.{_-_}
 use mathlib.Core.Path.{_≡_, sym, _∙_}
 use native.Mathlib.Omega.{arith}
 use borrow.Author.Needs.{needs}
-use Rattle.growing.specs.Interim.{lowestTaken}
-use Rattle.rules.specs.Words.{isTaken}
+use Rattle.rules.specs.Words.{isTaken, lowestTaken}
 use Rattle.rules.proofs.Lowest.{lowestFrom, lowest-all, lowest-here, lowest-next, lowest-over}
-use Rattle.growing.proofs.interim.lowest_taken.Statement.{statement}
-use Rattle.growing.proofs.interim.lowest_taken.Tie as tie
+use Rattle.reading.proofs.tokens.lowest_taken.Statement.{statement}
+use Rattle.reading.proofs.tokens.lowest_taken.Tie as tie
 
 abbrev Inv-loop : tie.InvT-loop
 Inv-loop h word s₀ s = lowestTaken h word ≡ lowestFrom (isTaken h word) s
@@ -16,12 +15,12 @@ Inv-loop h word s₀ s = lowestTaken h word ≡ lowestFrom (isTaken h word) s
 abbrev μ-loop : tie.MeasureT-loop
 μ-loop h word s₀ s = 4 - s
 
-tidy-requires : tie.Need-tidy-requires Inv-loop μ-loop
-tidy-requires c κs = search needs
+token-number-requires : tie.Need-token-number-requires Inv-loop μ-loop
+token-number-requires c κs = search needs
 
 returns : tie.Need-returns Inv-loop μ-loop
 unfolding lowestTaken isTaken
-returns c = rw (sym (c .before .tidy .ensures .0) ∙ c .if1 .taken)
+returns c = rw (sym (c .before .token-number .ensures .0) ∙ c .if1 .taken)
 
 loop-holds : tie.Need-loop-holds Inv-loop μ-loop
 unfolding lowestTaken
@@ -51,7 +50,7 @@ lowest-taken-spec =
     (tie.spec
     Inv-loop
     μ-loop
-    tidy-requires
+    token-number-requires
     returns
     loop-holds
     is-taken-requires
