@@ -30,8 +30,9 @@ returns-3 c =
     let u = c .before .before in
     let b = u .before .before in
     let f = b .before .before in
-    did-as (begin-listed _ (f .before .before .before .if1 .left) (f .if2 .left) (b .begun .ensures) (u .before .state-word .ensures))
-    (did-list (u .store .ensures) (f .before .before .before .before .before .before .before .pre .0) (omega arith))
+    let g = f .before .before .before in
+    did-as (begin-listed _ (g .if1 .left) (f .if2 .left) (b .begun .ensures) (u .before .state-word .ensures))
+    (did-list (u .store .ensures) (omega (arith, g .before .before .before .before .pre .0)))
 
 pub begin-at-spec : {M : Type 1} → statement M
 begin-at-spec =
