@@ -3,7 +3,6 @@
 use Prim.Native.Nat.{ℕ, _≤_}
 use mathlib.Core.Path.{_≡_, refl, sym, ap, _∙_}
 use mathlib.Core.List.{List, List·Memᴰ·head as here, List·Memᴰ·tail as there}
-use native.Mathlib.Omega.{arith}
 use borrow.Author.Tests.{leb-true}
 use lib.ListN.{length}
 use Rattle.rules.specs.Words.{Table, headerOf}
@@ -21,14 +20,14 @@ use Rattle.reading.specs.Gates.{gateOf}
 use Rattle.reading.specs.declared.gate.Gate.{Gate}
 use Rattle.reading.specs.declared.gate.Gate.the-variants.{Open, Shut}
 use Rattle.reading.proofs.Gated.{gate-open, gate-shut, gate-passed}
-use Rattle.listing.specs.Listing.{Run}
+use Rattle.listing.specs.Listing.{Room, Run}
 use Rattle.listing.specs.Promises.{Changed, StepTaken, Did}
 use Rattle.listing.proofs.Runs.{front}
 
 -- ---- what was done
 
-pub did-list : {n : ℕ} {l m : List ℕ} {xs : List Store} → Run n l m xs → 20 ≤ length l → length xs ≤ 10 → Did (listed xs) l (Listed n) m
-did-list {n} {l} {m} {xs} r long few = record { answer = ap Listed (r .0); list = r .1 ∙ front l xs (omega arith) }
+pub did-list : {n : ℕ} {l m : List ℕ} {xs : List Store} → Run n l m xs → Room l (length xs) → Did (listed xs) l (Listed n) m
+did-list {l = l} {xs = xs} r room = record { answer = ap Listed (r .0); list = r .1 ∙ front l xs room }
 
 pub did-refuse : (r : Refusal) (l : List ℕ) → Did (refused r) l (Refused r) l
 did-refuse r l = record { answer = refl; list = refl }

@@ -8,7 +8,7 @@ use native.Mathlib.Omega.{arith}
 use lib.ListN.{length, set}
 use lib.Seq.{sets, sets-eq}
 use Rattle.rules.specs.Stores.{Store, flat, written}
-use Rattle.listing.specs.Listing.{listedAt}
+use Rattle.listing.specs.Listing.{Room, listedAt}
 
 flat-append : (xs ys : List Store) → flat (xs ++ ys) ≡ flat xs ++ flat ys
 flat-append [] ys = refl
@@ -36,7 +36,7 @@ then l n xs ys e p f =
     rw (f, e, p, q, flat-append xs ys, sets-append l (2 * n) (flat xs) (flat ys))
 
 -- from the front
-pub front : (l : List ℕ) (xs : List Store) → 2 * length xs ≤ length l → listedAt l 0 xs ≡ written xs l
+pub front : (l : List ℕ) (xs : List Store) → Room l (length xs) → listedAt l 0 xs ≡ written xs l
 unfolding listedAt written
 front l xs h =
     let k : 0 + length (flat xs) ≤ length l = omega (arith, flat-length xs) in

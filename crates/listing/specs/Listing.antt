@@ -1,6 +1,6 @@
 -- A lent list with stores written to it from some pair on.
 -- Assumes nothing.
-use Prim.Native.Nat.{ℕ, _*_, _^_, _<_}
+use Prim.Native.Nat.{ℕ, _*_, _^_, _≤_, _<_}
 use mathlib.Core.Path.{_≡_}
 use mathlib.Core.List.{List}
 use lib.ListN.{length}
@@ -11,6 +11,10 @@ use Rattle.rules.specs.declared.Slot.{Slot}
 use Rattle.rules.specs.declared.Placing.{Placing}
 use Rattle.rules.specs.declared.Placing.the-variants.{Free, Move, Nowhere}
 use Rattle.reading.specs.Within.{PlacingWithin}
+
+-- list l has room for n pairs
+abbrev pub Room : List ℕ → ℕ → Type 0
+Room l n = 2 * n ≤ length l
 
 -- list l with the stores as its pairs n, n + 1, ..
 unfoldable pub listedAt : List ℕ → ℕ → List Store → List ℕ

@@ -18,11 +18,11 @@ ghost use lib.ListN.{length};
 ghost use Rattle.rules.specs.Words.{keyWord};
 ghost use Rattle.rules.specs.Stores.{putStores, clearStores, moveStores, placingStores, redoStores};
 ghost use Rattle.reading.specs.Within.{SlotWithin};
-ghost use Rattle.listing.specs.Listing.{listedAt, Run, Addressed, Takes};
+ghost use Rattle.listing.specs.Listing.{Room, listedAt, Run, Addressed, Takes};
 
 // "pairs: word index, new word"
 pub fn store(list: &mut [u64], at: usize, index: usize, word: u64) -> usize
-    requires { ⌜ (20 ≤ length (now list)) × (at + 1 ≤ 10) ⌝ }
+    requires { ⌜ Room (now list) (at + 1) ⌝ }
     ensures { λ n. ⌜ (n ≡ at + 1) × (now (list .exit) ≡ listedAt (now (list .entry)) at ((index, word) ∷ [])) ⌝ }
 {
     list[2 * at] = index as u64;
@@ -32,7 +32,7 @@ pub fn store(list: &mut [u64], at: usize, index: usize, word: u64) -> usize
 
 // "key, function, place, token", where the bucket's token word is `word`
 pub fn put(list: &mut [u64], at: usize, h: Header, word: u64, x: Slot, key: u64, r: Record) -> usize
-    requires { ⌜ (20 ≤ length (now list)) × (at + 4 ≤ 10) × Addressed x ⌝ }
+    requires { ⌜ Room (now list) (at + 4) × Addressed x ⌝ }
     ensures { λ n. ⌜ (n ≡ at + 4) × (now (list .exit) ≡ listedAt (now (list .entry)) at (putStores h word x key r)) ⌝ }
 {
     let first = key_word(x);
@@ -46,7 +46,7 @@ pub fn put(list: &mut [u64], at: usize, h: Header, word: u64, x: Slot, key: u64,
 
 // "token cleared", where the bucket's token word is `word`
 pub fn clear(list: &mut [u64], at: usize, h: Header, word: u64, x: Slot) -> usize
-    requires { ⌜ (20 ≤ length (now list)) × (at + 1 ≤ 10) × Addressed x ⌝ }
+    requires { ⌜ Room (now list) (at + 1) × Addressed x ⌝ }
     ensures { λ n. ⌜ (n ≡ at + 1) × (now (list .exit) ≡ listedAt (now (list .entry)) at (clearStores h word x)) ⌝ }
 {
     store(list, at, token_word(x.bucket), hide(h, word, x.slot))
@@ -54,7 +54,7 @@ pub fn clear(list: &mut [u64], at: usize, h: Header, word: u64, x: Slot) -> usiz
 
 // "function, place in the slot; flag 0"
 pub fn redo(list: &mut [u64], at: usize, x: Slot, r: Record) -> usize
-    requires { ⌜ (20 ≤ length (now list)) × (at + 3 ≤ 10) × Addressed x ⌝ }
+    requires { ⌜ Room (now list) (at + 3) × Addressed x ⌝ }
     ensures { λ n. ⌜ (n ≡ at + 3) × (now (list .exit) ≡ listedAt (now (list .entry)) at (redoStores x r)) ⌝ }
 {
     let key = key_word(x);
@@ -65,7 +65,7 @@ pub fn redo(list: &mut [u64], at: usize, x: Slot, r: Record) -> usize
 
 // "words 6, 7, 8; flag 1", where "Word 6 holds the index of the slot's key word."
 pub fn log(list: &mut [u64], at: usize, x: Slot, r: Record) -> usize
-    requires { ⌜ (20 ≤ length (now list)) × (at + 4 ≤ 10) × Addressed x ⌝ }
+    requires { ⌜ Room (now list) (at + 4) × Addressed x ⌝ }
     ensures { λ n. ⌜ (n ≡ at + 4) × (now (list .exit) ≡ listedAt (now (list .entry)) at ((6, keyWord x) ∷ (7, r .function) ∷ (8, r .place) ∷ (5, 1) ∷ [])) ⌝ }
 {
     let second = store(list, at, 6, key_word(x) as u64);
@@ -76,7 +76,7 @@ pub fn log(list: &mut [u64], at: usize, x: Slot, r: Record) -> usize
 
 // A move: "the item's three words and token at its new slot; old token cleared"
 fn moved(t: &[u64], list: &mut [u64], h: Header, from: Slot, to: Slot) -> usize
-    requires { ⌜ (20 ≤ length (now list)) × (length (now t) < 2 ^ 32) × SlotWithin (now t) from × SlotWithin (now t) to ⌝ }
+    requires { ⌜ Room (now list) 5 × (length (now t) < 2 ^ 32) × SlotWithin (now t) from × SlotWithin (now t) to ⌝ }
     ensures { λ n. ⌜ (n ≡ 5) × (now (list .exit) ≡ listedAt (now (list .entry)) 0 (moveStores (now (t .entry)) h from to)) ⌝ }
 {
     let key = key_at(t, from);
@@ -98,7 +98,7 @@ pub fn placed(
     key: u64,
     r: Record,
 ) -> usize
-    requires { ⌜ (20 ≤ length (now list)) × (length (now t) < 2 ^ 32) × Takes (now t) p x ⌝ }
+    requires { ⌜ Room (now list) 9 × (length (now t) < 2 ^ 32) × Takes (now t) p x ⌝ }
     ensures { λ n. ⌜ Run n (now (list .entry)) (now (list .exit)) (placingStores (now (t .entry)) h p key r) × (n ≤ 9) ⌝ }
 {
     let word = token(t, x.bucket);

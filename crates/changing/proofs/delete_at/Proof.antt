@@ -42,7 +42,7 @@ returns-2 c =
     let d = c .before .before in
     let f = d .before .before .before .before in
     did-as (delete-listed _ _ _ (f .before .before .lookup .ensures .0) (f .found .given .1) (d .before .token .ensures))
-    (did-list (d .clear .ensures) (f .before .before .before .before .before .pre .0) (omega arith))
+    (did-list (d .clear .ensures) (omega arith))
 
 pub delete-at-spec : {M : Type 1} → statement M
 delete-at-spec =

@@ -50,7 +50,7 @@ returns-2 c =
     let p = j .before in
     let k = taken j in
     did-as (take-listed _ _ _ _ (k .0 ∙ placing-told-by (p .placing .ensures .0)) _ (k .1))
-    (did-list (d .insert-stores .ensures .0) (p .before .before .before .pre .0) (omega (arith, d .insert-stores .ensures .0 .0, d .insert-stores .ensures .1)))
+    (did-list (d .insert-stores .ensures .0) (omega (arith, d .insert-stores .ensures .0 .0, d .insert-stores .ensures .1)))
 
 pub insert-absent-spec : {M : Type 1} → statement M
 insert-absent-spec =

@@ -1,6 +1,7 @@
 -- `changing::insert_by_move` meets its contract.
 -- Assumes nothing.
 use mathlib.Core.Path.{refl}
+use native.Mathlib.Omega.{arith}
 use Rattle.listing.specs.Listing.{Takes}
 use borrow.Author.Needs.{needs}
 use Rattle.changing.proofs.insert_by_move.Statement.{statement}
@@ -8,7 +9,7 @@ use Rattle.changing.proofs.insert_by_move.Tie as tie
 
 placed-requires : tie.Need-placed-requires
 unfolding Takes
-placed-requires c κs = let s = c .before .before .before in (s .pre .0, s .pre .1, (refl, s .pre .2))
+placed-requires c κs = let s = c .before .before .before in (omega arith, s .pre .1, (refl, s .pre .2))
 
 same-length : tie.Need-same-length
 same-length c = search needs

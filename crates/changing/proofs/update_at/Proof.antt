@@ -34,7 +34,7 @@ returns-2 c =
     let d = c .before .before in
     let f = d .before .before .before in
     did-as (update-listed _ _ _ (f .before .before .lookup .ensures .0) _ (f .found .given .1))
-    (did-list (d .renewed .ensures .0) (f .before .before .before .before .before .pre .0) (omega (arith, d .renewed .ensures .0 .0, d .renewed .ensures .1)))
+    (did-list (d .renewed .ensures .0) (omega (arith, d .renewed .ensures .0 .0, d .renewed .ensures .1)))
 
 pub update-at-spec : {M : Type 1} → statement M
 update-at-spec =

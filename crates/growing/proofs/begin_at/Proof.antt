@@ -41,8 +41,9 @@ returns-3 c =
     let u = c .before .before in
     let b = u .before .before in
     let f = b .before .before in
-    did-as (begin-listed _ (resting (f .before .before .before)) (f .if2 .left) (b .begun .ensures) (u .before .word .ensures))
-    (did-list (u .store .ensures) (f .before .before .before .before .before .before .before .pre .0) (omega arith))
+    let g = f .before .before .before in
+    did-as (begin-listed _ (resting g) (f .if2 .left) (b .begun .ensures) (u .before .word .ensures))
+    (did-list (u .store .ensures) (omega (arith, g .before .before .before .before .pre .0)))
 
 pub begin-at-spec : {M : Type 1} → statement M
 begin-at-spec =

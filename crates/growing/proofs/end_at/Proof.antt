@@ -54,8 +54,9 @@ returns-3 c =
     let b = u .before .before in
     let m = b .before .before .before in
     let f = m .before in
-    did-as (end-listed _ _ (f .first-item .ensures .0) (growing (f .before)) (is-empty _ (m .match .keys1)) (b .ended .ensures) (u .before .word .ensures))
-    (did-list (u .store .ensures) (f .before .before .before .before .before .before .pre .0) (omega arith))
+    let g = f .before in
+    did-as (end-listed _ _ (f .first-item .ensures .0) (growing g) (is-empty _ (m .match .keys1)) (b .ended .ensures) (u .before .word .ensures))
+    (did-list (u .store .ensures) (omega (arith, g .before .before .before .before .before .pre .0)))
 
 pub end-at-spec : {M : Type 1} → statement M
 end-at-spec =

@@ -53,7 +53,7 @@ record-at-requires : tie.Need-record-at-requires
 record-at-requires c κs = search needs
 
 placed-requires : tie.Need-placed-requires
-placed-requires c κs = let m = c .before .before in let s = m .before .before .before .before .before .before in (s .pre .0, table-small _ _ (s .pre .1), taken m .1)
+placed-requires c κs = let m = c .before .before in let s = m .before .before .before .before .before .before in (omega arith, table-small _ _ (s .pre .1), taken m .1)
 
 token-requires : tie.Need-token-requires
 token-requires c κs = search needs

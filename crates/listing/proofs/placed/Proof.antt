@@ -19,13 +19,24 @@ enum-known-p : tie.Need-enum-known-p
 enum-known-p c = search needs
 
 moved-requires : tie.Need-moved-requires
-moved-requires c κs = let s = c .before .before .before .before .before .before .before in let k = takes-moved _ _ (c .before .before .p .given .1) (s .pre .2) in (s .pre .0, s .pre .1, k .1, k .2)
+moved-requires c κs =
+    let q = c .before .before in
+    let s = q .before .before .before .before .before in
+    let k = takes-moved _ _ (q .p .given .1) (s .pre .2) in
+    (omega arith, s .pre .1, k .1, k .2)
 
 hide-requires : tie.Need-hide-requires
-hide-requires c κs = within (c .before .before .before .before .before .before .before .before .before .before .before) .1
+hide-requires c κs =
+    let m = c .before .before .before .before in
+    let q = m .before .before in
+    within (q .before .before .before .before .before) .1
 
 put-requires : tie.Need-put-requires
-put-requires c κs = let s = c .before .before .before .before .before .before .before .before .before .before .before .before in let w = within s in omega (arith, w .0, w .1)
+put-requires c κs =
+    let m = c .before .before .before .before .before in
+    let q = m .before .before in
+    let w = within (q .before .before .before .before .before) in
+    omega (arith, w .0, w .1)
 
 same-length : tie.Need-same-length
 same-length c = search needs

@@ -69,7 +69,7 @@ returns-2 c =
     let d = c .before .before in
     let k = d .before .before .before .before in
     let f = k .before .before .finding in
-    did-as (recover-doubled _ _ (f .result) (f .ensures .0) (k .found .given .1) (d .before .token .ensures)) (did-list (d .clear .ensures) (k .before .before .before .before .before .pre .0) (omega arith))
+    did-as (recover-doubled _ _ (f .result) (f .ensures .0) (k .found .given .1) (d .before .token .ensures)) (did-list (d .clear .ensures) (omega arith))
 
 same-length-2 : tie.Need-same-length-2
 same-length-2 c = search needs
@@ -80,7 +80,7 @@ returns-3 c =
     let d = c .before .before in
     let k = d .before .before .before .before .before in
     let f = k .before .before .finding in
-    did-as (recover-flagged _ _ (f .result) (f .ensures .0) (k .found2 .given .1) refl) (did-list (d .redo .ensures) (k .before .before .before .before .before .pre .0) (omega arith))
+    did-as (recover-flagged _ _ (f .result) (f .ensures .0) (k .found2 .given .1) refl) (did-list (d .redo .ensures) (omega arith))
 
 returns-4 : tie.Need-returns-4
 returns-4 c = let f = c .before .before .finding in did-as (recover-neither _ _ (f .result) (f .ensures .0) (c .before .match .keys4)) (did-refuse _ _)
