@@ -19,6 +19,7 @@ use rules::Placing;
 use rules::Refusal;
 use rules::Slot;
 use rules::Stepped;
+use rules::layout::STATE;
 ghost use mathlib.Core.Path.{_≡_};
 ghost use mathlib.Core.Option.{some};
 ghost use Prim.Native.Nat.{_≤_};
@@ -44,7 +45,7 @@ fn begin_at(list: &mut [u64], h: Header) -> Change
     if state.k == h.c {
         return Change::Refused(Refusal::AtCapacity);
     }
-    let listed = store(list, 0, 4, state.begun().word());
+    let listed = store(list, 0, STATE, state.begun().word());
     Change::Listed(listed as u64)
 }
 
@@ -128,7 +129,7 @@ fn end_at(t: &[u64], list: &mut [u64], h: Header) -> Change
     let Item::Empty = item else {
         return Change::Refused(Refusal::InterimTaken);
     };
-    let stores = store(list, 0, 4, state.ended().word());
+    let stores = store(list, 0, STATE, state.ended().word());
     Change::Listed(stores as u64)
 }
 

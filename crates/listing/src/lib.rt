@@ -11,6 +11,10 @@ use rules::Header;
 use rules::Placing;
 use rules::Record;
 use rules::Slot;
+use rules::layout::FLAG;
+use rules::layout::LOGGED_FUNCTION;
+use rules::layout::LOGGED_PLACE;
+use rules::layout::TARGET;
 ghost use mathlib.Core.Path.{_≡_};
 ghost use mathlib.Core.List.{[], _∷_};
 ghost use Prim.Native.Nat.{_+_, _^_, _≤_, _<_};
@@ -60,7 +64,7 @@ pub fn redo(list: &mut [u64], at: usize, x: Slot, r: Record) -> usize
     let key = key_word(x);
     let second = store(list, at, key + 1, r.function);
     let third = store(list, second, key + 2, r.place);
-    store(list, third, 5, 0)
+    store(list, third, FLAG, 0)
 }
 
 // "words 6, 7, 8; flag 1", where "Word 6 holds the index of the slot's key word."
@@ -68,10 +72,10 @@ pub fn log(list: &mut [u64], at: usize, x: Slot, r: Record) -> usize
     requires { ⌜ Room (now list) (at + 4) × Addressed x ⌝ }
     ensures { λ n. ⌜ (n ≡ at + 4) × (now (list .exit) ≡ listedAt (now (list .entry)) at ((6, keyWord x) ∷ (7, r .function) ∷ (8, r .place) ∷ (5, 1) ∷ [])) ⌝ }
 {
-    let second = store(list, at, 6, key_word(x) as u64);
-    let third = store(list, second, 7, r.function);
-    let fourth = store(list, third, 8, r.place);
-    store(list, fourth, 5, 1)
+    let second = store(list, at, TARGET, key_word(x) as u64);
+    let third = store(list, second, LOGGED_FUNCTION, r.function);
+    let fourth = store(list, third, LOGGED_PLACE, r.place);
+    store(list, fourth, FLAG, 1)
 }
 
 // A move: "the item's three words and token at its new slot; old token cleared"

@@ -1,6 +1,13 @@
 // The two calls that write the table. "A changing call only reads the table": it lists its stores, and make makes them.
 use rules::Refusal;
 use rules::Verdict;
+use rules::layout::BUCKET_WORDS;
+use rules::layout::CAPACITY;
+use rules::layout::FORM;
+use rules::layout::HEADER_WORDS;
+use rules::layout::MULTIPLIER1;
+use rules::layout::MULTIPLIER2;
+use rules::layout::STATE;
 use words::power;
 ghost use mathlib.Core.Path.{_≡_};
 ghost use mathlib.Core.Bool.{true};
@@ -18,7 +25,7 @@ pub fn words_for(c: u64) -> usize
     requires { ⌜ c ≤ 20 ⌝ }
     ensures { λ r. ⌜ r ≡ wordsFor c ⌝ }
 {
-    9 + 13 * (power(c + 1) - 1)
+    HEADER_WORDS + BUCKET_WORDS * (power(c + 1) - 1)
 }
 
 // "13 | c, first k (1 to c), length or a multiplier bad". c is tested first: the size of a table is computed only where it fits.
@@ -62,11 +69,11 @@ pub fn create(t: &mut [u64], c: u64, k: u64, mul1: u64, mul2: u64) -> Verdict
         return Verdict::Denied(Refusal::BadCreation);
     }
     zero(t);
-    t[0] = 1;
-    t[1] = c;
-    t[2] = mul1;
-    t[3] = mul2;
-    t[4] = k;
+    t[FORM] = 1;
+    t[CAPACITY] = c;
+    t[MULTIPLIER1] = mul1;
+    t[MULTIPLIER2] = mul2;
+    t[STATE] = k;
     Verdict::Done
 }
 

@@ -3,6 +3,8 @@ use super::header::decode;
 use super::header::header_good;
 use rules::Header;
 use rules::Refusal;
+use rules::layout::FLAG;
+use rules::layout::HEADER_WORDS;
 ghost use mathlib.Core.Path.{_≡_};
 ghost use Rattle.rules.specs.Calls.{flagClear, changingTests, queryTests, recoverTests};
 ghost use Rattle.rules.specs.declared.Refusal.the-variants.{FlagSet};
@@ -17,7 +19,7 @@ pub enum Gate {
 fn header_gate(t: &[u64]) -> Gate
     ensures { λ r. ⌜ (r ≡ gateOf (now (t .entry)) (headerTest (now (t .entry)))) × Ready (now (t .entry)) r ⌝ }
 {
-    if t.len() < 9 {
+    if t.len() < HEADER_WORDS {
         return Gate::Shut(Refusal::BadHeader);
     }
     let h = decode(t);
@@ -50,7 +52,7 @@ fn unflagged(t: &[u64], gate: Gate) -> Gate
     match gate {
         Gate::Shut(r) => Gate::Shut(r),
         Gate::Open(h) => {
-            if t[5] != 0 {
+            if t[FLAG] != 0 {
                 return Gate::Shut(Refusal::FlagSet);
             }
             Gate::Open(h)

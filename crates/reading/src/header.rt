@@ -1,6 +1,13 @@
 // The header: words 0 to 4 decoded, and test 1.
 use rules::Header;
 use rules::State;
+use rules::layout::BUCKET_WORDS;
+use rules::layout::CAPACITY;
+use rules::layout::FORM;
+use rules::layout::HEADER_WORDS;
+use rules::layout::MULTIPLIER1;
+use rules::layout::MULTIPLIER2;
+use rules::layout::STATE;
 use words::power;
 ghost use mathlib.Core.Path.{_≡_};
 ghost use Prim.Native.Nat.{_≤_};
@@ -13,13 +20,13 @@ pub fn decode(t: &[u64]) -> Header
     ensures { λ r. ⌜ r ≡ headerOf (now (t .entry)) ⌝ }
 {
     Header {
-        form: t[0],
-        c: t[1],
-        mul1: t[2],
-        mul2: t[3],
+        form: t[FORM],
+        c: t[CAPACITY],
+        mul1: t[MULTIPLIER1],
+        mul2: t[MULTIPLIER2],
         state: State {
-            k: t[4] % 256,
-            phase: t[4] / 256,
+            k: t[STATE] % 256,
+            phase: t[STATE] / 256,
         },
     }
 }
@@ -34,7 +41,7 @@ pub fn header_good(size: usize, h: Header) -> bool
     if 20 < h.c {
         return false;
     }
-    if size != 9 + 13 * (power(h.c + 1) - 1) {
+    if size != HEADER_WORDS + BUCKET_WORDS * (power(h.c + 1) - 1) {
         return false;
     }
     if h.form != 1 {

@@ -16,6 +16,9 @@ use rules::Finding;
 use rules::Header;
 use rules::Record;
 use rules::Refusal;
+use rules::layout::FLAG;
+use rules::layout::LOGGED_FUNCTION;
+use rules::layout::LOGGED_PLACE;
 use scanning::copies::Scan;
 use scanning::items::scan_table;
 use target::Target;
@@ -82,10 +85,10 @@ pub fn finding(t: &[u64], h: Header) -> Finding
         return Finding::Neither;
     }
     let scan = scan_table(t, h);
-    if t[5] == 0 {
+    if t[FLAG] == 0 {
         return still(t, scan);
     }
-    if t[5] == 1 {
+    if t[FLAG] == 1 {
         return flagged(scan, find_target(t, h));
     }
     Finding::Neither
@@ -105,8 +108,8 @@ fn recover_at(t: &[u64], list: &mut [u64], h: Header) -> Change
         }
         Finding::Flagged(x) => {
             let logged = Record {
-                function: t[7],
-                place: t[8],
+                function: t[LOGGED_FUNCTION],
+                place: t[LOGGED_PLACE],
             };
             let redone = redo(list, 0, x, logged);
             Change::Listed(redone as u64)

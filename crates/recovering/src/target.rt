@@ -7,6 +7,11 @@ use rules::Header;
 use rules::Level;
 use rules::Slot;
 use rules::State;
+use rules::layout::BUCKET_WORDS;
+use rules::layout::FIRST_SLOT;
+use rules::layout::HEADER_WORDS;
+use rules::layout::SLOT_WORDS;
+use rules::layout::TARGET;
 use words::power;
 ghost use mathlib.Core.Path.{_≡_};
 ghost use Prim.Native.Nat.{_≤_};
@@ -58,20 +63,20 @@ pub fn find_target(t: &[u64], h: Header) -> Target
     requires { ⌜ GoodHeader (length (now t)) h × (h ≡ headerOf (now t)) ⌝ }
     ensures { λ r. ⌜ targetMeans r ≡ targetOf (now (t .entry)) ⌝ }
 {
-    let word = t[6] as usize;
-    if word < 9 {
+    let word = t[TARGET] as usize;
+    if word < HEADER_WORDS {
         return Target::Nothing;
     }
-    let offset = (word - 9) % 13;
-    if offset % 3 != 1 {
+    let offset = (word - HEADER_WORDS) % BUCKET_WORDS;
+    if offset % SLOT_WORDS != FIRST_SLOT {
         return Target::Nothing;
     }
-    let bucket = (word - 9) / 13;
+    let bucket = (word - HEADER_WORDS) / BUCKET_WORDS;
     let home = home_of(h.state, bucket);
     let Home::In(level) = home else {
         return Target::Nothing;
     };
-    let slot = offset / 3;
+    let slot = offset / SLOT_WORDS;
     if !is_taken(h, token(t, bucket), slot) {
         return Target::Nothing;
     }

@@ -1,6 +1,8 @@
 // The types that the rules of document 01 and the code share: what the header says, where an item stands,
 // the calls, and what each call answers. The only code is that of a state, which is handed on by value; specs/ has the rules, and
 // proofs/ the laws about them.
+pub mod layout;
+
 ghost use mathlib.Core.Path.{_≡_};
 ghost use Prim.Native.Nat.{_≤_};
 ghost use Rattle.rules.specs.Words.{atRest, stateGood, stateWord};

@@ -1,27 +1,24 @@
 -- `reading::slots::token` meets its contract.
 -- Assumes nothing.
-use mathlib.Core.Path.{refl}
-use Rattle.rules.specs.Words.{tokenWord, tokenOf}
 use borrow.Author.Needs.{needs}
+use Rattle.rules.specs.Words.{tokenWord, tokenOf}
 use Rattle.reading.proofs.slots.token.Statement.{statement}
 use Rattle.reading.proofs.slots.token.Tie as tie
 
+token-word-requires : tie.Need-token-word-requires
+token-word-requires c κs = search needs
+
 mul-result : tie.Need-mul-result
+unfolding tokenWord
 mul-result c = search needs
 
-add-result : tie.Need-add-result
-add-result c = search needs
-
-mul-result-2 : tie.Need-mul-result-2
-mul-result-2 c = search needs
-
 shared-slice-read-result : tie.Need-shared-slice-read-result
+unfolding tokenWord
 shared-slice-read-result c = search needs
 
 returns : tie.Need-returns
-unfolding tokenOf tokenWord
-returns c = refl
+unfolding tokenOf
+returns c = rw (c .before .token-word .ensures)
 
 pub token-spec : {M : Type 1} → statement M
-token-spec =
-    tie.close (tie.spec mul-result add-result mul-result-2 shared-slice-read-result returns)
+token-spec = tie.close (tie.spec token-word-requires mul-result shared-slice-read-result returns)
