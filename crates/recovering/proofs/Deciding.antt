@@ -26,7 +26,8 @@ use Rattle.rules.proofs.Tests.{all-no}
 use Rattle.rules.proofs.Meanings.{finding-tells}
 use Rattle.rules.proofs.PlacesInUse.{slot-within}
 use Rattle.rules.proofs.Twins.{taken-in, twins-ordered}
-use Rattle.rules.proofs.Copies.{copies, copy-twins, linear, still-alike, flagged-alike, target-some}
+use Rattle.rules.proofs.Targets.{target-some}
+use Rattle.scanning.proofs.Copying.{copies, copy-twins, linear, still-alike, flagged-alike}
 use Rattle.reading.specs.Within.{SlotWithin}
 use Rattle.scanning.specs.declared.copies.Scan.{Scan}
 use Rattle.scanning.specs.declared.copies.Scan.the-variants.{Clear, Pair, Spoilt}

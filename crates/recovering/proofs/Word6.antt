@@ -23,7 +23,7 @@ use Rattle.rules.proofs.Tests.{Tells, tells-le, tells-and}
 use Rattle.rules.proofs.Along.{along, along-all}
 use Rattle.rules.proofs.PlacesInUse.{slot-within}
 use Rattle.rules.proofs.Twins.{taken-in, in-taken}
-use Rattle.rules.proofs.Copies.{target-found, target-none}
+use Rattle.rules.proofs.Targets.{target-found, target-none}
 use Rattle.recovering.specs.Found.{inLevel, homeOf, homeMeans}
 use Rattle.recovering.specs.declared.target.Home.{Home}
 use Rattle.recovering.specs.declared.target.Home.the-variants.{In as InLevelOf, Nowhere}

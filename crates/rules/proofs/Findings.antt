@@ -26,7 +26,7 @@ use Rattle.rules.proofs.Headers.{header-passes}
 use Rattle.rules.proofs.PlacesInUse.{slot-by-bucket}
 use Rattle.rules.proofs.Twins.{before-once, before-apart, taken-in, in-taken, Twins, twins-ordered, twins-all, twins-apart, same-or-twins}
 use Rattle.rules.proofs.Addresses.{key-word-one}
-use Rattle.rules.proofs.Copies.{target-some, target-missed}
+use Rattle.rules.proofs.Targets.{target-some, target-missed}
 use Rattle.rules.proofs.Sound.{alone-tells, orderly-tells}
 
 -- what a finding says of the table

@@ -2,7 +2,6 @@ pub mod Lists
 pub mod Tests
 pub mod Walks
 pub mod Loops
-pub mod Alike
 pub mod Along
 pub mod Lowest
 pub mod Checked
@@ -30,7 +29,7 @@ pub mod Unused
 pub mod Sound
 pub mod Maps
 pub mod Lookups
-pub mod Copies
+pub mod Targets
 pub mod Findings
 pub mod Queries
 pub mod Refusals

@@ -4,7 +4,6 @@ pub mod Places
 pub mod Placing
 pub mod Stores
 pub mod Soundness
-pub mod Copies
 pub mod Answers
 pub mod Calls
 pub mod Results

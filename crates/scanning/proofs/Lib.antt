@@ -1,2 +1,4 @@
+mod Alike
+pub mod Copying
 mod Meeting
 pub mod Told

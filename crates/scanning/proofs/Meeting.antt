@@ -22,7 +22,7 @@ use Rattle.rules.specs.declared.Lookup.{Lookup}
 use Rattle.rules.specs.declared.Lookup.the-variants.{Stands, Absent}
 use Rattle.reading.specs.Levels.{placeIn}
 use Rattle.rules.proofs.Loops.{foldFrom, fold-whole, within, fold-within, testsFrom, tests-whole, any-within}
-use Rattle.rules.specs.Copies.{isBefore, inOrder, sameSlot}
+use Rattle.scanning.specs.Copying.{isBefore, inOrder, sameSlot}
 use Rattle.scanning.specs.declared.copies.Scan.{Scan}
 use Rattle.scanning.specs.declared.copies.Scan.the-variants.{Clear, Pair, Spoilt}
 use Rattle.scanning.specs.Scans.{metOf, itemMet, slotMet, scanOf}

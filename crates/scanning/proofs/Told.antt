@@ -10,7 +10,7 @@ use Rattle.rules.specs.Choice.{all}
 use Rattle.rules.specs.Words.{Table, GoodHeader, headerOf, keyIn, taken, slotsInUse}
 use Rattle.rules.specs.Places.{lookup}
 use Rattle.rules.specs.Soundness.{takenSlots, TakenSlot, inPlace}
-use Rattle.rules.specs.Copies.{inOrder, sameSlot, copyAt, copiesOf}
+use Rattle.scanning.specs.Copying.{inOrder, sameSlot, copyAt, copiesOf}
 use Rattle.rules.specs.declared.Slot.{Slot}
 use Rattle.rules.specs.declared.Lookup.{Lookup}
 use Rattle.rules.specs.declared.Lookup.the-variants.{Stands, Absent}
@@ -20,7 +20,7 @@ use Rattle.rules.proofs.Loops.{fold-select}
 use Rattle.rules.proofs.PlacesInUse.{in-place}
 use Rattle.rules.proofs.Twins.{taken-in}
 use Rattle.rules.proofs.Lookups.{lookup-sees}
-use Rattle.rules.proofs.Copies.{copies, itself-in-place}
+use Rattle.scanning.proofs.Copying.{copies, itself-in-place}
 use Rattle.scanning.specs.declared.copies.Scan.{Scan}
 use Rattle.scanning.specs.declared.copies.Scan.the-variants.{Clear, Spoilt}
 use Rattle.scanning.specs.Scans.{metOf, endedAt, itemMet, slotMet, scanOf, scanned}

@@ -5,7 +5,7 @@ use mathlib.Core.List.{List, [], _∷_, map, foldl}
 use Rattle.rules.specs.Choice.{any}
 use Rattle.rules.specs.Words.{Table, slotsInUse, placeOf, keyIn, taken}
 use Rattle.rules.specs.Places.{samePlace, placesOf, lookup}
-use Rattle.rules.specs.Copies.{inOrder, sameSlot}
+use Rattle.scanning.specs.Copying.{inOrder, sameSlot}
 use Rattle.rules.specs.declared.Header.{Header}
 use Rattle.rules.specs.declared.Slot.{Slot}
 use Rattle.rules.specs.declared.Lookup.{Lookup}

@@ -1,7 +1,7 @@
 // Two slots with one key, in the order of slots, and how many such pairs a scan has met.
 use rules::Slot;
 ghost use mathlib.Core.Path.{_≡_};
-ghost use Rattle.rules.specs.Copies.{isBefore, inOrder, sameSlot};
+ghost use Rattle.scanning.specs.Copying.{isBefore, inOrder, sameSlot};
 ghost use Rattle.scanning.specs.declared.copies.Scan.the-variants.{Clear};
 ghost use Rattle.scanning.specs.Scans.{metOf};
 

@@ -28,7 +28,7 @@ ghost use lib.ListN.{length};
 ghost use Rattle.rules.specs.Choice.{any};
 ghost use Rattle.rules.specs.Words.{GoodState, GoodHeader, placeOf, slotsIn, slotsOf};
 ghost use Rattle.rules.specs.Places.{samePlace, placesIn, probes};
-ghost use Rattle.rules.specs.Copies.{inOrder};
+ghost use Rattle.scanning.specs.Copying.{inOrder};
 ghost use Rattle.reading.specs.Within.{BucketWithin, SlotWithin};
 ghost use Rattle.scanning.specs.declared.copies.Scan.the-variants.{Spoilt};
 ghost use Rattle.scanning.specs.Scans.{metOf, itemMet, slotMet, scanOf};

@@ -1,15 +1,15 @@
 -- What a recovery that is linear in the table asks: of each taken slot, where the lookup of its key ends. Where that is another
--- slot, the two are copies. `proofs/Copies` shows that it finds what `Soundness` says.
+-- slot, the two are copies. `proofs/Copying` shows that it finds what `Soundness` says.
 -- Assumes nothing.
 use mathlib.Core.Bool.{Bool, cond, _&&_, _||_}
 use mathlib.Core.List.{List, [], _∷_}
 use lib.Dec.{ltb, eqb}
 use Rattle.rules.specs.Words.{Table, keyIn}
 use Rattle.rules.specs.Places.{lookup}
 use Rattle.rules.specs.declared.Header.{Header}
 use Rattle.rules.specs.declared.Slot.{Slot}
 use Rattle.rules.specs.declared.Lookup.{Lookup}
 use Rattle.rules.specs.declared.Lookup.the-variants.{Stands, Absent}
 
 -- "by top, bottom, interim, then bucket and slot ascending", as a test
 unfoldable pub isBefore : Slot → Slot → Bool

@@ -1,6 +1,6 @@
 -- An item's other copies are not looked for among all taken slots: the lookup of its key ends at one of them, in at most six
 -- buckets. Where each taken slot stands "in a place of its key" this finds no pair, one or more where the rules' list of pairs has
--- none, one or more, and the same one; so recovery finds the same. And word 6 tells its slot without a search.
+-- none, one or more, and the same one; so recovery finds the same.
 -- Assumes nothing.
 use Prim.Native.Nat.{ℕ, _<_}
 use mathlib.Core.Path.{_≡_, refl, sym, ap, _∙_}
@@ -10,26 +10,23 @@ use mathlib.Core.Logic.{Iff·rfl, _⊎_, ⊎-elim, inl, inr}
 use mathlib.Core.Option.{Option, none, some}
 use native.Mathlib.Omega.{arith}
 use lib.ListN.{length}
-use lib.Dec.{eqb}
-use borrow.Author.Tests.{eqb-true, eqb-false}
-use Rattle.rules.specs.Choice.{all, given}
-use Rattle.rules.specs.Words.{Table, GoodHeader, GoodState, headerOf, targetOf, placeOf, keyWord, keyIn}
+use Rattle.rules.specs.Choice.{all}
+use Rattle.rules.specs.Words.{Table, GoodHeader, GoodState, headerOf, placeOf, keyIn}
 use Rattle.rules.specs.Places.{samePlace, placesOf, lookup}
-use Rattle.rules.specs.Soundness.{takenSlots, TakenSlot, inPlace, Before, twins, whenStill, target, whenFlagged}
-use Rattle.rules.specs.Copies.{isBefore, inOrder, sameSlot, copyAt, copiesOf}
+use Rattle.rules.specs.Soundness.{takenSlots, TakenSlot, inPlace, Before, twins, whenStill, whenFlagged}
+use Rattle.scanning.specs.Copying.{isBefore, inOrder, sameSlot, copyAt, copiesOf}
 use Rattle.rules.specs.declared.Place.{Place}
 use Rattle.rules.specs.declared.Slot.{Slot}
 use Rattle.rules.specs.declared.Lookup.{Lookup}
 use Rattle.rules.specs.declared.Lookup.the-variants.{Stands, Absent}
 use Rattle.rules.specs.declared.Finding.the-variants.{Neither}
-use Rattle.rules.proofs.Lists.{never, firstOf-some, firstOf-none, given-some, given-none, flatMap-in, in-flatMap, ascending-flatMap, NoRepeat}
+use Rattle.rules.proofs.Lists.{never, flatMap-in, in-flatMap, ascending-flatMap, NoRepeat}
 use Rattle.rules.proofs.Tests.{Tells, tells-lt, tells-eq, tells-and, tells-or, tells-all, tells-any}
-use Rattle.rules.proofs.Addresses.{key-word-one}
-use Rattle.rules.proofs.Alike.{Alike, Two, alike-parts}
+use Rattle.scanning.proofs.Alike.{Alike, Two, alike-parts}
 use Rattle.rules.proofs.FreeSlots.{slot-place}
 use Rattle.rules.proofs.PlacesInUse.{same-place-tells, slot-by-bucket, in-place}
 use Rattle.rules.proofs.Twins.{before-once, before-apart, taken-in, in-taken, taken-apart, taken-compare, Twins, twins-ordered, twins-apart, same-or-twins}
 use Rattle.rules.proofs.Lookups.{stands-one, lookup-stands, lookup-sees, holder-among, holder-taken}
 
 -- ---- the order of slots as a test
 
@@ -240,40 +237,3 @@ flagged-alike o xs ys (inr m) = several o xs (m .0) ∙ sym (several o ys (m .1)
     several none l m = refl
     several (some x) [] m = absurd (omega arith)
     several (some x) (p ∷ l) m = refl
-
--- ---- word 6 tells its slot
-
-module _ (t : Table) where
-  named : Slot → Option Slot
-  named x = given (eqb (targetOf t) (keyWord x)) x
-
-  -- the slot that the target is, and what it means that there is none
-  pub target-some : (x : Slot) → target t ≡ some x → In x (takenSlots t) × (targetOf t ≡ keyWord x)
-  unfolding target named
-  target-some x e =
-      let f = firstOf-some named (takenSlots t) x e in
-      let r = given-some (eqb (targetOf t) (keyWord (f .found))) (f .found) x (f .gives) in
-      rw (← (r .1)) (f .inside, eqb-true _ _ (r .0))
-
-  pub target-missed : target t ≡ none → (x : Slot) → In x (takenSlots t) → targetOf t ≡ keyWord x → ⊥
-  unfolding target named
-  target-missed e x i = eqb-false _ _ (given-none _ x (firstOf-none named (takenSlots t) e x i))
-
-  pub target-found : GoodHeader (length t) (headerOf t) → (x : Slot) → In x (takenSlots t) → targetOf t ≡ keyWord x → target t ≡ some x
-  target-found g x i e = go (target t) refl
-    where
-      go : (o : Option Slot) → target t ≡ o → o ≡ some x
-      go none q = absurd (target-missed q x i e)
-      go (some y) q =
-          let r = target-some y q in
-          let u = taken-in t x i .used in
-          let v = taken-in t y (r .0) .used in
-          let k = key-word-one y x (v .slot) (u .slot) (sym (r .1) ∙ e) in
-          ap some (slot-by-bucket (headerOf t .state) (headerOf t .c) (g .state) y x v u (k .0) (k .1))
-
-  pub target-none : ((x : Slot) → In x (takenSlots t) → targetOf t ≡ keyWord x → ⊥) → target t ≡ none
-  target-none d = go (target t) refl
-    where
-      go : (o : Option Slot) → target t ≡ o → o ≡ none
-      go none q = refl
-      go (some y) q = let r = target-some y q in absurd (d y (r .0) (r .1))
