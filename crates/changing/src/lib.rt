@@ -1,7 +1,7 @@
 // Insert, update and delete: each reads the table and lists its stores.
 use listing::clear;
+use listing::list_placing;
 use listing::log;
-use listing::placed;
 use listing::put;
 use listing::redo;
 use placing::placing;
@@ -122,7 +122,7 @@ fn insert_by_move(
     requires { ⌜ (20 ≤ length (now list)) × (length (now t) < 2 ^ 32) × PlacingWithin (now t) (move from to) ⌝ }
     ensures { λ n. ⌜ Run n (now (list .entry)) (now (list .exit)) (placingStores (now (t .entry)) h (move from to) key r) × (n ≤ 9) ⌝ }
 {
-    placed(t, list, h, Placing::Move(from, to), from, key, r)
+    list_placing(t, list, h, Placing::Move(from, to), from, key, r)
 }
 
 // The stores of a placing by which a new item takes slot y. Free slots are what there mostly is: their four stores are written here,

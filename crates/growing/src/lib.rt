@@ -4,7 +4,7 @@ pub mod interim;
 use interim::Item;
 use interim::first_item;
 use listing::clear;
-use listing::placed;
+use listing::list_placing;
 use listing::store;
 use placing::interim_placing;
 use reading::gate::Gate;
@@ -81,7 +81,7 @@ fn step_item(t: &[u64], list: &mut [u64], h: Header, x: Slot) -> Stepped
     let (Placing::Free(y) | Placing::Move(y, _)) = p else {
         return unplaced(Refusal::NoPlace);
     };
-    let at = placed(t, list, h, p, y, key, record_at(t, x));
+    let at = list_placing(t, list, h, p, y, key, record_at(t, x));
     let n = clear(list, at, h, token(t, x.bucket), x);
     Stepped {
         change: Change::Listed(n as u64),

@@ -93,7 +93,7 @@ fn moved(t: &[u64], list: &mut [u64], h: Header, from: Slot, to: Slot) -> usize
 
 // The stores of a placing by which a key and its record take slot x: a put, or "a move of one slot to another" and a put in
 // the slot that it freed.
-pub fn placed(
+pub fn list_placing(
     t: &[u64],
     list: &mut [u64],
     h: Header,

@@ -45,10 +45,10 @@ pub is-free : {p : Placing} {x : Slot} → p ≡ Free x → (o : Option Slot) �
 is-free q none e = absurd (let z : _≡_ {A = ℕ} 0 1 = cc in omega arith)
 is-free {x = x} q (some y) e = let k : some (Free x) ≡ some (Free y) = sym (ap optional q) ∙ e in cc
 
-pub found : (p : Placing) → Option·getD (optional p) Nowhere ≡ p
-found (Free x) = refl
-found (Move from to) = refl
-found Nowhere = refl
+pub optional-back : (p : Placing) → Option·getD (optional p) Nowhere ≡ p
+optional-back (Free x) = refl
+optional-back (Move from to) = refl
+optional-back Nowhere = refl
 
 -- ---- "In the top ..", "If both are full, the same in the bottom.", "If all are full, one move."
 
@@ -82,4 +82,4 @@ module _ (t : Table) (h : Header) (key : ℕ) {x : Hashes} (d : x ≡ hashesOf h
 
     pub by-move : roomIn t h x lower ≡ none → (p : Placing) → optional p ≡ firstOf (moveOf t h) (candidates t h x) → p ≡ placing t h key
     unfolding placing
-    by-move m p e = rw (← d, ← u, n, ← v, m, ← e) (sym (found p))
+    by-move m p e = rw (← d, ← u, n, ← v, m, ← e) (sym (optional-back p))

@@ -13,7 +13,7 @@ use lib.Pow.{pow-pos}
 use lib.Dec.{eqb}
 use borrow.Author.Tests.{eq-eqb, ne-eqb}
 use Rattle.rules.specs.Words.{Table, GoodHeader, topOf, levelsInUse, placeAt}
-use Rattle.rules.specs.Places.{firstPlace, secondPlace, samePlace, placesIn, probes, hitIn, found, seek}
+use Rattle.rules.specs.Places.{firstPlace, secondPlace, samePlace, placesIn, probes, hitIn, standsOr, seek}
 use Rattle.rules.specs.declared.State.{State}
 use Rattle.rules.specs.declared.Header.{Header}
 use Rattle.rules.specs.declared.Level.{Level}
@@ -35,7 +35,7 @@ Turn = Place × Bool
 module _ (hit : Place → Option Slot) where
   abbrev seekTurns : ℕ → List Turn → Lookup
   seekTurns n [] = Absent n
-  seekTurns n (p ∷ ps) = cond (p .1) (found (hit (p .0)) (n + 1) (seekTurns (n + 1) ps)) (seekTurns n ps)
+  seekTurns n (p ∷ ps) = cond (p .1) (standsOr (hit (p .0)) (n + 1) (seekTurns (n + 1) ps)) (seekTurns n ps)
 
 module _ (x : Hashes) where
   turnsIn : Level → List Turn
@@ -48,8 +48,8 @@ module _ (x : Hashes) where
     where
       go : (b : Bool) → ((m : ℕ) → seek hit m (flatMap (placesIn x) ls) ≡ seekTurns hit m (flatMap turnsIn ls))
           → seek hit n (firstPlace x l ∷ (cond b [] (secondPlace x l ∷ []) ++ flatMap (placesIn x) ls)) ≡ seekTurns hit n ((firstPlace x l, true) ∷ (secondPlace x l, not b) ∷ flatMap turnsIn ls)
-      go true k = ap (found (hit (firstPlace x l)) (n + 1)) (k (n + 1))
-      go false k = ap (λ z. found (hit (firstPlace x l)) (n + 1) (found (hit (secondPlace x l)) (n + 1 + 1) z)) (k (n + 1 + 1))
+      go true k = ap (standsOr (hit (firstPlace x l)) (n + 1)) (k (n + 1))
+      go false k = ap (λ z. standsOr (hit (firstPlace x l)) (n + 1) (standsOr (hit (secondPlace x l)) (n + 1 + 1) z)) (k (n + 1 + 1))
 
   module _ (d : Level) where
     -- two turns on is a level on

@@ -84,7 +84,7 @@ module _ (t u : Table) (Gone New : Slot → Type 0) (carried : Carried t u Gone 
       → ((z : Slot) × TakenSlot u z × (keyIn u z ≡ key) × (recordIn u z ≡ r))
       ⊎ ((m key ≡ some r) × ((y : Slot) → TakenSlot t y → keyIn t y ≡ key → Gone y → ⊥)))
       → HasMap u n
-  carried-map m n has new kept only = record { stands = stands; only = λ key r e. found key r (only key r e) }
+  carried-map m n has new kept only = record { stands = stands; only = λ key r e. stood key r (only key r e) }
     where
       stands : (z : Slot) → TakenSlot u z → n (keyIn u z) ≡ some (recordIn u z)
       stands z a =
@@ -94,10 +94,10 @@ module _ (t u : Table) (Gone New : Slot → Type 0) (carried : Carried t u Gone 
           ap n (k .key) ∙ kept (h .0) (k .before) (h .1) ∙ has .stands (h .0) (k .before) ∙ ap some (sym (k .value)))
           (carried .back z a)
 
-      found : (key : ℕ) (r : Record) → ((z : Slot) × TakenSlot u z × (keyIn u z ≡ key) × (recordIn u z ≡ r)) ⊎ ((m key ≡ some r) × ((y : Slot) → TakenSlot t y → keyIn t y ≡ key → Gone y → ⊥))
+      stood : (key : ℕ) (r : Record) → ((z : Slot) × TakenSlot u z × (keyIn u z ≡ key) × (recordIn u z ≡ r)) ⊎ ((m key ≡ some r) × ((y : Slot) → TakenSlot t y → keyIn t y ≡ key → Gone y → ⊥))
           → (z : Slot) × TakenSlot u z × (keyIn u z ≡ key) × (recordIn u z ≡ r)
-      found key r (inl z) = z
-      found key r (inr (e, left)) =
+      stood key r (inl z) = z
+      stood key r (inr (e, left)) =
           let y = has .only key r e in
           ⊎-elim (λ (g : Gone (y .0)). absurd (left (y .0) (y .1) (y .2) g))
           (λ (h : (z : Slot) × Carry t u (y .0) z). (h .0, h .1 .after, h .1 .key ∙ y .2, h .1 .value ∙ y .3))

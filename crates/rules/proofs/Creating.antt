@@ -16,7 +16,7 @@ use Rattle.rules.specs.Words.{Table, word, wordsFor, odd, capacityTests,
 use Rattle.rules.specs.Answers.{verdictMeans}
 use Rattle.rules.specs.Results.{createTests, created, createResult}
 use Rattle.rules.specs.Soundness.{SoundTable, TakenSlot, HasMap}
-use Rattle.rules.specs.Demands.{GoodCreation, Created, CreateAnswers, CreatedIsEmpty}
+use Rattle.rules.specs.Demands.{GoodCreation, CreatedWords, CreateAnswers, CreatedIsEmpty}
 use Rattle.rules.specs.declared.Slot.{Slot}
 use Rattle.rules.specs.declared.Refusal.the-variants.{BadCreation}
 use Rattle.rules.specs.declared.Verdict.{Verdict}
@@ -54,7 +54,7 @@ module _ (size c k mul1 mul2 : ℕ) where
       let n : i ≡ 5 + (i - 5) = omega arith in
       ap (word whole) n ∙ sym (getD-drop 5 whole (i - 5) 0) ∙ zeros-read (wordsFor c - 5) (i - 5)
 
-  created-words : GoodCreation size c k mul1 mul2 → Created size c k mul1 mul2 (created c k mul1 mul2)
+  created-words : GoodCreation size c k mul1 mul2 → CreatedWords size c k mul1 mul2 (created c k mul1 mul2)
   unfolding created stateWord wordsFor
   created-words g =
       let rest : length (replicate {A = ℕ} (wordsFor c - 5) 0) ≡ wordsFor c - 5 = length-replicate (wordsFor c - 5) 0 in
@@ -71,7 +71,7 @@ module _ (size c k mul1 mul2 : ℕ) where
 -- the verdict and the words at exit
 abbrev CreatedBy : Table → ℕ → ℕ → ℕ → ℕ → Verdict × Table → Type 0
 CreatedBy t c k mul1 mul2 r =
-    (GoodCreation (length t) c k mul1 mul2 × (verdictMeans (r .0) ≡ record { number = 0; values = [] }) × Created (length t) c k mul1 mul2 (r .1))
+    (GoodCreation (length t) c k mul1 mul2 × (verdictMeans (r .0) ≡ record { number = 0; values = [] }) × CreatedWords (length t) c k mul1 mul2 (r .1))
     ⊎ ((GoodCreation (length t) c k mul1 mul2 → ⊥) × (verdictMeans (r .0) ≡ record { number = 13; values = [] }) × (r .1 ≡ t))
 
 pub createAnswers : CreateAnswers
@@ -84,7 +84,7 @@ createAnswers t c k mul1 mul2 = go (all (createTests (length t) c k mul1 mul2)) 
 
 -- ---- a created table
 
-module _ (c k mul1 mul2 : ℕ) (u : Table) (good : GoodCreation (length u) c k mul1 mul2) (made : Created (length u) c k mul1 mul2 u) where
+module _ (c k mul1 mul2 : ℕ) (u : Table) (good : GoodCreation (length u) c k mul1 mul2) (made : CreatedWords (length u) c k mul1 mul2 u) where
   -- words 0 to 4, decoded
   created-header : headerOf u ≡ record { form = 1; c = c; mul1 = mul1; mul2 = mul2; state = record { k = k; phase = 0 } }
   unfolding headerOf stateOf
@@ -127,7 +127,7 @@ createdIsEmpty t u c k mul1 mul2 e = go (all (createTests (length t) c k mul1 mu
     Begun : Type 0
     Begun = SoundTable u × (headerOf u ≡ record { form = 1; c = c; mul1 = mul1; mul2 = mul2; state = record { k = k; phase = 0 } }) × HasMap u (λ (key : ℕ). none)
 
-    empty : (size : ℕ) → size ≡ length u → GoodCreation size c k mul1 mul2 → Created size c k mul1 mul2 u → Begun
+    empty : (size : ℕ) → size ≡ length u → GoodCreation size c k mul1 mul2 → CreatedWords size c k mul1 mul2 u → Begun
     empty size n g f =
         let g = rw n at g in
         let f = rw n at f in (
@@ -140,6 +140,6 @@ createdIsEmpty t u c k mul1 mul2 e = go (all (createTests (length t) c k mul1 mu
         → Begun
     go true tells e =
         let g = tells .0 refl in
-        let f : Created (length t) c k mul1 mul2 u = rw (ap (λ (r : Verdict × Table). r .1) e) at (created-words (length t) c k mul1 mul2 g) in
+        let f : CreatedWords (length t) c k mul1 mul2 u = rw (ap (λ (r : Verdict × Table). r .1) e) at (created-words (length t) c k mul1 mul2 g) in
         empty (length t) (sym (f .long)) g f
     go false tells e = absurd (let z : _≡_ {A = Verdict} (Denied BadCreation) Done = ap (λ (r : Verdict × Table). r .0) e in let y : _≡_ {A = ℕ} 0 1 = cc in omega arith)

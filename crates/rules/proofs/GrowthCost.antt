@@ -59,14 +59,14 @@ module _ (t : Table) (n : ℕ) (growing : Growing t) where
       good : GoodHeader (length t) (headerOf t)
       good = accepted-header t n (insert key r) xs e
 
-      placed : (p : Placing) → placing t (headerOf t) key ≡ p → placedBy p (placingStores t (headerOf t) p key r) ≡ listed xs → Shrinks t (made t xs)
-      placed (Free x) q f = rw (listed-one f) (keeps-shrinks t _ (placing-keeps t good growing key r (Free x) q))
-      placed (Move from to) q f = rw (listed-one f) (keeps-shrinks t _ (placing-keeps t good growing key r (Move from to) q))
-      placed Nowhere q f = never-listed f
+      by-placing : (p : Placing) → placing t (headerOf t) key ≡ p → placedBy p (placingStores t (headerOf t) p key r) ≡ listed xs → Shrinks t (made t xs)
+      by-placing (Free x) q f = rw (listed-one f) (keeps-shrinks t _ (placing-keeps t good growing key r (Free x) q))
+      by-placing (Move from to) q f = rw (listed-one f) (keeps-shrinks t _ (placing-keeps t good growing key r (Move from to) q))
+      by-placing Nowhere q f = never-listed f
 
       look : (o : Lookup) → insertIn t (headerOf t) o key r ≡ listed xs → Shrinks t (made t xs)
       look (Stands x m) f = never-listed f
-      look (Absent m) f = placed (placing t (headerOf t) key) refl f
+      look (Absent m) f = by-placing (placing t (headerOf t) key) refl f
 
   update-kept : (key : ℕ) (r : Record) (xs : List Store) → outcome t n (update key r) ≡ listed xs → Shrinks t (made t xs)
   unfolding outcome updateStores changingTests flagClear
@@ -109,14 +109,14 @@ module _ (t : Table) (n : ℕ) (growing : Growing t) where
       good : GoodHeader (length t) (headerOf t)
       good = accepted-header t n step xs e
 
-      placed : (x : Slot) → InterimItem t x → (p : Placing) → placing t (headerOf t) (keyIn t x) ≡ p → placedBy p (stepStores t (headerOf t) x p) ≡ listed xs → Steps t (made t xs) x
-      placed x i (Free y) q f = rw (listed-one f) (step-less t good growing x i (Free y) q)
-      placed x i (Move from to) q f = rw (listed-one f) (step-less t good growing x i (Move from to) q)
-      placed x i Nowhere q f = never-listed f
+      by-placing : (x : Slot) → InterimItem t x → (p : Placing) → placing t (headerOf t) (keyIn t x) ≡ p → placedBy p (stepStores t (headerOf t) x p) ≡ listed xs → Steps t (made t xs) x
+      by-placing x i (Free y) q f = rw (listed-one f) (step-less t good growing x i (Free y) q)
+      by-placing x i (Move from to) q f = rw (listed-one f) (step-less t good growing x i (Move from to) q)
+      by-placing x i Nowhere q f = never-listed f
 
       item : (o : Option Slot) → stepItem t (headerOf t) ≡ o → stepIn t (headerOf t) o ≡ listed xs → (x : Slot) × Steps t (made t xs) x
       item none q f = never-listed f
-      item (some x) q f = (x, placed x (step-item t x q .item) (placing t (headerOf t) (keyIn t x)) refl f)
+      item (some x) q f = (x, by-placing x (step-item t x q .item) (placing t (headerOf t) (keyIn t x)) refl f)
 
   begin-refused : (xs : List Store) → outcome t n begin ≡ listed xs → ⊥
   unfolding outcome beginOf beginTests atRest

@@ -66,7 +66,7 @@ module _ (t : Table) (m : PlainMap) (whole : SoundMap t m) (x : Slot) (item : In
       let used = among-used (headerOf t) (keyIn t x) y (f .slot) (f .among) in
       let v = move-whole t m whole x y (item .item) used (f .free) (f .among) (elsewhere y used (f .level)) in (
         record { whole = v .whole; header = v .header },
-        record { rest = interims-after t _ m x y v (f .level); slot = y; placed = v .placed .0; level = f .level; key = v .placed .1; value = v .placed .2 },
+        record { rest = interims-after t _ m x y v (f .level); slot = y; stands = v .arrived .0; level = f .level; key = v .arrived .1; value = v .arrived .2 },
       )
 
   -- a move, and then another, of the interim item to the slot that the first one freed
@@ -90,10 +90,10 @@ module _ (t : Table) (m : PlainMap) (whole : SoundMap t m) (x : Slot) (item : In
             λ b. interims-after u _ m x from w high y .1 (interims-after t u m from to v low y .1 (b .0, λ e. not-interim from high (rw e at (b .0 .level))), b .1),
           );
           slot = from;
-          placed = w .placed .0;
+          stands = w .arrived .0;
           level = high;
-          key = w .placed .1 ∙ k .1;
-          value = w .placed .2 ∙ k .2;
+          key = w .arrived .1 ∙ k .1;
+          value = w .arrived .2 ∙ k .2;
         },
       )
 
@@ -112,19 +112,19 @@ module _ (t : Table) (m : PlainMap) (whole : SoundMap t m) (x : Slot) (item : In
       rw e (w .2, w .3)
 
 module _ (t : Table) (m : PlainMap) (n : ℕ) (given : Given t m n) where
-  placed : (x : Slot) → FirstInterim t x → (p : Placing) → placing t (headerOf t) (keyIn t x) ≡ p → StepBy t m x (placedBy p (stepStores t (headerOf t) x p))
+  by-placing : (x : Slot) → FirstInterim t x → (p : Placing) → placing t (headerOf t) (keyIn t x) ≡ p → StepBy t m x (placedBy p (stepStores t (headerOf t) x p))
   unfolding Steps gives
-  placed x first (Free y) e =
+  by-placing x first (Free y) e =
       let s = free-steps t m (whole-of t m n given) x (first .item) y (placing-free t (headerOf t) (keyIn t x) y e) in
       inr (some-place t (headerOf t) (keyIn t x) (Free y) tt e, (gives t m _ (s .0), s .1))
-  placed x first (Move from to) e =
+  by-placing x first (Move from to) e =
       let s = move-steps t m (whole-of t m n given) x (first .item) from to (placing-move t (headerOf t) (keyIn t x) from to e) in
       inr (some-place t (headerOf t) (keyIn t x) (Move from to) tt e, (gives t m _ (s .0), s .1))
-  placed x first Nowhere e = inl (no-place t (headerOf t) (keyIn t x) .0 e, refl)
+  by-placing x first Nowhere e = inl (no-place t (headerOf t) (keyIn t x) .0 e, refl)
 
   answers : (o : Option Slot) → stepItem t (headerOf t) ≡ o → (NoInterim t × (stepIn t (headerOf t) o ≡ refused InterimEmpty)) ⊎ ((x : Slot) × FirstInterim t x × StepBy t m x (stepIn t (headerOf t) o))
   answers none e = inl (no-step-item t e, refl)
-  answers (some x) e = let first = step-item t x e in inr (x, first, placed x first (placing t (headerOf t) (keyIn t x)) refl)
+  answers (some x) e = let first = step-item t x e in inr (x, first, by-placing x first (placing t (headerOf t) (keyIn t x)) refl)
 
 pub stepAnswers : StepAnswers
 unfolding outcome stepOf stepTests atRest

@@ -50,14 +50,14 @@ module _ (t : Table) (m : PlainMap) (whole : SoundMap t m) where
       (freed-slot (made t (moveStores t h from to)) from to v used key r absent (f .among))
 
 module _ (t : Table) (m : PlainMap) (n : ℕ) (given : Given t m n) (key : ℕ) (r : Record) where
-  placed : m key ≡ none → (p : Placing) → placing t (headerOf t) key ≡ p → InsertBy t m key r none (placedBy p (placingStores t (headerOf t) p key r))
-  placed absent (Free x) e = inr (some-place t (headerOf t) key (Free x) tt e, gives t _ _ (free-becomes t m (whole-of t m n given) key r absent x (placing-free t (headerOf t) key x e)))
-  placed absent (Move from to) e = inr (some-place t (headerOf t) key (Move from to) tt e, gives t _ _ (move-becomes t m (whole-of t m n given) key r absent from to (placing-move t (headerOf t) key from to e)))
-  placed absent Nowhere e = inl (no-place t (headerOf t) key .0 e, refl)
+  by-placing : m key ≡ none → (p : Placing) → placing t (headerOf t) key ≡ p → InsertBy t m key r none (placedBy p (placingStores t (headerOf t) p key r))
+  by-placing absent (Free x) e = inr (some-place t (headerOf t) key (Free x) tt e, gives t _ _ (free-becomes t m (whole-of t m n given) key r absent x (placing-free t (headerOf t) key x e)))
+  by-placing absent (Move from to) e = inr (some-place t (headerOf t) key (Move from to) tt e, gives t _ _ (move-becomes t m (whole-of t m n given) key r absent from to (placing-move t (headerOf t) key from to e)))
+  by-placing absent Nowhere e = inl (no-place t (headerOf t) key .0 e, refl)
 
   answers : (o : Option Record) → m key ≡ o → InsertBy t m key r o (insertIn t (headerOf t) (lookup t (headerOf t) key) key r)
   answers (some v) e = rw (lookup-known t m (given .sound) (given .map) key v e .answer)
-  answers none e = rw (lookup-unknown t m (given .sound) (given .map) key e .1) (placed e (placing t (headerOf t) key) refl)
+  answers none e = rw (lookup-unknown t m (given .sound) (given .map) key e .1) (by-placing e (placing t (headerOf t) key) refl)
 
 pub insertAnswers : InsertAnswers
 unfolding outcome

@@ -22,7 +22,7 @@ pub record AfterMove (t u : Table) (m : PlainMap) (from to : Slot) : Type 0 wher
   pub free : taken u (headerOf u) from ≡ false
   pub token : tokenOf u (from .bucket) ≡ hide (headerOf t) (tokenOf t (from .bucket)) (from .slot)
   pub tokens : (j : ℕ) → (j ≡ from .bucket → ⊥) → (j ≡ to .bucket → ⊥) → tokenOf u j ≡ tokenOf t j
-  pub placed : TakenSlot u to × (keyIn u to ≡ keyIn t from) × (recordIn u to ≡ recordIn t from)
+  pub arrived : TakenSlot u to × (keyIn u to ≡ keyIn t from) × (recordIn u to ≡ recordIn t from)
   pub stays : (y : Slot) → TakenSlot t y → (y ≡ from → ⊥) → TakenSlot u y × (keyIn u y ≡ keyIn t y) × (recordIn u y ≡ recordIn t y)
   pub stood : (y : Slot) → TakenSlot u y → (y ≡ to) ⊎ ((y ≡ from → ⊥) × TakenSlot t y)
 
@@ -72,7 +72,7 @@ module _ (t : Table) (m : PlainMap) (whole : SoundMap t m) (from to : Slot) (ite
         free = rw (hidden .near .header, hidden .token) (bit .here);
         token = hidden .token ∙ rw (put .near .header, put .near .tokens (from .bucket) apart);
         tokens = λ j d e. hidden .near .tokens j d ∙ put .near .tokens j e;
-        placed = let k = keep to (twin .second) (twin .apart) in (k .0, k .1 ∙ put .key, k .2 ∙ put .value);
+        arrived = let k = keep to (twin .second) (twin .apart) in (k .0, k .1 ∙ put .key, k .2 ∙ put .value);
         stays = λ y a n.
             let f = first y a (λ g. g) in
             let k = keep y (f .0) n in

@@ -11,7 +11,7 @@ use native.Mathlib.Omega.{arith}
 use lib.ListN.{length}
 use Rattle.rules.specs.Choice.{given}
 use Rattle.rules.specs.Words.{Table, headerOf, placeOf, slotsIn, keyIn, recordIn, taken}
-use Rattle.rules.specs.Places.{placesOf, holds, hitIn, found, seek, lookup}
+use Rattle.rules.specs.Places.{placesOf, holds, hitIn, standsOr, seek, lookup}
 use Rattle.rules.specs.Soundness.{TakenSlot, OrderlyTable, SoundTable, PlainMap, HasMap}
 use Rattle.rules.specs.Demands.{FirstHolder}
 use Rattle.rules.specs.declared.Header.{Header}
@@ -46,7 +46,7 @@ module _ (hit : Place → Option Slot) where
   seek-stands m [] x n e = absurd (let z : _≡_ {A = ℕ} 0 1 = cc in omega arith)
   seek-stands m (p ∷ ps) x n e = go (hit p) refl e (seek-stands (m + 1) ps x n)
     where
-      go : (o : Option Slot) → hit p ≡ o → found o (m + 1) (seek hit (m + 1) ps) ≡ Stands x n
+      go : (o : Option Slot) → hit p ≡ o → standsOr o (m + 1) (seek hit (m + 1) ps) ≡ Stands x n
           → (seek hit (m + 1) ps ≡ Stands x n → Reached (m + 1) ps x n) → Reached m (p ∷ ps) x n
       go (some y) q e k =
           let r = stands-one y x (m + 1) n e in
@@ -67,7 +67,7 @@ module _ (hit : Place → Option Slot) where
   seek-absent m [] n e = (let k : m ≡ n = cc in omega arith, λ p i. absurd (List·Memᴰ·not-nil i))
   seek-absent m (p ∷ ps) n e = go (hit p) refl e (seek-absent (m + 1) ps n)
     where
-      go : (o : Option Slot) → hit p ≡ o → found o (m + 1) (seek hit (m + 1) ps) ≡ Absent n
+      go : (o : Option Slot) → hit p ≡ o → standsOr o (m + 1) (seek hit (m + 1) ps) ≡ Absent n
           → (seek hit (m + 1) ps ≡ Absent n → (n ≡ m + 1 + length ps) × ((y : Place) → In y ps → hit y ≡ none))
           → (n ≡ m + length (p ∷ ps)) × ((y : Place) → In y (p ∷ ps) → hit y ≡ none)
       go (some y) q e k = absurd (let z : _≡_ {A = ℕ} 0 1 = cc in omega arith)

@@ -179,7 +179,7 @@ module _ (t : Table) (h : Header) (key : ℕ) where
 
   -- "no place" exactly when "every candidate slot is taken and no single permitted move frees one"
   pub no-place : (placing t h key ≡ Nowhere) ↔ NoPlaceFor t h key
-  no-place = (missing, λ n. found n (placing t h key) refl)
+  no-place = (missing, λ n. none-found n (placing t h key) refl)
     where
       missing : placing t h key ≡ Nowhere → NoPlaceFor t h key
       missing e =
@@ -192,10 +192,10 @@ module _ (t : Table) (h : Header) (key : ℕ) where
                 never (stuck t h (g .0) none-goes (placeOf to) (g .3) to (slots-of-place to (m .slot))) (m .free);
           }
 
-      found : NoPlaceFor t h key → (p : Placing) → placing t h key ≡ p → p ≡ Nowhere
-      found n (Free x) q = let r = placing-candidate x q in never (n .full x (r .0)) (r .1)
-      found n (Move from to) q = let r = placing-permitted from to q in absurd (n .stuck from to (r .0) (r .1))
-      found n Nowhere q = refl
+      none-found : NoPlaceFor t h key → (p : Placing) → placing t h key ≡ p → p ≡ Nowhere
+      none-found n (Free x) q = let r = placing-candidate x q in never (n .full x (r .0)) (r .1)
+      none-found n (Move from to) q = let r = placing-permitted from to q in absurd (n .stuck from to (r .0) (r .1))
+      none-found n Nowhere q = refl
 
   -- a free slot or a move is a place
   pub some-place : (p : Placing) → Somewhere p → placing t h key ≡ p → NoPlaceFor t h key → ⊥

@@ -169,14 +169,14 @@ module _ (t : Table) (m : PlainMap) (n : ℕ) (given : Given t m n) where
   insert-cuts : (key : ℕ) (r : Record) (k : PlainMap) (xs : List Store) → insertIn t (headerOf t) (lookup t (headerOf t) key) key r ≡ listed xs → SoundMap (made t xs) k → EveryCut (Either m k) t xs
   insert-cuts key r k xs e last = known (m key) refl
     where
-      placed : (p : Placing) → placing t (headerOf t) key ≡ p → placedBy p (placingStores t (headerOf t) p key r) ≡ listed xs → EveryCut (Either m k) t xs
-      placed (Free x) q f = let same = listed-one f in rw same (placing-cuts t m (whole-of t m n given) key r k (Free x) q (rw same at last))
-      placed (Move from to) q f = let same = listed-one f in rw same (placing-cuts t m (whole-of t m n given) key r k (Move from to) q (rw same at last))
-      placed Nowhere q f = never-listed f
+      by-placing : (p : Placing) → placing t (headerOf t) key ≡ p → placedBy p (placingStores t (headerOf t) p key r) ≡ listed xs → EveryCut (Either m k) t xs
+      by-placing (Free x) q f = let same = listed-one f in rw same (placing-cuts t m (whole-of t m n given) key r k (Free x) q (rw same at last))
+      by-placing (Move from to) q f = let same = listed-one f in rw same (placing-cuts t m (whole-of t m n given) key r k (Move from to) q (rw same at last))
+      by-placing Nowhere q f = never-listed f
 
       known : (v : Option Record) → m key ≡ v → EveryCut (Either m k) t xs
       known (some v) q = never-listed (rw (lookup-known t m (given .sound) (given .map) key v q .answer) at e)
-      known none q = placed (placing t (headerOf t) key) refl (rw (lookup-unknown t m (given .sound) (given .map) key q .1) at e)
+      known none q = by-placing (placing t (headerOf t) key) refl (rw (lookup-unknown t m (given .sound) (given .map) key q .1) at e)
 
   update-cuts : (key : ℕ) (r : Record) (xs : List Store) → updateIn t (headerOf t) (lookup t (headerOf t) key) key r ≡ listed xs → SoundMap (made t xs) (changed m key (some r)) → EveryCut (Either m (changed m key (some r))) t xs
   unfolding updateStores
@@ -209,14 +209,14 @@ module _ (t : Table) (m : PlainMap) (n : ℕ) (given : Given t m n) where
   step-safe : (xs : List Store) → stepIn t (headerOf t) (stepItem t (headerOf t)) ≡ listed xs → EveryCut (Either m m) t xs
   step-safe xs e = item (stepItem t (headerOf t)) refl e
     where
-      placed : (x : Slot) → FirstInterim t x → (p : Placing) → placing t (headerOf t) (keyIn t x) ≡ p → placedBy p (stepStores t (headerOf t) x p) ≡ listed xs → EveryCut (λ (u : Table). Mends u m) t xs
-      placed x first (Free y) q f = rw (listed-one f) (step-cuts t m (whole-of t m n given) x (first .item) (Free y) tt q)
-      placed x first (Move from to) q f = rw (listed-one f) (step-cuts t m (whole-of t m n given) x (first .item) (Move from to) tt q)
-      placed x first Nowhere q f = never-listed f
+      by-placing : (x : Slot) → FirstInterim t x → (p : Placing) → placing t (headerOf t) (keyIn t x) ≡ p → placedBy p (stepStores t (headerOf t) x p) ≡ listed xs → EveryCut (λ (u : Table). Mends u m) t xs
+      by-placing x first (Free y) q f = rw (listed-one f) (step-cuts t m (whole-of t m n given) x (first .item) (Free y) tt q)
+      by-placing x first (Move from to) q f = rw (listed-one f) (step-cuts t m (whole-of t m n given) x (first .item) (Move from to) tt q)
+      by-placing x first Nowhere q f = never-listed f
 
       item : (o : Option Slot) → stepItem t (headerOf t) ≡ o → stepIn t (headerOf t) o ≡ listed xs → EveryCut (Either m m) t xs
       item none q f = never-listed f
-      item (some x) q f = cuts-weaken (λ (u : Table). Mends u m) (Either m m) (λ u k. inl k) t xs (placed x (step-item t x q) (placing t (headerOf t) (keyIn t x)) refl f)
+      item (some x) q f = cuts-weaken (λ (u : Table). Mends u m) (Either m m) (λ u k. inl k) t xs (by-placing x (step-item t x q) (placing t (headerOf t) (keyIn t x)) refl f)
 
   pub call-cuts : (q : Call) (xs : List Store) → outcome t n q ≡ listed xs → EveryCut (Either m (mapAfter q m)) t xs
   unfolding outcome stepOf

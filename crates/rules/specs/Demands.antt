@@ -68,7 +68,7 @@ pub record GoodCreation (size c k mul1 mul2 : ℕ) : Type 0 where
   pub odd2 : mul2 % 2 ≡ 1
 
 -- "Creation zeroes all words and writes the header."
-pub record Created (size c k mul1 mul2 : ℕ) (u : Table) : Type 0 where
+pub record CreatedWords (size c k mul1 mul2 : ℕ) (u : Table) : Type 0 where
   pub long : length u ≡ size
   pub form : word u 0 ≡ 1
   pub capacity : word u 1 ≡ c
@@ -81,7 +81,7 @@ abbrev pub CreateAnswers : Type 0
 CreateAnswers =
     (t : Table) (c k mul1 mul2 : ℕ)
     → (GoodCreation (length t) c k mul1 mul2 × (verdictMeans (createResult t c k mul1 mul2 .0) ≡ record { number = 0; values = [] })
-    × Created (length t) c k mul1 mul2 (createResult t c k mul1 mul2 .1))
+    × CreatedWords (length t) c k mul1 mul2 (createResult t c k mul1 mul2 .1))
     ⊎ ((GoodCreation (length t) c k mul1 mul2 → ⊥) × (verdictMeans (createResult t c k mul1 mul2 .0) ≡ record { number = 13; values = [] })
     × (createResult t c k mul1 mul2 .1 ≡ t))
 
@@ -302,7 +302,7 @@ BeginAnswers =
 pub record StepMoves (t u : Table) (x : Slot) : Type 0 where
   pub rest : (y : Slot) → InterimItem u y ↔ (InterimItem t y × (y ≡ x → ⊥))
   pub slot : Slot
-  pub placed : TakenSlot u slot
+  pub stands : TakenSlot u slot
   pub level : (slot .level ≡ top) ⊎ (slot .level ≡ bottom)
   pub key : keyIn u slot ≡ keyIn t x
   pub value : recordIn u slot ≡ recordIn t x

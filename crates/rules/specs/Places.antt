@@ -51,13 +51,13 @@ hitIn t h key p = firstOf (λ (x : Slot). given (holds t h key x) x) (slotsIn p)
 
 -- "A query stops at the first taken slot with the key. Its probe count is the number of buckets looked at up to and
 -- including that one, or all of them when the key is absent." Here n buckets have been looked at before.
-abbrev pub found : Option Slot → ℕ → Lookup → Lookup
-found (some x) n rest = Stands x n
-found none n rest = rest
+abbrev pub standsOr : Option Slot → ℕ → Lookup → Lookup
+standsOr (some x) n rest = Stands x n
+standsOr none n rest = rest
 
 abbrev pub seek : (Place → Option Slot) → ℕ → List Place → Lookup
 seek hit n [] = Absent n
-seek hit n (p ∷ ps) = found (hit p) (n + 1) (seek hit (n + 1) ps)
+seek hit n (p ∷ ps) = standsOr (hit p) (n + 1) (seek hit (n + 1) ps)
 
 unfoldable pub lookup : Table → Header → ℕ → Lookup
 lookup t h key = seek (hitIn t h key) 0 (placesOf h key)

@@ -12,7 +12,7 @@ use borrow.Author.Tests.{le-leb}
 use Rattle.rules.specs.Words.{Table, wordsFor}
 use Rattle.rules.specs.Answers.{verdictMeans}
 use Rattle.rules.specs.Results.{createResult}
-use Rattle.rules.specs.Demands.{GoodCreation, Created}
+use Rattle.rules.specs.Demands.{GoodCreation, CreatedWords}
 use Rattle.rules.specs.declared.Verdict.{Verdict}
 use Rattle.rules.specs.declared.Verdict.the-variants.{Done}
 use Rattle.rules.proofs.Creating.{createAnswers}
@@ -48,7 +48,7 @@ roomMakesAll room fits p next c k mul1 mul2 small good =
   where
     done : (t : Table) → length t ≡ wordsFor c
         → (GoodCreation (length t) c k mul1 mul2 × (verdictMeans (createResult t c k mul1 mul2 .0) ≡ record { number = 0; values = [] })
-        × Created (length t) c k mul1 mul2 (createResult t c k mul1 mul2 .1))
+        × CreatedWords (length t) c k mul1 mul2 (createResult t c k mul1 mul2 .1))
         ⊎ ((GoodCreation (length t) c k mul1 mul2
         → ⊥) × (verdictMeans (createResult t c k mul1 mul2 .0) ≡ record { number = 13; values = [] }) × (createResult t c k mul1 mul2 .1 ≡ t))
         → createResult t c k mul1 mul2 .0 ≡ Done

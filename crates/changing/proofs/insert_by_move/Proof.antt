@@ -7,9 +7,9 @@ use borrow.Author.Needs.{needs}
 use Rattle.changing.proofs.insert_by_move.Statement.{statement}
 use Rattle.changing.proofs.insert_by_move.Tie as tie
 
-placed-requires : tie.Need-placed-requires
+list-placing-requires : tie.Need-list-placing-requires
 unfolding Takes
-placed-requires c κs = let s = c .before .before .before in (omega arith, s .pre .1, (refl, s .pre .2))
+list-placing-requires c κs = let s = c .before .before .before in (omega arith, s .pre .1, (refl, s .pre .2))
 
 same-length : tie.Need-same-length
 same-length c = search needs
@@ -18,4 +18,4 @@ returns : tie.Need-returns
 returns c = search needs
 
 pub insert-by-move-spec : {M : Type 1} → statement M
-insert-by-move-spec = tie.close (tie.spec placed-requires same-length returns)
+insert-by-move-spec = tie.close (tie.spec list-placing-requires same-length returns)

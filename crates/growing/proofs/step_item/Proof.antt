@@ -52,8 +52,8 @@ returns c =
 record-at-requires : tie.Need-record-at-requires
 record-at-requires c κs = search needs
 
-placed-requires : tie.Need-placed-requires
-placed-requires c κs = let m = c .before .before in let s = m .before .before .before .before .before .before in (omega arith, table-small _ _ (s .pre .1), taken m .1)
+list-placing-requires : tie.Need-list-placing-requires
+list-placing-requires c κs = let m = c .before .before in let s = m .before .before .before .before .before .before in (omega arith, table-small _ _ (s .pre .1), taken m .1)
 
 token-requires : tie.Need-token-requires
 token-requires c κs = search needs
@@ -63,7 +63,7 @@ clear-requires c κs =
     let d = c .before .before .before .before in
     let s = d .before .before .before .before .before .before .before .before .before in
     let w = table-small _ _ (s .pre .1) in
-    omega (arith, s .pre .0, w, s .pre .2 .0, s .pre .2 .1, d .placed .ensures .1)
+    omega (arith, s .pre .0, w, s .pre .2 .0, s .pre .2 .1, d .list-placing .ensures .1)
 
 same-length : tie.Need-same-length
 same-length c = search needs
@@ -79,7 +79,7 @@ returns-2 c =
     let s = k .before .before .before in
     let z = taken m in
     let q = z .0 ∙ placing-told-by (p .interim-placing .ensures .0) in
-    did-step _ _ _ _ (s .pre .3) (k .key-at .ensures) (r .record-at .ensures) q (u .before .token .ensures) (s .pre .0) (d .placed .ensures) (u .clear .ensures) (step-listed _ _ _ (k .key-at .ensures) _ q _ (z .1))
+    did-step _ _ _ _ (s .pre .3) (k .key-at .ensures) (r .record-at .ensures) q (u .before .token .ensures) (s .pre .0) (d .list-placing .ensures) (u .clear .ensures) (step-listed _ _ _ (k .key-at .ensures) _ q _ (z .1))
 
 pub step-item-spec : {M : Type 1} → statement M
 step-item-spec =
@@ -94,7 +94,7 @@ step-item-spec =
     unplaced-requires
     returns
     record-at-requires
-    placed-requires
+    list-placing-requires
     token-requires
     clear-requires
     same-length

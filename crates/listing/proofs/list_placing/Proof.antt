@@ -1,12 +1,12 @@
--- `listing::placed` meets its contract.
+-- `listing::list_placing` meets its contract.
 -- Assumes nothing.
 use denote.Ref.{now}
 use Rattle.reading.specs.Within.{SlotWithin}
 use native.Mathlib.Omega.{arith}
 use Rattle.listing.proofs.Placings.{takes-within, takes-free, takes-moved, free-run, moved-run}
 use borrow.Author.Needs.{needs}
-use Rattle.listing.proofs.placed.Statement.{statement}
-use Rattle.listing.proofs.placed.Tie as tie
+use Rattle.listing.proofs.list_placing.Statement.{statement}
+use Rattle.listing.proofs.list_placing.Tie as tie
 
 -- the slot that is taken lies in the table
 within : (c : tie.Start) → SlotWithin (now (c .args .t)) (c .args .x)
@@ -64,8 +64,8 @@ returns-2 c =
     let s = m .before .before .before .before in
     free-run _ _ _ _ _ _ _ (m .before .token .ensures) (takes-free _ _ _ (m .match .keys2) (s .pre .2)) (u .put2 .ensures)
 
-pub placed-spec : {M : Type 1} → statement M
-placed-spec =
+pub list-placing-spec : {M : Type 1} → statement M
+list-placing-spec =
     tie.close
     (tie.spec
     token-requires
