@@ -8,33 +8,29 @@ use native.Mathlib.Omega.{arith}
 use lib.ListN.{length, drop, getD, drop-of-length-le}
 use lib.Dec.{eqb}
 use borrow.Author.Tests.{eqb-true}
-use Rattle.lines.specs.Lines.{names}
+use Rattle.rules.specs.declared.Call.{Call}
+use Rattle.rules.specs.declared.Call.the-variants.{Query, Insert, Update, Delete, Begin, Step, End, Recover}
+use Rattle.lines.specs.Lines.{blank}
 use Rattle.lines.specs.declared.Name.{Name}
 use Rattle.lines.specs.declared.Name.the-variants.{Cap, Top, Mul1, Mul2, Key, Fn, At, After}
-use Rattle.lines.specs.declared.Op.{Op}
-use Rattle.lines.specs.declared.Op.the-variants.{Insert, Update, Delete, Query, Begin, Step, End, Recover, Cut}
 use Rattle.lines.specs.declared.Line.{Line}
-use Rattle.lines.specs.declared.Line.the-variants.{Number, Event, Bad}
-use Rattle.following.specs.declared.Wanted.{Wanted}
-use Rattle.following.specs.declared.Wanted.the-variants.{Cap as WantCap, Top as WantTop, Mul1 as WantMul1, Mul2 as WantMul2, InsertKey, InsertFn, InsertAt, UpdateKey, UpdateFn, UpdateAt, DeleteKey, QueryKey, CutAfter}
+use Rattle.lines.specs.declared.Line.the-variants.{Number, Event, Cut, Bad}
 use Rattle.following.specs.declared.Due.{Due}
 use Rattle.following.specs.declared.Due.the-variants.{Number as aNumber, Event as anEvent, Nothing as noMore}
 use Rattle.following.specs.declared.Cut.{Cut as CutLine}
 use Rattle.following.specs.declared.Cut.the-variants.{None as noCut, After as cutAfter}
 use Rattle.following.specs.declared.Script.{Script}
-use Rattle.following.specs.declared.Act.{Act}
-use Rattle.following.specs.declared.Act.the-variants.{Insert as insertAct, Update as updateAct, Delete as deleteAct, Begin as beginAct, Step as stepAct, End as endAct, Recover as recoverAct}
 use Rattle.following.specs.declared.Asked.{Asked}
-use Rattle.following.specs.declared.Asked.the-variants.{Nothing as askNothing, Table as askTable, Query as askQuery, Change as askChange, Bad as askEnd}
+use Rattle.following.specs.declared.Asked.the-variants.{Nothing as askNothing, Table as askTable, Event as askEvent, Bad as askEnd}
 use Rattle.following.specs.declared.Reading.{Reading}
 use Rattle.following.specs.declared.Ending.the-variants.{Bad as Torn}
-use Rattle.following.specs.Scripts.{start, nextLine, stopsAt, stops, nameFor, numberRead, nameNumber, eventBegun, mayBeCut, expected, readingOf, endedAt, endingOf}
-use Rattle.following.specs.Sentences.{headerNames, namesAfter, numbered, eventLines, opOf, actLines, queryLines, cutLines, asking, readAll, lineFrom, EventDue, Asks, BadAfter, EndsBad, NotNamed, NoEvent, NoChange, HeaderRead, EventsRead, CutEventsRead, CutLineElseBad, HeaderInOrder, NumbersInOrder, CutNumbersInOrder, EventElseBad, StopsForGood}
+use Rattle.following.specs.Scripts.{start, nextLine, onward, waits, stopsAt, stops, numbersIn, numberRead, nameNumber, eventBegun, mayBeCut, expected, readingOf, endedAt, endingOf}
+use Rattle.following.specs.Sentences.{headerNames, namesOf, namesAfter, numbered, eventLines, callLines, cutLines, Changing, asking, readAll, lineFrom, EventDue, Asks, BadAfter, EndsBad, NotNamed, NoEvent, NoChange, HeaderRead, EventsRead, CutEventsRead, CutLineElseBad, HeaderInOrder, NumbersInOrder, CutNumbersInOrder, EventElseBad, StopsForGood}
 
 -- ---- a line in place of a number
 
 readName : ℕ → Name
-readName n = getD names n Cap
+readName n = getD (Cap ∷ Top ∷ Mul1 ∷ Mul2 ∷ Key ∷ Fn ∷ At ∷ After ∷ []) n Cap
 
 name-back : (n : Name) → readName (nameNumber n) ≡ n
 unfolding readName
@@ -50,13 +46,14 @@ name-back After = refl
 name-one : (m n : Name) → nameNumber m ≡ nameNumber n → m ≡ n
 name-one m n e = sym (name-back m) ∙ ap readName e ∙ name-back n
 
-stray : (s : Script) (w : Wanted) (l : Line) → NotNamed (nameFor w) l → expected s (aNumber w) l ≡ stops s
-stray s w (Event o) h = refl
-stray s w Bad h = refl
-stray s w (Number n v) h = go (eqb (nameNumber (nameFor w)) (nameNumber n)) refl
+stray : (s : Script) (due : Name) (l : Line) → NotNamed due l → expected s (aNumber due) l ≡ stops s
+stray s due (Event q) h = refl
+stray s due Cut h = refl
+stray s due Bad h = refl
+stray s due (Number n v) h = go (eqb (nameNumber due) (nameNumber n)) refl
   where
-    go : (b : Bool) → eqb (nameNumber (nameFor w)) (nameNumber n) ≡ b → cond b (numberRead s w v) (stops s) ≡ stops s
-    go true e = absurd (h v (ap (λ (m : Name). Number m v) (sym (name-one (nameFor w) n (eqb-true _ _ e)))))
+    go : (b : Bool) → eqb (nameNumber due) (nameNumber n) ≡ b → cond b (numberRead s due v) (stops s) ≡ stops s
+    go true e = absurd (h v (ap (λ (m : Name). Number m v) (sym (name-one due n (eqb-true _ _ e)))))
     go false e = refl
 
 -- ---- lines after lines
@@ -64,8 +61,7 @@ stray s w (Number n v) h = go (eqb (nameNumber (nameFor w)) (nameNumber n)) refl
 asking-more : (a : Asked) (xs ys : List Asked) → asking a xs ++ ys ≡ asking a (xs ++ ys)
 asking-more askNothing xs ys = refl
 asking-more (askTable c k mul1 mul2) xs ys = refl
-asking-more (askQuery key) xs ys = refl
-asking-more (askChange a under) xs ys = refl
+asking-more (askEvent q under) xs ys = refl
 asking-more (askEnd line) xs ys = refl
 
 read-more : (s : Script) (xs ys : List Line) → readAll s (xs ++ ys) ≡ (readAll (readAll s xs .0) ys .0, readAll s xs .1 ++ readAll (readAll s xs .0) ys .1)
@@ -79,10 +75,8 @@ read-more s (x ∷ xs) ys =
 
 -- after these lines nothing is asked yet, and a number of this name is due, in the line of this number
 pub record Waits (s : Script) (lines : List Line) (name : Name) (number : ℕ) : Type 0 where
-  pub wanted : Wanted
   pub nothing : readAll s lines .1 ≡ []
-  pub due : readAll s lines .0 .due ≡ aNumber wanted
-  pub named : nameFor wanted ≡ name
+  pub due : readAll s lines .0 .due ≡ aNumber name
   pub next : nextLine (readAll s lines .0) ≡ number
 
 -- a line that makes a script stop is bad after the lines before it
@@ -99,7 +93,7 @@ module _ {s : Script} {lines : List Line} {name : Name} {number : ℕ} (w : Wait
 
   number-stray : (l : Line) → NotNamed name l → readingOf here l ≡ stops here
   unfolding readingOf here
-  number-stray l h = rw (w .due) (stray here (w .wanted) l (rw (← (w .named)) at h))
+  number-stray l h = rw (w .due) (stray here name l h)
 
   waits-bad : (l : Line) → NotNamed name l → BadAfter s lines l number
   unfolding here
@@ -123,79 +117,109 @@ no-name : (given : List Name) (vs : List ℕ) {name : Name} {later : List Name} 
 no-name given vs {name} {later} l e =
     let z : _≡_ {A = ℕ} 0 (length (name ∷ later)) = ap length (sym (drop-of-length-le given {i = length vs} l) ∙ e) in omega (arith, z)
 
-waits-as : (s : Script) (lines : List Line) (w : Wanted) {name : Name} (number : ℕ) → readAll s lines .1 ≡ [] → readAll s lines .0 .due ≡ aNumber w
-    → nameFor w ≡ name → nextLine (readAll s lines .0) ≡ number
+-- the first of the names that are left is due
+waits-as : (s : Script) (lines : List Line) {name first : Name} {later others : List Name} {number : ℕ} → first ∷ others ≡ name ∷ later
+    → readAll s lines .1 ≡ [] → readAll s lines .0 .due ≡ aNumber first → nextLine (readAll s lines .0) ≡ number
     → Waits s lines name number
-waits-as s lines w number a b c d = record { wanted = w; nothing = a; due = b; named = c; next = d }
+waits-as s lines e a b c = record { nothing = a; due = b ∙ ap aNumber (head-one e); next = c }
 
 header-waits : (vs : List ℕ) (name : Name) (later : List Name) → drop (length vs) headerNames ≡ name ∷ later
     → Waits start (numbered headerNames vs) name (length vs + 1)
 unfolding readingOf
-header-waits [] name later e = waits-as _ _ WantCap _ refl refl (head-one e) refl
-header-waits (a ∷ []) name later e = waits-as _ _ WantTop _ refl refl (head-one e) refl
-header-waits (a ∷ b ∷ []) name later e = waits-as _ _ WantMul1 _ refl refl (head-one e) refl
-header-waits (a ∷ b ∷ c ∷ []) name later e = waits-as _ _ WantMul2 _ refl refl (head-one e) refl
+header-waits [] name later e = waits-as _ _ e refl refl refl
+header-waits (a ∷ []) name later e = waits-as _ _ e refl refl refl
+header-waits (a ∷ b ∷ []) name later e = waits-as _ _ e refl refl refl
+header-waits (a ∷ b ∷ c ∷ []) name later e = waits-as _ _ e refl refl refl
 header-waits (a ∷ b ∷ c ∷ d ∷ vs) name later e = absurd (no-name headerNames (a ∷ b ∷ c ∷ d ∷ vs) (omega arith) e)
 
 -- the event may begin: its op line is read as one
-abbrev Begins : Script → Op → Type 0
-Begins s o = readingOf s (Event o) ≡ eventBegun s o
+abbrev Begins : Script → Call → Type 0
+Begins s q = readingOf s (Event q) ≡ eventBegun s q
 
-begins-free : (s : Script) → EventDue s → (o : Op) → Begins s o
+begins-free : (s : Script) → EventDue s → (q : Call) → Begins s q
 unfolding readingOf
-begins-free s d o = rw (d .due, d .cut)
+begins-free s d q = rw (d .due, d .cut)
 
-begins-cut : (s : Script) (n line : ℕ) → s .due ≡ anEvent → s .cut ≡ cutAfter n line → (o : Op) → mayBeCut o ≡ true → Begins s o
+begins-cut : (s : Script) (n line : ℕ) → s .due ≡ anEvent → s .cut ≡ cutAfter n line → (q : Call) → mayBeCut q ≡ true → Begins s q
 unfolding readingOf
-begins-cut s n line d c o may = rw (d, c, may)
+begins-cut s n line d c q may = rw (d, c, may)
+
+cut-begins-free : (s : Script) → EventDue s → readingOf s Cut ≡ waits s (aNumber After) 0 0 0
+unfolding readingOf
+cut-begins-free s d = rw (d .due) (rw (d .cut))
 
 -- lines after an op line
-op-line : (s : Script) (o : Op) → Begins s o → (lines : List Line)
-    → readAll s (Event o ∷ lines) ≡ (readAll (eventBegun s o .script) lines .0, asking (eventBegun s o .asked) (readAll (eventBegun s o .script) lines .1))
-op-line s o b lines = ap (λ (r : Reading). (readAll (r .script) lines .0, asking (r .asked) (readAll (r .script) lines .1))) b
+op-line : (s : Script) (o : Line) (r : Reading) → readingOf s o ≡ r → (lines : List Line)
+    → readAll s (o ∷ lines) ≡ (readAll (r .script) lines .0, asking (r .asked) (readAll (r .script) lines .1))
+op-line s o r b lines = ap (λ (r : Reading). (readAll (r .script) lines .0, asking (r .asked) (readAll (r .script) lines .1))) b
 
-first-line : (s : Script) (o : Op) → Begins s o → eventBegun s o .asked ≡ askNothing → (lines : List Line)
-    → readAll s (Event o ∷ lines) ≡ readAll (eventBegun s o .script) lines
-first-line s o b none lines =
-    let later = readAll (eventBegun s o .script) lines in
-    op-line s o b lines ∙ ap (λ (a : Asked). (later .0, asking a (later .1))) none
+-- one that asks for nothing yet
+module _ (s : Script) (o : Line) (t : Script) (b : readingOf s o ≡ record { script = t; asked = askNothing }) where
+  first-line : (lines : List Line) → readAll s (o ∷ lines) ≡ readAll t lines
+  first-line lines = op-line s o _ b lines
 
-begun-waits : (s : Script) (o : Op) → Begins s o → eventBegun s o .asked ≡ askNothing → {lines : List Line} {name : Name} {number : ℕ}
-    → Waits (eventBegun s o .script) lines name number
-    → Waits s (Event o ∷ lines) name number
-begun-waits s o b none {lines} w =
-    let same = first-line s o b none lines in
-    waits-as _ _ (w .wanted) _ (ap (λ x. x .1) same ∙ w .nothing) (ap (λ x. x .0 .due) same ∙ w .due) (w .named) (ap (λ x. nextLine (x .0)) same ∙ w .next)
+  begun-waits : {lines : List Line} {name : Name} {number : ℕ} → Waits t lines name number → Waits s (o ∷ lines) name number
+  begun-waits {lines} w =
+      let same = first-line lines in
+      record { nothing = ap (λ x. x .1) same ∙ w .nothing; due = ap (λ x. x .0 .due) same ∙ w .due; next = ap (λ x. nextLine (x .0)) same ∙ w .next }
 
-event-waits : (s : Script) (o : Op) → Begins s o → (vs : List ℕ) (name : Name) (later : List Name) → drop (length vs) (namesAfter o) ≡ name ∷ later
-    → Waits s (eventLines o vs) name (lineFrom s (length vs + 2))
-unfolding readingOf
-event-waits s Insert b [] name later e = begun-waits s Insert b refl (waits-as _ [] InsertKey _ refl refl (head-one e) (omega arith))
-event-waits s Insert b (k ∷ []) name later e = begun-waits s Insert b refl (waits-as _ (Number Key k ∷ []) InsertFn _ refl refl (head-one e) (omega arith))
-event-waits s Insert b (k ∷ f ∷ []) name later e = begun-waits s Insert b refl (waits-as _ (Number Key k ∷ Number Fn f ∷ []) InsertAt _ refl refl (head-one e) (omega arith))
-event-waits s Insert b (k ∷ f ∷ p ∷ vs) name later e = absurd (no-name (namesAfter Insert) (k ∷ f ∷ p ∷ vs) (omega arith) e)
-event-waits s Update b [] name later e = begun-waits s Update b refl (waits-as _ [] UpdateKey _ refl refl (head-one e) (omega arith))
-event-waits s Update b (k ∷ []) name later e = begun-waits s Update b refl (waits-as _ (Number Key k ∷ []) UpdateFn _ refl refl (head-one e) (omega arith))
-event-waits s Update b (k ∷ f ∷ []) name later e = begun-waits s Update b refl (waits-as _ (Number Key k ∷ Number Fn f ∷ []) UpdateAt _ refl refl (head-one e) (omega arith))
-event-waits s Update b (k ∷ f ∷ p ∷ vs) name later e = absurd (no-name (namesAfter Update) (k ∷ f ∷ p ∷ vs) (omega arith) e)
-event-waits s Delete b [] name later e = begun-waits s Delete b refl (waits-as _ [] DeleteKey _ refl refl (head-one e) (omega arith))
-event-waits s Delete b (k ∷ vs) name later e = absurd (no-name (namesAfter Delete) (k ∷ vs) (omega arith) e)
-event-waits s Query b [] name later e = begun-waits s Query b refl (waits-as _ [] QueryKey _ refl refl (head-one e) (omega arith))
-event-waits s Query b (k ∷ vs) name later e = absurd (no-name (namesAfter Query) (k ∷ vs) (omega arith) e)
-event-waits s Cut b [] name later e = begun-waits s Cut b refl (waits-as _ [] CutAfter _ refl refl (head-one e) (omega arith))
-event-waits s Cut b (k ∷ vs) name later e = absurd (no-name (namesAfter Cut) (k ∷ vs) (omega arith) e)
+-- an event with a key, and one with a record besides
+keyDue : Script → Call → Script
+keyDue s q = onward s (aNumber Key) q 0 0 0 (s .cut) askNothing .script
+
+module _ (s : Script) (q : Call) (b : Begins s q) (keyed : eqb (numbersIn q) 0 ≡ false) where
+  op-waits : {lines : List Line} {name : Name} {number : ℕ} → Waits (keyDue s q) lines name number → Waits s (Event q ∷ lines) name number
+  unfolding keyDue
+  op-waits w = begun-waits s (Event q) (keyDue s q) (b ∙ rw keyed) w
+
+  key-waits : {name : Name} {later others : List Name} → Key ∷ others ≡ name ∷ later → Waits s (Event q ∷ []) name (lineFrom s 2)
+  unfolding keyDue
+  key-waits e = op-waits (waits-as _ [] e refl refl (omega arith))
+
+  module _ (more : eqb (numbersIn q) 1 ≡ false) (k : ℕ) where
+    fn-waits : {name : Name} {later others : List Name} → Fn ∷ others ≡ name ∷ later → Waits s (Event q ∷ Number Key k ∷ []) name (lineFrom s 3)
+    unfolding readingOf keyDue
+    fn-waits e = op-waits (waits-as _ (Number Key k ∷ []) e (rw more) (rw more) (rw more (omega arith)))
+
+    at-waits : (f : ℕ) {name : Name} {later others : List Name} → At ∷ others ≡ name ∷ later → Waits s (Event q ∷ Number Key k ∷ Number Fn f ∷ []) name (lineFrom s 4)
+    unfolding readingOf keyDue
+    at-waits f e = op-waits (waits-as _ (Number Key k ∷ Number Fn f ∷ []) e (rw more) (rw more) (rw more (omega arith)))
+
+event-waits : (s : Script) (q : Call) → Begins s q → (vs : List ℕ) (name : Name) (later : List Name) → drop (length vs) (namesOf q) ≡ name ∷ later
+    → Waits s (eventLines (Event q) vs) name (lineFrom s (length vs + 2))
+event-waits s (Insert key r) b [] name later e = key-waits s _ b refl e
+event-waits s (Insert key r) b (k ∷ []) name later e = fn-waits s _ b refl refl k e
+event-waits s (Insert key r) b (k ∷ f ∷ []) name later e = at-waits s _ b refl refl k f e
+event-waits s (Insert key r) b (k ∷ f ∷ p ∷ vs) name later e = absurd (no-name (Key ∷ Fn ∷ At ∷ []) (k ∷ f ∷ p ∷ vs) (omega arith) e)
+event-waits s (Update key r) b [] name later e = key-waits s _ b refl e
+event-waits s (Update key r) b (k ∷ []) name later e = fn-waits s _ b refl refl k e
+event-waits s (Update key r) b (k ∷ f ∷ []) name later e = at-waits s _ b refl refl k f e
+event-waits s (Update key r) b (k ∷ f ∷ p ∷ vs) name later e = absurd (no-name (Key ∷ Fn ∷ At ∷ []) (k ∷ f ∷ p ∷ vs) (omega arith) e)
+event-waits s (Delete key) b [] name later e = key-waits s _ b refl e
+event-waits s (Delete key) b (k ∷ vs) name later e = absurd (no-name (Key ∷ []) (k ∷ vs) (omega arith) e)
+event-waits s (Query key) b [] name later e = key-waits s _ b refl e
+event-waits s (Query key) b (k ∷ vs) name later e = absurd (no-name (Key ∷ []) (k ∷ vs) (omega arith) e)
 event-waits s Begin b vs name later e = absurd (no-name [] vs (omega arith) e)
 event-waits s Step b vs name later e = absurd (no-name [] vs (omega arith) e)
 event-waits s End b vs name later e = absurd (no-name [] vs (omega arith) e)
 event-waits s Recover b vs name later e = absurd (no-name [] vs (omega arith) e)
 
+-- the same of every line that begins something
+line-waits : (s : Script) → EventDue s → (o : Line) (vs : List ℕ) (name : Name) (later : List Name) → drop (length vs) (namesAfter o) ≡ name ∷ later
+    → Waits s (eventLines o vs) name (lineFrom s (length vs + 2))
+line-waits s d (Event q) vs name later e = event-waits s q (begins-free s d q) vs name later e
+line-waits s d Cut [] name later e = begun-waits s Cut _ (cut-begins-free s d) (waits-as _ [] e refl refl (omega arith))
+line-waits s d Cut (n ∷ vs) name later e = absurd (no-name (After ∷ []) (n ∷ vs) (omega arith) e)
+line-waits s d (Number m v) vs name later e = absurd (no-name [] vs (omega arith) e)
+line-waits s d Bad vs name later e = absurd (no-name [] vs (omega arith) e)
+
 -- ---- whole events
 
-asks-by : (s : Script) (o : Op) → Begins s o → (lines : List Line) {asked : Asked} → let r = eventBegun s o in let later = readAll (r .script) lines in
-    (asking (r .asked) (later .1) ≡ asked ∷ []) → EventDue (later .0) → later .0 .lines ≡ lineFrom s (length (Event o ∷ lines))
-    → Asks s (Event o ∷ lines) asked
-asks-by s o b lines alone next count =
-    let whole = op-line s o b lines in
+asks-by : (s : Script) (q : Call) → Begins s q → (lines : List Line) {asked : Asked} → let r = eventBegun s q in let later = readAll (r .script) lines in
+    (asking (r .asked) (later .1) ≡ asked ∷ []) → EventDue (later .0) → later .0 .lines ≡ lineFrom s (length (Event q ∷ lines))
+    → Asks s (Event q ∷ lines) asked
+asks-by s q b lines alone next count =
+    let whole = op-line s (Event q) _ b lines in
     record {
       alone = ap (λ x. x .1) whole ∙ alone;
       next = record { due = ap (λ x. x .0 .due) whole ∙ next .due; cut = ap (λ x. x .0 .cut) whole ∙ next .cut };
@@ -205,39 +229,37 @@ asks-by s o b lines alone next count =
 due-here : (s : Script) → s .due ≡ anEvent → s .cut ≡ noCut → EventDue s
 due-here s a b = record { due = a; cut = b }
 
-act-asks : (s : Script) (a : Act) → Begins s (opOf a) → Asks s (actLines a) (askChange a (s .cut))
+call-asks : (s : Script) (q : Call) → Begins s (blank q) → Asks s (callLines q) (askEvent q (s .cut))
 unfolding readingOf
-act-asks s (insertAct k f p) b = asks-by s Insert b _ refl (due-here _ refl refl) (omega arith)
-act-asks s (updateAct k f p) b = asks-by s Update b _ refl (due-here _ refl refl) (omega arith)
-act-asks s (deleteAct k) b = asks-by s Delete b _ refl (due-here _ refl refl) (omega arith)
-act-asks s beginAct b = asks-by s Begin b [] refl (due-here _ refl refl) (omega arith)
-act-asks s stepAct b = asks-by s Step b [] refl (due-here _ refl refl) (omega arith)
-act-asks s endAct b = asks-by s End b [] refl (due-here _ refl refl) (omega arith)
-act-asks s recoverAct b = asks-by s Recover b [] refl (due-here _ refl refl) (omega arith)
-
-query-asks : (s : Script) (key : ℕ) → Begins s Query → Asks s (queryLines key) (askQuery key)
-unfolding readingOf
-query-asks s key b = asks-by s Query b _ refl (due-here _ refl refl) (omega arith)
+call-asks s (Query k) b = asks-by s (Query 0) b _ refl (due-here _ refl refl) (omega arith)
+call-asks s (Insert k r) b = asks-by s (blank (Insert k r)) b _ refl (due-here _ refl refl) (omega arith)
+call-asks s (Update k r) b = asks-by s (blank (Update k r)) b _ refl (due-here _ refl refl) (omega arith)
+call-asks s (Delete k) b = asks-by s (Delete 0) b _ refl (due-here _ refl refl) (omega arith)
+call-asks s Begin b = asks-by s Begin b [] refl (due-here _ refl refl) (omega arith)
+call-asks s Step b = asks-by s Step b [] refl (due-here _ refl refl) (omega arith)
+call-asks s End b = asks-by s End b [] refl (due-here _ refl refl) (omega arith)
+call-asks s Recover b = asks-by s Recover b [] refl (due-here _ refl refl) (omega arith)
 
 -- ---- under a cut line
 
-cut-may : (a : Act) → mayBeCut (opOf a) ≡ true
-cut-may (insertAct k f p) = refl
-cut-may (updateAct k f p) = refl
-cut-may (deleteAct k) = refl
-cut-may beginAct = refl
-cut-may stepAct = refl
-cut-may endAct = refl
-cut-may recoverAct = refl
+cut-may : (q : Call) → Changing q → (mayBeCut q ≡ true) × (mayBeCut (blank q) ≡ true)
+cut-may (Query key) c = absurd c
+cut-may (Insert key r) c = (refl, refl)
+cut-may (Update key r) c = (refl, refl)
+cut-may (Delete key) c = (refl, refl)
+cut-may Begin c = (refl, refl)
+cut-may Step c = (refl, refl)
+cut-may End c = (refl, refl)
+cut-may Recover c = (refl, refl)
 
 underCut : Script → ℕ → Script
-underCut s n = record { due = anEvent; first = 0; second = 0; third = 0; cut = cutAfter n (lineFrom s 1); lines = lineFrom s 2 }
+underCut s n = record { due = anEvent; event = s .event; first = 0; second = 0; third = 0; cut = cutAfter n (lineFrom s 1); lines = lineFrom s 2 }
 
 cut-read : (s : Script) → EventDue s → (n : ℕ) → readAll s (cutLines n) ≡ (underCut s n, [])
 unfolding readingOf underCut
 cut-read s d n =
     let same : lineFrom s 2 ≡ ((s .lines + 1) % 2 ^ 64 + 1) % 2 ^ 64 = omega arith in
-    first-line s Cut (begins-free s d Cut) refl (Number After n ∷ []) ∙ rw same
+    first-line s Cut _ (cut-begins-free s d) (Number After n ∷ []) ∙ rw same
 
 cut-number : (s : Script) (n k : ℕ) → lineFrom (underCut s n) (k + 2) ≡ lineFrom s (k + 4)
 unfolding underCut
@@ -247,20 +269,20 @@ onto : (s t : Script) (xs : List Line) → readAll s xs ≡ (t, []) → (ys : Li
 onto s t xs e ys = read-more s xs ys ∙ ap (λ (x : Script × List Asked). (readAll (x .0) ys .0, x .1 ++ readAll (x .0) ys .1)) e
 
 module _ (s : Script) (d : EventDue s) (n : ℕ) where
-  cut-begins : (a : Act) → Begins (underCut s n) (opOf a)
+  cut-begins : (q : Call) → mayBeCut q ≡ true → Begins (underCut s n) q
   unfolding underCut
-  cut-begins a = begins-cut (underCut s n) n (lineFrom s 1) refl refl (opOf a) (cut-may a)
+  cut-begins q may = begins-cut (underCut s n) n (lineFrom s 1) refl refl q may
 
   cut-waits : (lines : List Line) {name : Name} {number : ℕ} → Waits (underCut s n) lines name number → Waits s (cutLines n ++ lines) name number
   cut-waits lines w =
       let same = onto s (underCut s n) (cutLines n) (cut-read s d n) lines in
-      waits-as _ _ (w .wanted) _ (ap (λ x. x .1) same ∙ w .nothing) (ap (λ x. x .0 .due) same ∙ w .due) (w .named) (ap (λ x. nextLine (x .0)) same ∙ w .next)
+      record { nothing = ap (λ x. x .1) same ∙ w .nothing; due = ap (λ x. x .0 .due) same ∙ w .due; next = ap (λ x. nextLine (x .0)) same ∙ w .next }
 
-  cut-asks : (a : Act) → Asks s (cutLines n ++ actLines a) (askChange a (cutAfter n (lineFrom s 1)))
+  cut-asks : (q : Call) → Changing q → Asks s (cutLines n ++ callLines q) (askEvent q (cutAfter n (lineFrom s 1)))
   unfolding underCut
-  cut-asks a =
-      let same = onto s (underCut s n) (cutLines n) (cut-read s d n) (actLines a) in
-      let here = act-asks (underCut s n) a (cut-begins a) in
+  cut-asks q changing =
+      let same = onto s (underCut s n) (cutLines n) (cut-read s d n) (callLines q) in
+      let here = call-asks (underCut s n) q (cut-begins (blank q) (cut-may q changing .1)) in
       record {
         alone = ap (λ x. x .1) same ∙ here .alone;
         next = due-here _ (ap (λ x. x .0 .due) same ∙ here .next .due) (ap (λ x. x .0 .cut) same ∙ here .next .cut);
@@ -270,16 +292,16 @@ module _ (s : Script) (d : EventDue s) (n : ℕ) where
   no-change : (l : Line) → NoChange l → readingOf (underCut s n) l ≡ stopsAt (underCut s n) (lineFrom s 1)
   unfolding readingOf underCut
   no-change (Number m v) h = refl
+  no-change Cut h = refl
   no-change Bad h = refl
-  no-change (Event Query) h = refl
-  no-change (Event Cut) h = refl
-  no-change (Event Insert) h = absurd (h (insertAct 0 0 0) refl)
-  no-change (Event Update) h = absurd (h (updateAct 0 0 0) refl)
-  no-change (Event Delete) h = absurd (h (deleteAct 0) refl)
-  no-change (Event Begin) h = absurd (h beginAct refl)
-  no-change (Event Step) h = absurd (h stepAct refl)
-  no-change (Event End) h = absurd (h endAct refl)
-  no-change (Event Recover) h = absurd (h recoverAct refl)
+  no-change (Event (Query key)) h = refl
+  no-change (Event (Insert key r)) h = absurd (h (Insert key r) tt refl)
+  no-change (Event (Update key r)) h = absurd (h (Update key r) tt refl)
+  no-change (Event (Delete key)) h = absurd (h (Delete key) tt refl)
+  no-change (Event Begin) h = absurd (h Begin tt refl)
+  no-change (Event Step) h = absurd (h Step tt refl)
+  no-change (Event End) h = absurd (h End tt refl)
+  no-change (Event Recover) h = absurd (h Recover tt refl)
 
   cut-bad : (l : Line) → NoChange l → BadAfter s (cutLines n) l (lineFrom s 1)
   cut-bad l h =
@@ -302,7 +324,7 @@ unfolding readingOf
 headerRead c k mul1 mul2 = record { alone = refl; next = due-here _ refl refl; count = refl }
 
 pub eventsRead : EventsRead
-eventsRead s d = (λ a. subst (λ (under : CutLine). Asks s (actLines a) (askChange a under)) (d .cut) (act-asks s a (begins-free s d (opOf a))), λ key. query-asks s key (begins-free s d Query))
+eventsRead s d q = subst (λ (under : CutLine). Asks s (callLines q) (askEvent q under)) (d .cut) (call-asks s q (begins-free s d (blank q)))
 
 pub cutEventsRead : CutEventsRead
 cutEventsRead = cut-asks
@@ -314,20 +336,21 @@ pub headerInOrder : HeaderInOrder
 headerInOrder vs name later e = waits-both (header-waits vs name later e)
 
 pub numbersInOrder : NumbersInOrder
-numbersInOrder s d o vs name later e = waits-both (event-waits s o (begins-free s d o) vs name later e)
+numbersInOrder s d o vs name later e = waits-both (line-waits s d o vs name later e)
 
 pub cutNumbersInOrder : CutNumbersInOrder
-cutNumbersInOrder s d n a vs name later e =
-    let w = event-waits (underCut s n) (opOf a) (cut-begins s d n a) vs name later e in
+cutNumbersInOrder s d n q changing vs name later e =
+    let w = event-waits (underCut s n) q (cut-begins s d n q (cut-may q changing .0)) vs name later e in
     let number : lineFrom (underCut s n) (length vs + 2) ≡ lineFrom s (length vs + 4) = cut-number s n (length vs) in
-    waits-both (cut-waits s d n (eventLines (opOf a) vs) (rw number at w))
+    waits-both (cut-waits s d n (eventLines (Event q) vs) (rw number at w))
 
 pub eventElseBad : EventElseBad
 unfolding readingOf endingOf
 eventElseBad s d = (λ l h. bad-after s [] l _ refl (no-event l h .0) (no-event l h .1), rw (d .due, d .cut), rw (d .due, d .cut))
   where
     no-event : (l : Line) → NoEvent l → (readingOf s l .asked ≡ askEnd (lineFrom s 1)) × (readingOf s l .script .due ≡ noMore)
-    no-event (Event o) h = absurd (h o refl)
+    no-event (Event q) h = absurd (h .0 q refl)
+    no-event Cut h = absurd (h .1 refl)
     no-event (Number m v) h = (rw (d .due, d .cut), rw (d .due))
     no-event Bad h = (rw (d .due, d .cut), rw (d .due))
 

@@ -7,20 +7,19 @@ use mathlib.Core.Path.{_≡_}
 use mathlib.Core.Bool.{Bool, true, false}
 use mathlib.Core.List.{List, [], _∷_, _++_}
 use lib.ListN.{length, drop}
+use Rattle.rules.specs.declared.Call.{Call}
+use Rattle.rules.specs.declared.Call.the-variants.{Query, Insert, Update, Delete, Begin, Step, End, Recover}
+use Rattle.lines.specs.Lines.{blank}
 use Rattle.lines.specs.declared.Name.{Name}
 use Rattle.lines.specs.declared.Name.the-variants.{Cap, Top, Mul1, Mul2, Key, Fn, At, After}
-use Rattle.lines.specs.declared.Op.{Op}
-use Rattle.lines.specs.declared.Op.the-variants.{Insert, Update, Delete, Query, Begin, Step, End, Recover, Cut}
 use Rattle.lines.specs.declared.Line.{Line}
-use Rattle.lines.specs.declared.Line.the-variants.{Number, Event}
+use Rattle.lines.specs.declared.Line.the-variants.{Number, Event, Cut, Bad}
 use Rattle.following.specs.declared.Due.the-variants.{Event as anEvent, Nothing as noMore}
 use Rattle.following.specs.declared.Cut.{Cut as CutLine}
 use Rattle.following.specs.declared.Cut.the-variants.{None as noCut, After as cutAfter}
 use Rattle.following.specs.declared.Script.{Script}
-use Rattle.following.specs.declared.Act.{Act}
-use Rattle.following.specs.declared.Act.the-variants.{Insert as insertAct, Update as updateAct, Delete as deleteAct, Begin as beginAct, Step as stepAct, End as endAct, Recover as recoverAct}
 use Rattle.following.specs.declared.Asked.{Asked}
-use Rattle.following.specs.declared.Asked.the-variants.{Nothing as askNothing, Table as askTable, Query as askQuery, Change as askChange, Bad as askEnd}
+use Rattle.following.specs.declared.Asked.the-variants.{Nothing as askNothing, Table as askTable, Event as askEvent, Bad as askEnd}
 use Rattle.following.specs.declared.Ending.the-variants.{Whole, Bad as Torn, Over}
 use Rattle.following.specs.Scripts.{start, readingOf, endingOf}
 
@@ -32,16 +31,21 @@ headerNames = Cap ∷ Top ∷ Mul1 ∷ Mul2 ∷ []
 
 -- "`op=insert` or `op=update` with `key`, `fn`, `at`; `op=delete` or `op=query` with `key`; `op=begin`, `op=step`, `op=end`,
 -- `op=recover`; `op=cut` with `after`"
-abbrev pub namesAfter : Op → List Name
-namesAfter Insert = Key ∷ Fn ∷ At ∷ []
-namesAfter Update = Key ∷ Fn ∷ At ∷ []
-namesAfter Delete = Key ∷ []
-namesAfter Query = Key ∷ []
-namesAfter Begin = []
-namesAfter Step = []
-namesAfter End = []
-namesAfter Recover = []
+abbrev pub namesOf : Call → List Name
+namesOf (Query key) = Key ∷ []
+namesOf (Insert key r) = Key ∷ Fn ∷ At ∷ []
+namesOf (Update key r) = Key ∷ Fn ∷ At ∷ []
+namesOf (Delete key) = Key ∷ []
+namesOf Begin = []
+namesOf Step = []
+namesOf End = []
+namesOf Recover = []
+
+abbrev pub namesAfter : Line → List Name
+namesAfter (Number n v) = []
+namesAfter (Event q) = namesOf q
 namesAfter Cut = After ∷ []
+namesAfter Bad = []
 
 -- numbers under their names, as far as there are both
 abbrev pub numbered : List Name → List ℕ → List Line
@@ -49,37 +53,37 @@ numbered [] vs = []
 numbered (n ∷ ns) [] = []
 numbered (n ∷ ns) (v ∷ vs) = Number n v ∷ numbered ns vs
 
--- the first lines of an event: its `op` line, and some of its numbers
-abbrev pub eventLines : Op → List ℕ → List Line
-eventLines o vs = Event o ∷ numbered (namesAfter o) vs
+-- the first lines of an event or a cut: its `op` line, and some of its numbers
+abbrev pub eventLines : Line → List ℕ → List Line
+eventLines o vs = o ∷ numbered (namesAfter o) vs
 
--- "a changing event or recover": its `op` line and its numbers
-abbrev pub opOf : Act → Op
-opOf (insertAct k f p) = Insert
-opOf (updateAct k f p) = Update
-opOf (deleteAct k) = Delete
-opOf beginAct = Begin
-opOf stepAct = Step
-opOf endAct = End
-opOf recoverAct = Recover
+-- an event: its `op` line, which says no number, and its numbers
+abbrev pub numbersOf : Call → List ℕ
+numbersOf (Query key) = key ∷ []
+numbersOf (Insert key r) = key ∷ r .function ∷ r .place ∷ []
+numbersOf (Update key r) = key ∷ r .function ∷ r .place ∷ []
+numbersOf (Delete key) = key ∷ []
+numbersOf Begin = []
+numbersOf Step = []
+numbersOf End = []
+numbersOf Recover = []
 
-abbrev pub numbersOf : Act → List ℕ
-numbersOf (insertAct k f p) = k ∷ f ∷ p ∷ []
-numbersOf (updateAct k f p) = k ∷ f ∷ p ∷ []
-numbersOf (deleteAct k) = k ∷ []
-numbersOf beginAct = []
-numbersOf stepAct = []
-numbersOf endAct = []
-numbersOf recoverAct = []
-
-abbrev pub actLines : Act → List Line
-actLines a = eventLines (opOf a) (numbersOf a)
-
-abbrev pub queryLines : ℕ → List Line
-queryLines key = eventLines Query (key ∷ [])
+abbrev pub callLines : Call → List Line
+callLines q = eventLines (Event (blank q)) (numbersOf q)
 
 abbrev pub cutLines : ℕ → List Line
 cutLines n = eventLines Cut (n ∷ [])
+
+-- "a changing event or recover"
+abbrev pub Changing : Call → Type 0
+Changing (Query key) = ⊥
+Changing (Insert key r) = Unit {0}
+Changing (Update key r) = Unit {0}
+Changing (Delete key) = Unit {0}
+Changing Begin = Unit {0}
+Changing Step = Unit {0}
+Changing End = Unit {0}
+Changing Recover = Unit {0}
 
 -- ---- lines read one after the other
 
@@ -87,8 +91,7 @@ cutLines n = eventLines Cut (n ∷ [])
 abbrev pub asking : Asked → List Asked → List Asked
 asking askNothing later = later
 asking (askTable c k mul1 mul2) later = askTable c k mul1 mul2 ∷ later
-asking (askQuery key) later = askQuery key ∷ later
-asking (askChange a under) later = askChange a under ∷ later
+asking (askEvent q under) later = askEvent q under ∷ later
 asking (askEnd line) later = askEnd line ∷ later
 
 -- where the script stands after them, and all that they ask for
@@ -125,10 +128,10 @@ abbrev pub NotNamed : Name → Line → Type 0
 NotNamed name l = (v : ℕ) → l ≡ Number name v → ⊥
 
 abbrev pub NoEvent : Line → Type 0
-NoEvent l = (o : Op) → l ≡ Event o → ⊥
+NoEvent l = ((q : Call) → l ≡ Event q → ⊥) × (l ≡ Cut → ⊥)
 
 abbrev pub NoChange : Line → Type 0
-NoChange l = (a : Act) → l ≡ Event (opOf a) → ⊥
+NoChange l = (q : Call) → Changing q → l ≡ Event q → ⊥
 
 -- ---- the sentences
 
@@ -138,12 +141,12 @@ HeaderRead = (c k mul1 mul2 : ℕ) → Asks start (numbered headerNames (c ∷ k
 
 -- each event with its lines, in their order
 abbrev pub EventsRead : Type 0
-EventsRead = (s : Script) → EventDue s → ((a : Act) → Asks s (actLines a) (askChange a noCut)) × ((key : ℕ) → Asks s (queryLines key) (askQuery key))
+EventsRead = (s : Script) → EventDue s → (q : Call) → Asks s (callLines q) (askEvent q noCut)
 
 -- "`op=cut` with `after`, which must stand right before a changing event or recover .. and lets only that many of its stores be
 -- made": each of them, with its lines
 abbrev pub CutEventsRead : Type 0
-CutEventsRead = (s : Script) → EventDue s → (n : ℕ) (a : Act) → Asks s (cutLines n ++ actLines a) (askChange a (cutAfter n (lineFrom s 1)))
+CutEventsRead = (s : Script) → EventDue s → (n : ℕ) (q : Call) → Changing q → Asks s (cutLines n ++ callLines q) (askEvent q (cutAfter n (lineFrom s 1)))
 
 -- "(else the cut line is the bad line)": before a query, another cut line, any other line, and at the end
 abbrev pub CutLineElseBad : Type 0
@@ -158,15 +161,15 @@ HeaderInOrder = (vs : List ℕ) (name : Name) (later : List Name) → drop (leng
 
 -- in an event, or in a cut line: what is not the next number of it
 abbrev pub NumbersInOrder : Type 0
-NumbersInOrder = (s : Script) → EventDue s → (o : Op) (vs : List ℕ) (name : Name) (later : List Name) → drop (length vs) (namesAfter o) ≡ name ∷ later
+NumbersInOrder = (s : Script) → EventDue s → (o : Line) (vs : List ℕ) (name : Name) (later : List Name) → drop (length vs) (namesAfter o) ≡ name ∷ later
     → ((l : Line) → NotNamed name l → BadAfter s (eventLines o vs) l (lineFrom s (length vs + 2))) × EndsBad s (eventLines o vs) (lineFrom s (length vs + 2))
 
 -- the same of an event under a cut line
 abbrev pub CutNumbersInOrder : Type 0
-CutNumbersInOrder = (s : Script) → EventDue s → (n : ℕ) (a : Act) (vs : List ℕ) (name : Name) (later : List Name)
-    → drop (length vs) (namesAfter (opOf a)) ≡ name ∷ later
-    → ((l : Line) → NotNamed name l → BadAfter s (cutLines n ++ eventLines (opOf a) vs) l (lineFrom s (length vs + 4)))
-    × EndsBad s (cutLines n ++ eventLines (opOf a) vs) (lineFrom s (length vs + 4))
+CutNumbersInOrder = (s : Script) → EventDue s → (n : ℕ) (q : Call) → Changing q → (vs : List ℕ) (name : Name) (later : List Name)
+    → drop (length vs) (namesOf q) ≡ name ∷ later
+    → ((l : Line) → NotNamed name l → BadAfter s (cutLines n ++ eventLines (Event q) vs) l (lineFrom s (length vs + 4)))
+    × EndsBad s (cutLines n ++ eventLines (Event q) vs) (lineFrom s (length vs + 4))
 
 -- where an event is due: what begins none, and a torn line. An input that ends there ends well
 abbrev pub EventElseBad : Type 0

@@ -1,28 +1,28 @@
 // What a line makes of what a script waits for.
-use crate::Act;
 use crate::Asked;
 use crate::Cut;
 use crate::Due;
 use crate::Ending;
 use crate::Reading;
 use crate::Script;
-use crate::Wanted;
 use lines::Line;
 use lines::Name;
-use lines::Op;
+use rules::Call;
+use rules::Record;
 use std::num::wrapping_add_u64;
 ghost use mathlib.Core.Path.{_≡_};
 ghost use mathlib.Core.Bool.{cond};
 ghost use lib.Dec.{eqb};
 ghost use Rattle.following.specs.declared.Due.the-variants.{Number as aNumber, Event as anEvent};
-ghost use Rattle.following.specs.Scripts.{start as startOf, nextLine, onward as onwardOf, waits as waitsOf, asks as asksOf, stopsAt as stopsAtOf, stops as stopsOf, nameNumber, nameFor, numberRead, eventBegun, mayBeCut, eventRead, expected, readingOf, noEventLine, atEvent, endingOf};
+ghost use Rattle.following.specs.Scripts.{start as startOf, nextLine, onward as onwardOf, waits as waitsOf, asks as asksOf, stopsAt as stopsAtOf, stops as stopsOf, nameNumber, numbersIn, filled as filledOf, keyRead, numberRead, eventBegun, mayBeCut, eventRead, cutRead, expected, readingOf, noEventLine, atEvent, endingOf};
 
 // "`cap`, `top` (the first k), `mul1`, `mul2`, then events"
 pub fn start() -> Script
     ensures { λ r. ⌜ r ≡ startOf ⌝ }
 {
     Script {
-        due: Due::Number(Wanted::Cap),
+        due: Due::Number(Name::Cap),
+        event: Call::Begin,
         first: 0,
         second: 0,
         third: 0,
@@ -37,13 +37,23 @@ fn next_line(s: Script) -> u64
     wrapping_add_u64(s.lines, 1)
 }
 
-// A line is read: what is due after it, with these numbers read for that and under this cut line, and what it asks for.
-fn onward(s: Script, due: Due, a: u64, b: u64, c: u64, cut: Cut, asked: Asked) -> Reading
-    ensures { λ r. ⌜ r ≡ onwardOf s due a b c cut asked ⌝ }
+// A line is read: what is due after it, for this event with these numbers and under this cut line, and what it asks for.
+fn onward(
+    s: Script,
+    due: Due,
+    event: Call,
+    a: u64,
+    b: u64,
+    c: u64,
+    cut: Cut,
+    asked: Asked,
+) -> Reading
+    ensures { λ r. ⌜ r ≡ onwardOf s due event a b c cut asked ⌝ }
 {
     Reading {
         script: Script {
             due,
+            event,
             first: a,
             second: b,
             third: c,
@@ -55,24 +65,28 @@ fn onward(s: Script, due: Due, a: u64, b: u64, c: u64, cut: Cut, asked: Asked) -
 }
 
 // More is to come for a header or an event.
-fn waits(s: Script, due: Due, a: u64, b: u64, c: u64, cut: Cut) -> Reading
-    ensures { λ r. ⌜ r ≡ waitsOf s due a b c cut ⌝ }
+fn waits(s: Script, due: Due, a: u64, b: u64, c: u64) -> Reading
+    ensures { λ r. ⌜ r ≡ waitsOf s due a b c ⌝ }
 {
-    onward(s, due, a, b, c, cut, Asked::Nothing)
+    let event = s.event;
+    let cut = s.cut;
+    onward(s, due, event, a, b, c, cut, Asked::Nothing)
 }
 
 // A header or an event is whole.
 fn asks(s: Script, asked: Asked) -> Reading
     ensures { λ r. ⌜ r ≡ asksOf s asked ⌝ }
 {
-    onward(s, Due::Event, 0, 0, 0, Cut::None, asked)
+    let event = s.event;
+    onward(s, Due::Event, event, 0, 0, 0, Cut::None, asked)
 }
 
 // "First bad line: `bad=` its number, from 1, and stop."
 fn stops_at(s: Script, line: u64) -> Reading
     ensures { λ r. ⌜ r ≡ stopsAtOf s line ⌝ }
 {
-    onward(s, Due::Nothing, 0, 0, 0, Cut::None, Asked::Bad(line))
+    let event = s.event;
+    onward(s, Due::Nothing, event, 0, 0, 0, Cut::None, Asked::Bad(line))
 }
 
 fn name_number(name: Name) -> u64
@@ -90,105 +104,135 @@ fn name_number(name: Name) -> u64
     }
 }
 
-// "`op=insert` or `op=update` with `key`, `fn`, `at`; `op=delete` or `op=query` with `key`", "`op=cut` with `after`"
-fn name_for(wanted: Wanted) -> Name
-    ensures { λ r. ⌜ r ≡ nameFor wanted ⌝ }
+// "`op=insert` or `op=update` with `key`, `fn`, `at`; `op=delete` or `op=query` with `key`"
+fn numbers_in(event: Call) -> u64
+    ensures { λ r. ⌜ r ≡ numbersIn event ⌝ }
 {
-    match wanted {
-        Wanted::Cap => Name::Cap,
-        Wanted::Top => Name::Top,
-        Wanted::Mul1 => Name::Mul1,
-        Wanted::Mul2 => Name::Mul2,
-        Wanted::InsertKey => Name::Key,
-        Wanted::InsertFn => Name::Fn,
-        Wanted::InsertAt => Name::At,
-        Wanted::UpdateKey => Name::Key,
-        Wanted::UpdateFn => Name::Fn,
-        Wanted::UpdateAt => Name::At,
-        Wanted::DeleteKey => Name::Key,
-        Wanted::QueryKey => Name::Key,
-        Wanted::CutAfter => Name::After,
+    match event {
+        Call::Query(_) => 1,
+        Call::Insert(_, _) => 3,
+        Call::Update(_, _) => 3,
+        Call::Delete(_) => 1,
+        Call::Begin => 0,
+        Call::Step => 0,
+        Call::End => 0,
+        Call::Recover => 0,
     }
+}
+
+// An event with its numbers.
+fn filled(event: Call, key: u64, function: u64, place: u64) -> Call
+    ensures { λ r. ⌜ r ≡ filledOf event key function place ⌝ }
+{
+    match event {
+        Call::Query(_) => Call::Query(key),
+        Call::Insert(_, _) => Call::Insert(key, Record { function, place }),
+        Call::Update(_, _) => Call::Update(key, Record { function, place }),
+        Call::Delete(_) => Call::Delete(key),
+        Call::Begin => Call::Begin,
+        Call::Step => Call::Step,
+        Call::End => Call::End,
+        Call::Recover => Call::Recover,
+    }
+}
+
+fn key_read(s: Script, key: u64) -> Reading
+    ensures { λ r. ⌜ r ≡ keyRead s key ⌝ }
+{
+    let event = s.event;
+    let cut = s.cut;
+    if numbers_in(event) == 1 {
+        return asks(s, Asked::Event(filled(event, key, 0, 0), cut));
+    }
+    waits(s, Due::Number(Name::Fn), key, 0, 0)
 }
 
 // The cut line is the one before its `after`.
-fn number_read(s: Script, wanted: Wanted, v: u64) -> Reading
-    ensures { λ r. ⌜ r ≡ numberRead s wanted v ⌝ }
+fn number_read(s: Script, name: Name, v: u64) -> Reading
+    ensures { λ r. ⌜ r ≡ numberRead s name v ⌝ }
 {
+    let event = s.event;
     let cut = s.cut;
-    match wanted {
-        Wanted::Cap => waits(s, Due::Number(Wanted::Top), v, 0, 0, Cut::None),
-        Wanted::Top => waits(s, Due::Number(Wanted::Mul1), s.first, v, 0, Cut::None),
-        Wanted::Mul1 => waits(
+    match name {
+        Name::Cap => waits(s, Due::Number(Name::Top), v, 0, 0),
+        Name::Top => waits(s, Due::Number(Name::Mul1), s.first, v, 0),
+        Name::Mul1 => waits(s, Due::Number(Name::Mul2), s.first, s.second, v),
+        Name::Mul2 => asks(s, Asked::Table(s.first, s.second, s.third, v)),
+        Name::Key => key_read(s, v),
+        Name::Fn => waits(s, Due::Number(Name::At), s.first, v, 0),
+        Name::At => asks(s, Asked::Event(filled(event, s.first, s.second, v), cut)),
+        Name::After => onward(
             s,
-            Due::Number(Wanted::Mul2),
-            s.first,
-            s.second,
-            v,
-            Cut::None,
+            Due::Event,
+            event,
+            0,
+            0,
+            0,
+            Cut::After(v, s.lines),
+            Asked::Nothing,
         ),
-        Wanted::Mul2 => asks(s, Asked::Table(s.first, s.second, s.third, v)),
-        Wanted::InsertKey => waits(s, Due::Number(Wanted::InsertFn), v, 0, 0, cut),
-        Wanted::InsertFn => waits(s, Due::Number(Wanted::InsertAt), s.first, v, 0, cut),
-        Wanted::InsertAt => asks(s, Asked::Change(Act::Insert(s.first, s.second, v), cut)),
-        Wanted::UpdateKey => waits(s, Due::Number(Wanted::UpdateFn), v, 0, 0, cut),
-        Wanted::UpdateFn => waits(s, Due::Number(Wanted::UpdateAt), s.first, v, 0, cut),
-        Wanted::UpdateAt => asks(s, Asked::Change(Act::Update(s.first, s.second, v), cut)),
-        Wanted::DeleteKey => asks(s, Asked::Change(Act::Delete(v), cut)),
-        Wanted::QueryKey => asks(s, Asked::Query(v)),
-        Wanted::CutAfter => waits(s, Due::Event, 0, 0, 0, Cut::After(v, s.lines)),
     }
 }
 
-fn event_begun(s: Script, op: Op) -> Reading
-    ensures { λ r. ⌜ r ≡ eventBegun s op ⌝ }
+fn event_begun(s: Script, event: Call) -> Reading
+    ensures { λ r. ⌜ r ≡ eventBegun s event ⌝ }
 {
     let cut = s.cut;
-    match op {
-        Op::Insert => waits(s, Due::Number(Wanted::InsertKey), 0, 0, 0, cut),
-        Op::Update => waits(s, Due::Number(Wanted::UpdateKey), 0, 0, 0, cut),
-        Op::Delete => waits(s, Due::Number(Wanted::DeleteKey), 0, 0, 0, cut),
-        Op::Query => waits(s, Due::Number(Wanted::QueryKey), 0, 0, 0, cut),
-        Op::Begin => asks(s, Asked::Change(Act::Begin, cut)),
-        Op::Step => asks(s, Asked::Change(Act::Step, cut)),
-        Op::End => asks(s, Asked::Change(Act::End, cut)),
-        Op::Recover => asks(s, Asked::Change(Act::Recover, cut)),
-        Op::Cut => waits(s, Due::Number(Wanted::CutAfter), 0, 0, 0, cut),
+    if numbers_in(event) == 0 {
+        return asks(s, Asked::Event(event, cut));
     }
+    onward(
+        s,
+        Due::Number(Name::Key),
+        event,
+        0,
+        0,
+        0,
+        cut,
+        Asked::Nothing,
+    )
 }
 
-fn may_be_cut(op: Op) -> bool
-    ensures { λ r. ⌜ r ≡ mayBeCut op ⌝ }
+fn may_be_cut(event: Call) -> bool
+    ensures { λ r. ⌜ r ≡ mayBeCut event ⌝ }
 {
-    match op {
-        Op::Insert => true,
-        Op::Update => true,
-        Op::Delete => true,
-        Op::Query => false,
-        Op::Begin => true,
-        Op::Step => true,
-        Op::End => true,
-        Op::Recover => true,
-        Op::Cut => false,
+    match event {
+        Call::Query(_) => false,
+        Call::Insert(_, _) => true,
+        Call::Update(_, _) => true,
+        Call::Delete(_) => true,
+        Call::Begin => true,
+        Call::Step => true,
+        Call::End => true,
+        Call::Recover => true,
     }
 }
 
 // "which must stand right before a changing event or recover (else the cut line is the bad line)"
-fn event_under(s: Script, line: u64, op: Op) -> Reading
-    ensures { λ r. ⌜ r ≡ cond (mayBeCut op) (eventBegun s op) (stopsAtOf s line) ⌝ }
+fn event_under(s: Script, line: u64, event: Call) -> Reading
+    ensures { λ r. ⌜ r ≡ cond (mayBeCut event) (eventBegun s event) (stopsAtOf s line) ⌝ }
 {
-    if may_be_cut(op) {
-        return event_begun(s, op);
+    if may_be_cut(event) {
+        return event_begun(s, event);
     }
     stops_at(s, line)
 }
 
-fn event_read(s: Script, cut: Cut, op: Op) -> Reading
-    ensures { λ r. ⌜ r ≡ eventRead s cut op ⌝ }
+fn event_read(s: Script, cut: Cut, event: Call) -> Reading
+    ensures { λ r. ⌜ r ≡ eventRead s cut event ⌝ }
 {
     match cut {
-        Cut::None => event_begun(s, op),
-        Cut::After(_, line) => event_under(s, line, op),
+        Cut::None => event_begun(s, event),
+        Cut::After(_, line) => event_under(s, line, event),
+    }
+}
+
+fn cut_read(s: Script, cut: Cut) -> Reading
+    ensures { λ r. ⌜ r ≡ cutRead s cut ⌝ }
+{
+    match cut {
+        Cut::None => waits(s, Due::Number(Name::After), 0, 0, 0),
+        Cut::After(_, line) => stops_at(s, line),
     }
 }
 
@@ -208,22 +252,22 @@ fn no_event_line(s: Script, cut: Cut) -> u64
     }
 }
 
-fn number_named(s: Script, wanted: Wanted, name: Name, v: u64) -> Reading
-    ensures { λ r. ⌜ r ≡ cond (eqb (nameNumber (nameFor wanted)) (nameNumber name)) (numberRead s wanted v) (stopsOf s) ⌝ }
+fn number_named(s: Script, due: Name, name: Name, v: u64) -> Reading
+    ensures { λ r. ⌜ r ≡ cond (eqb (nameNumber due) (nameNumber name)) (numberRead s due v) (stopsOf s) ⌝ }
 {
-    let due = name_number(name_for(wanted));
-    if due == name_number(name) {
-        return number_read(s, wanted, v);
+    if name_number(due) == name_number(name) {
+        return number_read(s, due, v);
     }
     stops(s)
 }
 
-fn number_line(s: Script, wanted: Wanted, line: Line) -> Reading
-    ensures { λ r. ⌜ r ≡ expected s (aNumber wanted) line ⌝ }
+fn number_line(s: Script, due: Name, line: Line) -> Reading
+    ensures { λ r. ⌜ r ≡ expected s (aNumber due) line ⌝ }
 {
     match line {
-        Line::Number(name, v) => number_named(s, wanted, name, v),
+        Line::Number(name, v) => number_named(s, due, name, v),
         Line::Event(_) => stops(s),
+        Line::Cut => stops(s),
         Line::Bad => stops(s),
     }
 }
@@ -234,7 +278,8 @@ fn event_line(s: Script, line: Line) -> Reading
     let cut = s.cut;
     match line {
         Line::Number(_, _) => stops_at(s, no_event_line(s, cut)),
-        Line::Event(op) => event_read(s, cut, op),
+        Line::Event(event) => event_read(s, cut, event),
+        Line::Cut => cut_read(s, cut),
         Line::Bad => stops_at(s, no_event_line(s, cut)),
     }
 }
@@ -244,7 +289,7 @@ pub fn read(s: Script, line: Line) -> Reading
 {
     let due = s.due;
     match due {
-        Due::Number(wanted) => number_line(s, wanted, line),
+        Due::Number(name) => number_line(s, name, line),
         Due::Event => event_line(s, line),
         Due::Nothing => Reading {
             script: s,

@@ -1,7 +1,6 @@
 mod Beginnings
-mod Chains
+mod Rows
 mod Digits
-mod Answered
 mod Decimals
 pub mod Only
 pub mod Texts

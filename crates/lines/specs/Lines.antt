@@ -4,18 +4,19 @@
 use Prim.Native.Nat.{ℕ, _+_, _-_, _*_, _^_}
 use Prim.Native.Char.{code}
 use Prim.Native.String.{String, [] as noText, _∷_ as _then_}
-use mathlib.Core.Bool.{Bool, true, false, not, _&&_}
+use mathlib.Core.Bool.{Bool, true, false, not, _&&_, cond}
 use mathlib.Core.List.{List, [], _∷_, map}
 use mathlib.Core.Option.{Option, none, some}
-use lib.ListN.{length, drop}
+use lib.ListN.{length, drop, getD}
 use lib.Dec.{eqb, leb, ltb}
-use Rattle.rules.specs.Choice.{all, given, firstOf}
+use Rattle.rules.specs.Choice.{all, given}
+use Rattle.rules.specs.declared.Record.{Record}
+use Rattle.rules.specs.declared.Call.{Call}
+use Rattle.rules.specs.declared.Call.the-variants.{Query, Insert, Update, Delete, Begin, Step, End, Recover}
 use Rattle.lines.specs.declared.Name.{Name}
 use Rattle.lines.specs.declared.Name.the-variants.{Cap, Top, Mul1, Mul2, Key, Fn, At, After}
-use Rattle.lines.specs.declared.Op.{Op}
-use Rattle.lines.specs.declared.Op.the-variants.{Insert, Update, Delete, Query, Begin, Step, End, Recover, Cut}
 use Rattle.lines.specs.declared.Line.{Line}
-use Rattle.lines.specs.declared.Line.the-variants.{Number, Event, Bad}
+use Rattle.lines.specs.declared.Line.the-variants.{Number, Event, Cut, Bad}
 
 -- a text as bytes
 abbrev pub bytes : String → List ℕ
@@ -33,32 +34,68 @@ nameText Fn = "fn="
 nameText At = "at="
 nameText After = "after="
 
-abbrev pub names : List Name
-names = Cap ∷ Top ∷ Mul1 ∷ Mul2 ∷ Key ∷ Fn ∷ At ∷ After ∷ []
+-- "`op=insert` or `op=update` ..; `op=delete` or `op=query` ..; `op=begin`, `op=step`, `op=end`, `op=recover`"
+abbrev pub eventText : Call → String
+eventText (Insert key r) = "op=insert"
+eventText (Update key r) = "op=update"
+eventText (Delete key) = "op=delete"
+eventText (Query key) = "op=query"
+eventText Begin = "op=begin"
+eventText Step = "op=step"
+eventText End = "op=end"
+eventText Recover = "op=recover"
 
--- "`op=insert` or `op=update` ..; `op=delete` or `op=query` ..; `op=begin`, `op=step`, `op=end`, `op=recover`; `op=cut`"
-abbrev pub opText : Op → String
-opText Insert = "op=insert"
-opText Update = "op=update"
-opText Delete = "op=delete"
-opText Query = "op=query"
-opText Begin = "op=begin"
-opText Step = "op=step"
-opText End = "op=end"
-opText Recover = "op=recover"
-opText Cut = "op=cut"
+-- an event as its line says it: its numbers, which stand in the lines after it, are still 0
+abbrev pub noRecord : Record
+noRecord = record { function = 0; place = 0 }
 
-abbrev pub ops : List Op
-ops = Insert ∷ Update ∷ Delete ∷ Query ∷ Begin ∷ Step ∷ End ∷ Recover ∷ Cut ∷ []
+abbrev pub blank : Call → Call
+blank (Insert key r) = Insert 0 noRecord
+blank (Update key r) = Update 0 noRecord
+blank (Delete key) = Delete 0
+blank (Query key) = Query 0
+blank Begin = Begin
+blank Step = Step
+blank End = End
+blank Recover = Recover
 
--- whether a line begins with a text, and whether it is that text
+-- what a line begins with; "`op=cut` with `after`"
+abbrev pub beginning : Line → String
+beginning (Number n v) = nameText n
+beginning (Event q) = eventText q
+beginning Cut = "op=cut"
+beginning Bad = ""
+
+-- every line that is not bad, with its number still 0
+abbrev pub rows : List Line
+rows =
+    Number Cap 0
+    ∷ Number Top 0
+    ∷ Number Mul1 0
+    ∷ Number Mul2 0
+    ∷ Number Key 0
+    ∷ Number Fn 0
+    ∷ Number At 0
+    ∷ Number After 0
+    ∷ Event (Insert 0 noRecord)
+    ∷ Event (Update 0 noRecord)
+    ∷ Event (Delete 0)
+    ∷ Event (Query 0)
+    ∷ Event Begin
+    ∷ Event Step
+    ∷ Event End
+    ∷ Event Recover
+    ∷ Cut
+    ∷ []
+
+abbrev pub rowAt : ℕ → Line
+rowAt n = getD rows n Bad
+
+-- whether a line begins with a text
 abbrev pub begins : List ℕ → List ℕ → Bool
 begins [] line = true
 begins (x ∷ xs) [] = false
 begins (x ∷ xs) (y ∷ ys) = eqb x y && begins xs ys
-
-abbrev pub same : List ℕ → List ℕ → Bool
-same xs line = eqb (length xs) (length line) && begins xs line
 
 -- a decimal: digits, "no leading zeros". "A number of 2^64 or more is bad"
 abbrev pub isDigit : ℕ → Bool
@@ -76,24 +113,27 @@ noLeadingZero (d ∷ (e ∷ ds)) = not (eqb d 48)
 unfoldable pub decimalOf : List ℕ → Option ℕ
 decimalOf ds = given (all (noLeadingZero ds ∷ all (map isDigit ds) ∷ ltb (valueFrom 0 ds) (2 ^ 64) ∷ [])) (valueFrom 0 ds)
 
--- a line: a name with a decimal, or an event. Any other is bad
-unfoldable pub nameOf : List ℕ → Option Name
-nameOf line = firstOf (λ (n : Name). given (begins (bytes (nameText n)) line) n) names
-
-unfoldable pub opOf : List ℕ → Option Op
-opOf line = firstOf (λ (o : Op). given (same (bytes (opText o)) line) o) ops
-
+-- what a line says that begins as one of the rows does, and goes on so: with a decimal after a name, and with nothing after an event
 abbrev pub numbered : Name → Option ℕ → Line
 numbered n (some v) = Number n v
 numbered n none = Bad
 
-abbrev pub evented : Option Op → Line
-evented (some o) = Event o
-evented none = Bad
+abbrev pub unlessMore : List ℕ → Line → Line
+unlessMore [] l = l
+unlessMore (b ∷ bs) l = Bad
 
-abbrev pub lineWith : List ℕ → Option Name → Line
-lineWith line (some n) = numbered n (decimalOf (drop (length (bytes (nameText n))) line))
-lineWith line none = evented (opOf line)
+abbrev pub wholeLine : Line → List ℕ → Line
+wholeLine (Number n v) rest = numbered n (decimalOf rest)
+wholeLine (Event q) rest = unlessMore rest (Event q)
+wholeLine Cut rest = unlessMore rest Cut
+wholeLine Bad rest = unlessMore rest Bad
+
+-- a line says what the first row does that it begins as. Any other line is bad
+abbrev pub saidBy : List Line → List ℕ → Line
+saidBy [] line = Bad
+saidBy (l ∷ ls) line =
+    let text = bytes (beginning l) in
+    cond (begins text line) (wholeLine l (drop (length text) line)) (saidBy ls line)
 
 unfoldable pub lineOf : List ℕ → Line
-lineOf line = lineWith line (nameOf line)
+lineOf line = saidBy rows line

@@ -6,9 +6,9 @@ use mathlib.Core.Path.{_≡_}
 use mathlib.Core.Bool.{cond}
 use mathlib.Core.List.{List, [], _∷_, _++_}
 use lib.Dec.{ltb}
-use Rattle.lines.specs.Lines.{bytes, nameText, opText, lineOf}
+use Rattle.lines.specs.Lines.{bytes, blank, beginning, lineOf}
 use Rattle.lines.specs.declared.Line.{Line}
-use Rattle.lines.specs.declared.Line.the-variants.{Number, Event, Bad}
+use Rattle.lines.specs.declared.Line.the-variants.{Number, Event, Cut, Bad}
 
 -- a number's digits, at most n of them: the digits of its tenth, where it is not below 10, and then its last one. `rest` is computed
 -- only where it is asked for, so that a number takes no more steps than it has digits
@@ -21,15 +21,20 @@ unfoldable pub decimalText : ℕ → List ℕ
 decimalText v = digitsIn (suc v) v
 
 -- "Lines of name=decimal, no leading zeros", and the events. A bad line has no text
-abbrev pub lineText : Line → List ℕ
-lineText (Number n v) = bytes (nameText n) ++ decimalText v
-lineText (Event o) = bytes (opText o)
-lineText Bad = []
+abbrev pub decimalAfter : Line → List ℕ
+decimalAfter (Number n v) = decimalText v
+decimalAfter (Event q) = []
+decimalAfter Cut = []
+decimalAfter Bad = []
 
--- "A number of 2^64 or more is bad"
+abbrev pub lineText : Line → List ℕ
+lineText l = bytes (beginning l) ++ decimalAfter l
+
+-- "A number of 2^64 or more is bad". The numbers of an event stand in other lines
 abbrev pub Good : Line → Type 0
 Good (Number n v) = v < 2 ^ 64
-Good (Event o) = Unit {0}
+Good (Event q) = blank q ≡ q
+Good Cut = Unit {0}
 Good Bad = ⊥
 
 -- the text of a good line says that line

@@ -1,11 +1,13 @@
-// What a line of a script says: a name with a decimal, or an event. Any other line is bad.
+// What a line of a script says: a name with a decimal, an event, or a cut. Any other line is bad.
+use rules::Call;
+use rules::Record;
 ghost use mathlib.Core.Path.{_≡_};
 ghost use mathlib.Core.Bool.{not};
 ghost use Prim.Native.Nat.{_+_, _*_, _^_, _≤_};
 ghost use lib.ListN.{drop};
 ghost use lib.Dec.{ltb};
-ghost use Rattle.lines.specs.Lines.{begins, same, decimalOf, nameOf, opOf, evented};
-ghost use Rattle.lines.specs.Found.{digitsFrom, decimalFound, nameFound};
+ghost use Rattle.lines.specs.Lines.{decimalOf, rowAt, wholeLine};
+ghost use Rattle.lines.specs.Found.{digitsFrom, decimalFound, startOf, textsOf, findIn};
 ghost use Rattle.lines.specs.Promises.{Parsed};
 
 // The names that a number may have.
@@ -20,48 +22,104 @@ pub enum Name {
     After,
 }
 
-// The events.
-pub enum Op {
-    Insert,
-    Update,
-    Delete,
-    Query,
-    Begin,
-    Step,
-    End,
-    Recover,
-    Cut,
-}
-
+// What a line says. An event is a call whose numbers are still 0: they stand in the lines after it.
 pub enum Line {
     Number(Name, u64),
-    Event(Op),
+    Event(Call),
+    Cut,
     Bad,
 }
 
-// Whether a line begins with a text.
-fn starts(line: &[u8], text: &[u8]) -> bool
-    ensures { λ r. ⌜ r ≡ begins (now (text .entry)) (now (line .entry)) ⌝ }
+// The texts that a line may begin with, each filled up with spaces to a row of 10 bytes.
+const TEXTS: [u8; 170] = *b"cap=      \
+                            top=      \
+                            mul1=     \
+                            mul2=     \
+                            key=      \
+                            fn=       \
+                            at=       \
+                            after=    \
+                            op=insert \
+                            op=update \
+                            op=delete \
+                            op=query  \
+                            op=begin  \
+                            op=step   \
+                            op=end    \
+                            op=recover\
+                            op=cut    ";
+
+const NO_RECORD: Record = Record {
+    function: 0,
+    place: 0,
+};
+
+// What a line says that begins with the text of a row, with its number still 0.
+fn says(row: usize) -> Line
+    ensures { λ r. ⌜ r ≡ rowAt row ⌝ }
 {
-    if line.len() < text.len() {
-        return false;
+    match row {
+        0 => Line::Number(Name::Cap, 0),
+        1 => Line::Number(Name::Top, 0),
+        2 => Line::Number(Name::Mul1, 0),
+        3 => Line::Number(Name::Mul2, 0),
+        4 => Line::Number(Name::Key, 0),
+        5 => Line::Number(Name::Fn, 0),
+        6 => Line::Number(Name::At, 0),
+        7 => Line::Number(Name::After, 0),
+        8 => Line::Event(Call::Insert(0, NO_RECORD)),
+        9 => Line::Event(Call::Update(0, NO_RECORD)),
+        10 => Line::Event(Call::Delete(0)),
+        11 => Line::Event(Call::Query(0)),
+        12 => Line::Event(Call::Begin),
+        13 => Line::Event(Call::Step),
+        14 => Line::Event(Call::End),
+        15 => Line::Event(Call::Recover),
+        16 => Line::Cut,
+        _ => Line::Bad,
     }
-    for i in 0..text.len() {
-        if line[i] != text[i] {
-            return false;
-        }
-    }
-    true
 }
 
-// Whether a line is a text.
-fn is(line: &[u8], text: &[u8]) -> bool
-    ensures { λ r. ⌜ r ≡ same (now (text .entry)) (now (line .entry)) ⌝ }
+// Whether a line begins with the text of a row, and how many bytes that text has.
+enum Start {
+    Bytes(usize),
+    Not,
+}
+
+fn starts(line: &[u8], text: &[u8]) -> Start
+    ensures { λ r. ⌜ r ≡ startOf (now (text .entry)) (now (line .entry)) ⌝ }
 {
-    if text.len() != line.len() {
-        return false;
+    for i in 0..text.len() {
+        if text[i] == b' ' {
+            return Start::Bytes(i);
+        }
+        if line.len() <= i {
+            return Start::Not;
+        }
+        if line[i] != text[i] {
+            return Start::Not;
+        }
     }
-    starts(line, text)
+    Start::Bytes(text.len())
+}
+
+// The row whose text a line begins with, and how many bytes that text has.
+enum Found {
+    Row(usize, usize),
+    Not,
+}
+
+fn find(line: &[u8], texts: &[u8]) -> Found
+    ensures { λ r. ⌜ r ≡ findIn (textsOf (now (texts .entry))) 0 (now (line .entry)) ⌝ }
+{
+    for row in 0..texts.len() / 10 {
+        let from = 10 * row;
+        let start = starts(line, &texts[from..from + 10]);
+        if let Start::Bytes(at) = start {
+            return Found::Row(row, at);
+        }
+    }
+    Found::Not
 }
 
 // A decimal, or none.
@@ -121,89 +179,31 @@ fn read_decimal(line: &[u8], at: usize) -> Decimal
     read_digits(line, at)
 }
 
-// A line's name, and where its decimal begins; or none.
-enum Named {
-    At(Name, usize),
-    Not,
-}
-
-fn read_name(line: &[u8]) -> Named
-    ensures { λ r. ⌜ r ≡ nameFound (nameOf (now (line .entry))) ⌝ }
+// What a line says that begins as a row does, where the row's text ends at `at`: a decimal follows a name, and nothing an event.
+fn whole(line: &[u8], at: usize, says: Line) -> Line
+    ensures { λ r. ⌜ r ≡ wholeLine says (drop at (now (line .entry))) ⌝ }
 {
-    if starts(line, b"cap=") {
-        return Named::At(Name::Cap, 4);
+    if let Line::Number(name, _) = says {
+        let number = read_decimal(line, at);
+        return match number {
+            Decimal::Value(value) => Line::Number(name, value),
+            Decimal::Not => Line::Bad,
+        };
     }
-    if starts(line, b"top=") {
-        return Named::At(Name::Top, 4);
+    if at < line.len() {
+        return Line::Bad;
     }
-    if starts(line, b"mul1=") {
-        return Named::At(Name::Mul1, 5);
-    }
-    if starts(line, b"mul2=") {
-        return Named::At(Name::Mul2, 5);
-    }
-    if starts(line, b"key=") {
-        return Named::At(Name::Key, 4);
-    }
-    if starts(line, b"fn=") {
-        return Named::At(Name::Fn, 3);
-    }
-    if starts(line, b"at=") {
-        return Named::At(Name::At, 3);
-    }
-    if starts(line, b"after=") {
-        return Named::At(Name::After, 6);
-    }
-    Named::Not
-}
-
-// A line without a name: an event, or bad.
-fn read_event(line: &[u8]) -> Line
-    ensures { λ r. ⌜ r ≡ evented (opOf (now (line .entry))) ⌝ }
-{
-    if is(line, b"op=insert") {
-        return Line::Event(Op::Insert);
-    }
-    if is(line, b"op=update") {
-        return Line::Event(Op::Update);
-    }
-    if is(line, b"op=delete") {
-        return Line::Event(Op::Delete);
-    }
-    if is(line, b"op=query") {
-        return Line::Event(Op::Query);
-    }
-    if is(line, b"op=begin") {
-        return Line::Event(Op::Begin);
-    }
-    if is(line, b"op=step") {
-        return Line::Event(Op::Step);
-    }
-    if is(line, b"op=end") {
-        return Line::Event(Op::End);
-    }
-    if is(line, b"op=recover") {
-        return Line::Event(Op::Recover);
-    }
-    if is(line, b"op=cut") {
-        return Line::Event(Op::Cut);
-    }
-    Line::Bad
+    says
 }
 
 // What a line says, without the newline that ends it. Any bytes may be handed in.
 pub fn parse(line: &[u8]) -> Line
     ensures { λ r. ⌜ Parsed (now (line .entry)) r (now (line .exit)) ⌝ }
 {
-    let found = read_name(line);
+    let texts = TEXTS;
+    let found = find(line, &texts);
     match found {
-        Named::At(name, at) => {
-            let number = read_decimal(line, at);
-            match number {
-                Decimal::Value(value) => Line::Number(name, value),
-                Decimal::Not => Line::Bad,
-            }
-        }
-        Named::Not => read_event(line),
+        Found::Row(row, at) => whole(line, at, says(row)),
+        Found::Not => Line::Bad,
     }
 }

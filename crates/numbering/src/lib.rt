@@ -1,8 +1,10 @@
 // Answers as document 01's numbers: "0 is success", and else the refusal's.
+use rules::Change;
 use rules::Refusal;
 use rules::Verdict;
 ghost use mathlib.Core.Path.{_≡_};
-ghost use Rattle.rules.specs.Answers.{numberOf, verdictMeans};
+ghost use Rattle.rules.specs.Answers.{numberOf, changeMeans, verdictMeans};
+ghost use Rattle.rules.specs.Histories.{reported as reportedOf};
 ghost use Rattle.numbering.specs.Told.{told};
 
 // "no. | given when | by"
@@ -33,5 +35,24 @@ pub fn verdict_number(verdict: Verdict) -> u64
     match verdict {
         Verdict::Done => 0,
         Verdict::Denied(refusal) => number(refusal),
+    }
+}
+
+pub fn change_number(change: Change) -> u64
+    ensures { λ r. ⌜ r ≡ changeMeans change .number ⌝ }
+{
+    match change {
+        Change::Listed(_) => 0,
+        Change::Refused(refusal) => number(refusal),
+    }
+}
+
+// The value that goes with it: "A refusal .. reports 0 stores."
+pub fn reported(change: Change) -> u64
+    ensures { λ r. ⌜ r ≡ reportedOf change ⌝ }
+{
+    match change {
+        Change::Listed(stores) => stores,
+        Change::Refused(_) => 0,
     }
 }

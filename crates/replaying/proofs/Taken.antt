@@ -7,35 +7,29 @@ use mathlib.Core.List.{List, _++_}
 use lib.ListN.{length, take, drop}
 use borrow.Author.Tests.{le-leb, lt-leb}
 use Rattle.rules.specs.Words.{Table, wordsFor}
-use Rattle.rules.specs.Answers.{numberOf}
-use Rattle.rules.specs.Results.{queryResult, createResult}
-use Rattle.rules.specs.declared.Query.{Query}
+use Rattle.rules.specs.Results.{createResult}
+use Rattle.rules.specs.declared.Call.{Call}
 use Rattle.rules.specs.declared.Refusal.{Refusal}
 use Rattle.rules.specs.declared.Refusal.the-variants.{BadCreation}
 use Rattle.rules.specs.declared.Verdict.{Verdict}
 use Rattle.rules.specs.declared.Verdict.the-variants.{Done, Denied}
-use Rattle.rules.proofs.Meanings.{query-one, verdict-one}
-use Rattle.querying.specs.Promises.{Queried}
+use Rattle.rules.proofs.Meanings.{verdict-one}
 use Rattle.making.specs.Promises.{Created}
 use Rattle.lines.specs.declared.Line.{Line}
 use Rattle.following.specs.Scripts.{readingOf, endingOf}
-use Rattle.following.specs.declared.Act.{Act}
 use Rattle.following.specs.declared.Cut.{Cut}
 use Rattle.following.specs.declared.Script.{Script}
 use Rattle.following.specs.declared.Asked.{Asked}
-use Rattle.following.specs.declared.Asked.the-variants.{Nothing as askNothing, Table as askTable, Query as askQuery, Change as askChange, Bad as askEnd}
+use Rattle.following.specs.declared.Asked.the-variants.{Nothing as askNothing, Table as askTable, Event as askEvent, Bad as askEnd}
 use Rattle.following.specs.declared.Reading.{Reading}
 use Rattle.following.specs.declared.Ending.{Ending}
-use Rattle.replaying.specs.Events.{ChangeDone}
-use Rattle.replaying.specs.Replays.{queryAnswer, moved, counted, stopped, created, askedOf, turnOf, finished, finishOf, TurnIs}
+use Rattle.replaying.specs.Events.{EventDone}
+use Rattle.replaying.specs.Replays.{moved, counted, stopped, created, askedOf, turnOf, finished, finishOf, TurnIs}
 use Rattle.replaying.specs.declared.Answer.{Answer}
-use Rattle.replaying.specs.declared.Answer.the-variants.{Nothing, Made, Unmade, Bad}
+use Rattle.replaying.specs.declared.Answer.the-variants.{Nothing, Created as CreatedAs, Bad}
 use Rattle.replaying.specs.declared.Replay.{Replay}
 use Rattle.replaying.specs.declared.Turn.{Turn}
 use Rattle.replaying.proofs.Rooms.{take-least, drop-least}
-
-pub found-by : (q : Query) {t u : Table} {key : ℕ} {x : Answer} → Queried t key q u → x ≡ queryAnswer q → x ≡ queryAnswer (queryResult t key)
-found-by q {t} {u} {key} d e = e ∙ ap queryAnswer (query-one q (queryResult t key) (d .answer))
 
 -- nothing is done
 module _ (p : Replay) (next : Script) (room : List ℕ) {r : Turn} where
@@ -47,18 +41,11 @@ module _ (p : Replay) (next : Script) (room : List ℕ) {r : Turn} where
 
 -- in the lent words
 module _ (p : Replay) (next : Script) (room : List ℕ) {r : Turn} {n : ℕ} (lent : n ≡ min (p .words) (length room)) where
-  pub query-taken : {x : Answer} (key : ℕ) → x ≡ queryAnswer (queryResult (take n room) key) → (r .replay ≡ counted p next) × (r .answer ≡ x) → TurnIs (askedOf room p next (askQuery key)) r room
-  query-taken key f c = record {
-    replay = c .0;
-    answer = c .1 ∙ f ∙ ap (λ (t : Table). queryAnswer (queryResult t key)) (ap (λ (k : ℕ). take k room) lent ∙ take-least (p .words) room);
-    room = refl;
-  }
-
-  pub change-taken : {x : Answer} {u : Table} (a : Act) (under : Cut) → ChangeDone a under (take n room) x u → (r .replay ≡ counted p next) × (r .answer ≡ x) → TurnIs (askedOf room p next (askChange a under)) r (u ++ drop n room)
-  change-taken {x} {u} a under d c =
+  pub event-taken : {x : Answer} {u : Table} (q : Call) (under : Cut) → EventDone q under (take n room) x u → (r .replay ≡ counted p next) × (r .answer ≡ x) → TurnIs (askedOf room p next (askEvent q under)) r (u ++ drop n room)
+  event-taken {x} {u} q under d c =
       let table : take n room ≡ take (p .words) room = ap (λ (k : ℕ). take k room) lent ∙ take-least (p .words) room in
       let rest : drop n room ≡ drop (p .words) room = ap (λ (k : ℕ). drop k room) lent ∙ drop-least (p .words) room in
-      let e : ChangeDone a under (take (p .words) room) x u = rw table at d in
+      let e : EventDone q under (take (p .words) room) x u = rw table at d in
       record { replay = c .0; answer = c .1 ∙ e .answer; room = rw (rest, e .table) }
 
 -- ---- the whole turn
@@ -75,7 +62,7 @@ finish-as p torn e q f = f ∙ ap (finished p) q
 -- ---- the table
 
 module _ (p : Replay) (next : Script) (room : List ℕ) (c k mul1 mul2 : ℕ) where
-  pub too-large : {r : Turn} → 8 < c → (r .replay ≡ stopped p next) × (r .answer ≡ Unmade (numberOf BadCreation)) → TurnIs (askedOf room p next (askTable c k mul1 mul2)) r room
+  pub too-large : {r : Turn} → 8 < c → (r .replay ≡ stopped p next) × (r .answer ≡ CreatedAs (Denied BadCreation)) → TurnIs (askedOf room p next (askTable c k mul1 mul2)) r room
   too-large l e = rw (lt-leb c 8 l) (record { replay = e .0; answer = e .1; room = refl })
 
   module _ {n : ℕ} (lent : n ≡ min (wordsFor c) (length room)) (small : c ≤ 8) (v : Verdict) (u : Table) (made : Created (take n room) c k mul1 mul2 v u) where
@@ -93,8 +80,8 @@ module _ (p : Replay) (next : Script) (room : List ℕ) (c k mul1 mul2 : ℕ) wh
     rest : drop n room ≡ drop (wordsFor c) room
     rest = ap (λ (j : ℕ). drop j room) lent ∙ drop-least (wordsFor c) room
 
-    pub table-taken : {r : Turn} → v ≡ Done → (r .replay ≡ record { script = next; words = wordsFor c; events = p .events }) → r .answer ≡ Made → TurnIs (askedOf room p next (askTable c k mul1 mul2)) r (u ++ drop n room)
+    pub table-taken : {r : Turn} → v ≡ Done → (r .replay ≡ record { script = next; words = wordsFor c; events = p .events }) → r .answer ≡ CreatedAs Done → TurnIs (askedOf room p next (askTable c k mul1 mul2)) r (u ++ drop n room)
     table-taken d a b = rw (asked-table, d) (record { replay = a; answer = b; room = rw rest })
 
-    pub table-denied : {r : Turn} {e : Refusal} → v ≡ Denied e → (r .replay ≡ stopped p next) × (r .answer ≡ Unmade (numberOf e)) → TurnIs (askedOf room p next (askTable c k mul1 mul2)) r (u ++ drop n room)
+    pub table-denied : {r : Turn} {e : Refusal} → v ≡ Denied e → (r .replay ≡ stopped p next) × (r .answer ≡ CreatedAs (Denied e)) → TurnIs (askedOf room p next (askTable c k mul1 mul2)) r (u ++ drop n room)
     table-denied d a = rw (asked-table, d) (record { replay = a .0; answer = a .1; room = rw rest })

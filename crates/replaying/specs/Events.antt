@@ -3,51 +3,72 @@
 use Prim.Native.Nat.{ℕ, min}
 use mathlib.Core.Path.{_≡_}
 use mathlib.Core.List.{List}
+use mathlib.Core.Option.{Option, none, some}
 use lib.ListN.{replicate}
 use Rattle.rules.specs.Words.{Table}
-use Rattle.rules.specs.Answers.{changeMeans}
-use Rattle.rules.specs.declared.Call.{Call}
-use Rattle.rules.specs.declared.Call.the-variants.{Insert as insert, Update as update, Delete as delete, Begin as begin, Step as step, End as end, Recover as recover}
-use Rattle.rules.specs.Results.{changeResult}
+use Rattle.rules.specs.Results.{changeResult, queryResult, makeResult}
 use Rattle.rules.specs.Histories.{Event, whole, cut, reported, after}
-use Rattle.following.specs.declared.Act.{Act}
-use Rattle.following.specs.declared.Act.the-variants.{Insert, Update, Delete, Begin, Step, End, Recover}
+use Rattle.rules.specs.declared.Call.{Call}
+use Rattle.rules.specs.declared.Call.the-variants.{Query, Insert, Update, Delete, Begin, Step, End, Recover}
+use Rattle.rules.specs.declared.Change.{Change}
 use Rattle.following.specs.declared.Cut.{Cut}
 use Rattle.following.specs.declared.Cut.the-variants.{None, After}
 use Rattle.replaying.specs.declared.Answer.{Answer}
-use Rattle.replaying.specs.declared.Answer.the-variants.{Changed, Kept}
+use Rattle.replaying.specs.declared.Answer.the-variants.{Changed, Kept, Found}
 
-abbrev pub callOf : Act → Call
-callOf (Insert key f p) = insert key (record { function = f; place = p })
-callOf (Update key f p) = update key (record { function = f; place = p })
-callOf (Delete key) = delete key
-callOf Begin = begin
-callOf Step = step
-callOf End = end
-callOf Recover = recover
-
--- the list that its stores are written to
+-- the list that an event's stores are written to
 abbrev pub lent : List ℕ
 lent = replicate 20 0
 
+-- an event is a query of a key, or a change
+abbrev pub queried : Call → Option ℕ
+queried (Query key) = some key
+queried (Insert key r) = none
+queried (Update key r) = none
+queried (Delete key) = none
+queried Begin = none
+queried Step = none
+queried End = none
+queried Recover = none
+
+abbrev pub either : {A : Type 0} → Option ℕ → (ℕ → A) → A → A
+either (some key) query change = query key
+either none query change = change
+
 -- "`op=cut` .. lets only that many of its stores be made, or all if there are fewer"
-abbrev pub eventOf : Act → Cut → Event
-eventOf a None = whole (callOf a) lent
-eventOf a (After n line) = cut (callOf a) lent n
+abbrev pub eventOf : Call → Cut → Event
+eventOf q None = whole q lent
+eventOf q (After n line) = cut q lent n
 
 abbrev pub keptUnder : Cut → ℕ → ℕ
 keptUnder None stores = stores
 keptUnder (After n line) stores = min n stores
 
 -- "An event under a cut line adds `kept=`, the stores made, after `stores=`"
-abbrev pub changeAnswer : Cut → ℕ → ℕ → Answer
-changeAnswer None number stores = Changed number stores
-changeAnswer (After n line) number stores = Kept number stores (keptUnder (After n line) stores)
+abbrev pub changeAnswer : Cut → Change → Answer
+changeAnswer None r = Changed r
+changeAnswer (After n line) r = Kept r (keptUnder (After n line) (reported r))
 
-unfoldable pub answerTo : Table → Act → Cut → Answer
-answerTo t a c = let r = changeResult t lent (callOf a) .0 in changeAnswer c (changeMeans r .number) (reported r)
+unfoldable pub answerTo : Table → Call → Cut → Answer
+answerTo t q c = either (queried q) (λ key. Found (queryResult t key)) (changeAnswer c (changeResult t lent q .0))
 
--- table u is left, and this is answered
-pub record ChangeDone (a : Act) (c : Cut) (t : Table) (r : Answer) (u : Table) : Type 0 where
-  pub answer : r ≡ answerTo t a c
-  pub table : u ≡ after t (eventOf a c)
+-- a query leaves the table as it is
+unfoldable pub tableAfter : Table → Call → Cut → Table
+tableAfter t q c = either (queried q) (λ key. t) (after t (eventOf q c))
+
+-- ---- what the code promises. The call itself: its own answer, and the table and list that it leaves
+
+pub record Called (q : Call) (t : Table) (l : List ℕ) (r : Answer) (u : Table) (m : List ℕ) : Type 0 where
+  pub answer : r ≡ either (queried q) (λ key. Found (queryResult t key)) (Changed (changeResult t l q .0))
+  pub table : u ≡ t
+  pub list : queried q ≡ none → m ≡ changeResult t l q .1
+
+-- the stores of list l made on table t, which leaves table u
+pub record ChangeMade (r : Change) (c : Cut) (t : Table) (l : List ℕ) (x : Answer) (u : Table) : Type 0 where
+  pub answer : x ≡ changeAnswer c r
+  pub table : u ≡ makeResult t l (keptUnder c (reported r)) .1
+
+-- the event
+pub record EventDone (q : Call) (c : Cut) (t : Table) (r : Answer) (u : Table) : Type 0 where
+  pub answer : r ≡ answerTo t q c
+  pub table : u ≡ tableAfter t q c

@@ -7,11 +7,8 @@ use mathlib.Core.List.{List, _++_}
 use lib.ListN.{take, drop}
 use lib.Dec.{leb}
 use Rattle.rules.specs.Words.{Table, wordsFor}
-use Rattle.rules.specs.Answers.{numberOf}
-use Rattle.rules.specs.Results.{queryResult, createResult}
-use Rattle.rules.specs.Histories.{after}
-use Rattle.rules.specs.declared.Query.{Query}
-use Rattle.rules.specs.declared.Query.the-variants.{Known, Unknown}
+use Rattle.rules.specs.Results.{createResult}
+use Rattle.rules.specs.declared.Call.the-variants.{Begin}
 use Rattle.rules.specs.declared.Refusal.the-variants.{BadCreation}
 use Rattle.rules.specs.declared.Verdict.{Verdict}
 use Rattle.rules.specs.declared.Verdict.the-variants.{Done, Denied}
@@ -21,12 +18,12 @@ use Rattle.following.specs.declared.Due.the-variants.{Nothing as noMore}
 use Rattle.following.specs.declared.Cut.the-variants.{None as noCut}
 use Rattle.following.specs.declared.Script.{Script}
 use Rattle.following.specs.declared.Asked.{Asked}
-use Rattle.following.specs.declared.Asked.the-variants.{Nothing as askNothing, Table as askTable, Query as askQuery, Change as askChange, Bad as askEnd}
+use Rattle.following.specs.declared.Asked.the-variants.{Nothing as askNothing, Table as askTable, Event as askEvent, Bad as askEnd}
 use Rattle.following.specs.declared.Ending.{Ending}
 use Rattle.following.specs.declared.Ending.the-variants.{Whole, Bad as Torn, Over}
-use Rattle.replaying.specs.Events.{eventOf, answerTo}
+use Rattle.replaying.specs.Events.{answerTo, tableAfter}
 use Rattle.replaying.specs.declared.Answer.{Answer}
-use Rattle.replaying.specs.declared.Answer.the-variants.{Nothing, Made, Unmade, Found, Events, Bad}
+use Rattle.replaying.specs.declared.Answer.the-variants.{Nothing, Created, Events, Bad}
 use Rattle.replaying.specs.declared.Replay.{Replay}
 use Rattle.replaying.specs.declared.Turn.{Turn}
 
@@ -46,11 +43,6 @@ pub record Turned : Type 0 where
 
 -- ---- events
 
--- "Query returns zeros with 5 and the full probe count; with 1 or 3 zeros and count 0."
-abbrev pub queryAnswer : Query → Answer
-queryAnswer (Known r n) = Found 0 (r .function) (r .place) n
-queryAnswer (Unknown e n) = Found (numberOf e) 0 0 n
-
 -- where a replay stands after a line: in the script; with one event more answered; with nothing more to be read
 abbrev pub moved : Replay → Script → Replay
 moved p next = record { script = next; words = p .words; events = p .events }
@@ -59,19 +51,19 @@ abbrev pub counted : Replay → Script → Replay
 counted p next = record { script = next; words = p .words; events = (p .events + 1) % 2 ^ 64 }
 
 abbrev pub stopped : Replay → Script → Replay
-stopped p next = moved p (record { due = noMore; first = 0; second = 0; third = 0; cut = noCut; lines = next .lines })
+stopped p next = moved p (record { due = noMore; event = Begin; first = 0; second = 0; third = 0; cut = noCut; lines = next .lines })
 
 -- ---- the table
 
 -- "Program cap is at most 8; a larger one gives `made=13`." "After `made=13` comes `events=0`, and no event line is read."
 abbrev pub created : Replay → Script → List ℕ → ℕ → Verdict × Table → Turned
 created p next room c (Done, t) =
-    record { replay = record { script = next; words = wordsFor c; events = p .events }; room = inRoom (wordsFor c) room t; answer = Made }
+    record { replay = record { script = next; words = wordsFor c; events = p .events }; room = inRoom (wordsFor c) room t; answer = Created Done }
 created p next room c (Denied e, t) =
-    record { replay = stopped p next; room = inRoom (wordsFor c) room t; answer = Unmade (numberOf e) }
+    record { replay = stopped p next; room = inRoom (wordsFor c) room t; answer = Created (Denied e) }
 
 abbrev pub tooLarge : Replay → Script → List ℕ → Turned
-tooLarge p next room = record { replay = stopped p next; room = room; answer = Unmade (numberOf BadCreation) }
+tooLarge p next room = record { replay = stopped p next; room = room; answer = Created (Denied BadCreation) }
 
 -- ---- a line
 
@@ -83,13 +75,11 @@ askedOf room p next askNothing = record { replay = moved p next; room = room; an
 askedOf room p next (askEnd line) = record { replay = moved p next; room = room; answer = Bad line }
 askedOf room p next (askTable c k mul1 mul2) =
     cond (leb c 8) (created p next room c (createResult (take (wordsFor c) room) c k mul1 mul2)) (tooLarge p next room)
-askedOf room p next (askQuery key) =
-    record { replay = counted p next; room = room; answer = queryAnswer (queryResult (tableOf p room) key) }
-askedOf room p next (askChange a under) =
+askedOf room p next (askEvent q under) =
     record {
       replay = counted p next;
-      room = inRoom (p .words) room (after (tableOf p room) (eventOf a under));
-      answer = answerTo (tableOf p room) a under;
+      room = inRoom (p .words) room (tableAfter (tableOf p room) q under);
+      answer = answerTo (tableOf p room) q under;
     }
 
 unfoldable pub turnOf : List ℕ → Replay → Line → Turned

@@ -10,42 +10,47 @@ use lib.ListN.{take, drop}
 use Rattle.rules.specs.Words.{Table, wordsFor}
 use Rattle.rules.specs.Answers.{changeMeans, queryMeans, verdictMeans}
 use Rattle.rules.specs.Results.{changeResult, queryResult, createResult, makeResult}
-use Rattle.rules.specs.declared.Call.the-variants.{Insert as insert, Update as update, Delete as delete, Begin as begin, Step as step, End as end, Recover as recover}
+use Rattle.rules.specs.declared.Call.{Call}
+use Rattle.rules.specs.declared.Call.the-variants.{Query}
+use Rattle.rules.specs.declared.Change.{Change}
+use Rattle.rules.specs.declared.Query.{Query as QueryAnswer}
+use Rattle.rules.specs.declared.Refusal.the-variants.{BadCreation}
+use Rattle.rules.specs.declared.Verdict.the-variants.{Done, Denied}
 use Rattle.following.specs.Scripts.{endingOf}
-use Rattle.following.specs.declared.Act.{Act}
-use Rattle.following.specs.declared.Act.the-variants.{Insert as insertAct, Update as updateAct, Delete as deleteAct, Begin as beginAct, Step as stepAct, End as endAct, Recover as recoverAct}
+use Rattle.following.specs.Sentences.{Changing}
 use Rattle.following.specs.declared.Ending.the-variants.{Whole, Bad as Torn, Over}
 use Rattle.following.specs.declared.Cut.{Cut}
 use Rattle.following.specs.declared.Cut.the-variants.{None as noCut, After as cutAfter}
 use Rattle.following.specs.declared.Due.the-variants.{Nothing as noMore}
 use Rattle.following.specs.declared.Script.{Script}
-use Rattle.following.specs.declared.Asked.the-variants.{Nothing as askNothing, Table as askTable, Query as askQuery, Change as askChange, Bad as askEnd}
-use Rattle.replaying.specs.Events.{callOf, lent}
+use Rattle.following.specs.declared.Asked.the-variants.{Nothing as askNothing, Table as askTable, Event as askEvent, Bad as askEnd}
+use Rattle.replaying.specs.Events.{lent}
 use Rattle.replaying.specs.Replays.{begun, tableOf, askedOf, finishOf}
 use Rattle.replaying.specs.declared.Answer.{Answer}
-use Rattle.replaying.specs.declared.Answer.the-variants.{Nothing, Made, Unmade, Changed, Kept, Found, Events, Bad}
+use Rattle.replaying.specs.declared.Answer.the-variants.{Nothing, Created, Changed, Kept, Found, Events, Bad}
 use Rattle.replaying.specs.declared.Replay.{Replay}
 
 -- ---- changing events and recover
 
--- the event's call on the table, with its own list of 20 words: its number and its stores, and the list as it left it
-abbrev pub Tells : List ℕ → Replay → Act → ℕ → ℕ → Type 0
-Tells room p a number stores = changeMeans (changeResult (tableOf p room) lent (callOf a) .0) ≡ record { number = number; values = stores ∷ [] }
+-- the event's call on the table, with its own list of 20 words: its answer, with its number and its stores, and the list as it left it
+pub record Tells (room : List ℕ) (p : Replay) (q : Call) (r : Change) (number stores : ℕ) : Type 0 where
+  pub own : changeResult (tableOf p room) lent q .0 ≡ r
+  pub means : changeMeans r ≡ record { number = number; values = stores ∷ [] }
 
-abbrev pub listAfter : List ℕ → Replay → Act → List ℕ
-listAfter room p a = changeResult (tableOf p room) lent (callOf a) .1
+abbrev pub listAfter : List ℕ → Replay → Call → List ℕ
+listAfter room p q = changeResult (tableOf p room) lent q .1
 
 -- this is answered, so many of its stores are made, in the table's words alone, and one event more is counted
-pub record Answered (room : List ℕ) (p : Replay) (next : Script) (a : Act) (under : Cut) (answer : Answer) (made : ℕ) : Type 0 where
-  pub said : askedOf room p next (askChange a under) .answer ≡ answer
-  pub words : askedOf room p next (askChange a under) .room ≡ makeResult (tableOf p room) (listAfter room p a) made .1 ++ drop (p .words) room
-  pub count : askedOf room p next (askChange a under) .replay .events ≡ (p .events + 1) % 2 ^ 64
-  pub onward : (askedOf room p next (askChange a under) .replay .script ≡ next) × (askedOf room p next (askChange a under) .replay .words ≡ p .words)
+pub record Answered (room : List ℕ) (p : Replay) (next : Script) (q : Call) (under : Cut) (answer : Answer) (made : ℕ) : Type 0 where
+  pub said : askedOf room p next (askEvent q under) .answer ≡ answer
+  pub words : askedOf room p next (askEvent q under) .room ≡ makeResult (tableOf p room) (listAfter room p q) made .1 ++ drop (p .words) room
+  pub count : askedOf room p next (askEvent q under) .replay .events ≡ (p .events + 1) % 2 ^ 64
+  pub onward : (askedOf room p next (askEvent q under) .replay .script ≡ next) × (askedOf room p next (askEvent q under) .replay .words ≡ p .words)
 
 -- "answer=0, stores=4": the number and the stores, all of which are made
 abbrev pub ChangesAnswered : Type 0
-ChangesAnswered = (room : List ℕ) (p : Replay) (next : Script) (a : Act) (number stores : ℕ) → Tells room p a number stores
-    → Answered room p next a noCut (Changed number stores) stores
+ChangesAnswered = (room : List ℕ) (p : Replay) (next : Script) (q : Call) → Changing q → (r : Change) (number stores : ℕ)
+    → Tells room p q r number stores → Answered room p next q noCut (Changed r) stores
 
 -- "lets only that many of its stores be made, or all if there are fewer": as many as these
 abbrev pub LetsMake : ℕ → ℕ → ℕ → Type 0
@@ -53,25 +58,24 @@ LetsMake n stores made = ((made ≡ n) × (n ≤ stores)) ⊎ ((made ≡ stores)
 
 -- "An event under a cut line adds `kept=`, the stores made, after `stores=`"
 abbrev pub CutChangesAnswered : Type 0
-CutChangesAnswered = (room : List ℕ) (p : Replay) (next : Script) (a : Act) (n line number stores made : ℕ) → Tells room p a number stores
-    → LetsMake n stores made
-    → Answered room p next a (cutAfter n line) (Kept number stores made) made
-
--- which call that is, by document 01's words for the lines: key, function and place in their order
-abbrev pub CallsNamed : Type 0
-CallsNamed = ((key f place : ℕ) → callOf (insertAct key f place) ≡ insert key (record { function = f; place = place }))
-    × ((key f place : ℕ) → callOf (updateAct key f place) ≡ update key (record { function = f; place = place }))
-    × ((key : ℕ) → callOf (deleteAct key) ≡ delete key) × (callOf beginAct ≡ begin) × (callOf stepAct ≡ step) × (callOf endAct ≡ end)
-    × (callOf recoverAct ≡ recover)
+CutChangesAnswered = (room : List ℕ) (p : Replay) (next : Script) (q : Call) → Changing q → (r : Change) (n line number stores made : ℕ)
+    → Tells room p q r number stores → LetsMake n stores made → Answered room p next q (cutAfter n line) (Kept r made) made
 
 -- ---- queries
 
--- "answer=0, fn=10, at=20, probes=1": the number, the record and the count. The words stay, and one event more is counted
+-- "answer=0, fn=10, at=20, probes=1": the answer that has the number, the record and the count. The words stay, and one event more
+-- is counted
+pub record QueryAnswered (room : List ℕ) (p : Replay) (next : Script) (key : ℕ) (under : Cut) (number f place count : ℕ) : Type 0 where
+  pub answer : QueryAnswer
+  pub said : askedOf room p next (askEvent (Query key) under) .answer ≡ Found answer
+  pub means : queryMeans answer ≡ record { number = number; values = f ∷ place ∷ count ∷ [] }
+  pub words : askedOf room p next (askEvent (Query key) under) .room ≡ room
+  pub counted : askedOf room p next (askEvent (Query key) under) .replay .events ≡ (p .events + 1) % 2 ^ 64
+
 abbrev pub QueriesAnswered : Type 0
-QueriesAnswered = (room : List ℕ) (p : Replay) (next : Script) (key number f place count : ℕ)
+QueriesAnswered = (room : List ℕ) (p : Replay) (next : Script) (key : ℕ) (under : Cut) (number f place count : ℕ)
     → queryMeans (queryResult (tableOf p room) key) ≡ record { number = number; values = f ∷ place ∷ count ∷ [] }
-    → (askedOf room p next (askQuery key) .answer ≡ Found number f place count) × (askedOf room p next (askQuery key) .room ≡ room)
-    × (askedOf room p next (askQuery key) .replay .events ≡ (p .events + 1) % 2 ^ 64)
+    → QueryAnswered room p next key under number f place count
 
 -- ---- lines that ask for nothing, bad lines, and the end
 
@@ -101,7 +105,7 @@ Verdicts room c k mul1 mul2 number = verdictMeans (createResult (take (wordsFor 
 -- `made=0`: the table has its words, and events are read
 abbrev pub TableMade : Type 0
 TableMade = (room : List ℕ) (p : Replay) (next : Script) (c k mul1 mul2 : ℕ) → c ≤ 8 → Verdicts room c k mul1 mul2 0
-    → (askedOf room p next (askTable c k mul1 mul2) .answer ≡ Made)
+    → (askedOf room p next (askTable c k mul1 mul2) .answer ≡ Created Done)
     × (askedOf room p next (askTable c k mul1 mul2) .replay .words ≡ wordsFor c)
     × (askedOf room p next (askTable c k mul1 mul2) .replay .script ≡ next)
     × (askedOf room p next (askTable c k mul1 mul2) .replay .events ≡ p .events)
@@ -110,4 +114,4 @@ TableMade = (room : List ℕ) (p : Replay) (next : Script) (c k mul1 mul2 : ℕ)
 -- "Program cap is at most 8; a larger one gives `made=13`." "and no event line is read": nothing more is due
 abbrev pub TableNotMade : Type 0
 TableNotMade = (room : List ℕ) (p : Replay) (next : Script) (c k mul1 mul2 : ℕ) → (8 < c) ⊎ ((c ≤ 8) × Verdicts room c k mul1 mul2 13)
-    → (askedOf room p next (askTable c k mul1 mul2) .answer ≡ Unmade 13) × (askedOf room p next (askTable c k mul1 mul2) .replay .script .due ≡ noMore)
+    → (askedOf room p next (askTable c k mul1 mul2) .answer ≡ Created (Denied BadCreation)) × (askedOf room p next (askTable c k mul1 mul2) .replay .script .due ≡ noMore)

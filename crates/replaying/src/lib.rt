@@ -1,23 +1,25 @@
 // A script carried out: what its lines ask for, done on lent words, and what is answered.
-mod changes;
+mod events;
 pub mod lending;
 mod turns;
 
 use following::Script;
+use rules::Change;
+use rules::Query;
+use rules::Verdict;
 pub use turns::begun;
 pub use turns::finish;
 pub use turns::take_line;
 
-// What is answered to a line: mostly nothing, since a header and most events have several lines. A made table, or none; a change
-// with its number and stores, under a cut line with the stores kept besides; a query's number, function, place and probes; the
-// number of events at the end; the number of the first bad line.
+// What is answered to a line: mostly nothing, since a header and most events have several lines. What creation answers; what a
+// change answers, under a cut line with the stores kept besides; what a query answers; the number of events at the end; the number
+// of the first bad line.
 pub enum Answer {
     Nothing,
-    Made,
-    Unmade(u64),
-    Changed(u64, u64),
-    Kept(u64, u64, u64),
-    Found(u64, u64, u64, u64),
+    Created(Verdict),
+    Changed(Change),
+    Kept(Change, u64),
+    Found(Query),
     Events(u64),
     Bad(u64),
 }

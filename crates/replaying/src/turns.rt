@@ -2,9 +2,8 @@
 use crate::Answer;
 use crate::Replay;
 use crate::Turn;
-use crate::changes::change;
+use crate::events::event;
 use crate::lending::least;
-use following::Act;
 use following::Asked;
 use following::Cut;
 use following::Due;
@@ -16,18 +15,15 @@ use following::start;
 use lines::Line;
 use making::create;
 use making::words_for;
-use numbering::number;
-use querying::query;
-use rules::Query;
+use rules::Call;
 use rules::Refusal;
 use rules::Verdict;
 use std::num::wrapping_add_u64;
 ghost use mathlib.Core.Path.{_≡_};
-ghost use Rattle.rules.specs.Results.{queryResult};
-ghost use Rattle.rules.specs.Answers.{numberOf};
-ghost use Rattle.following.specs.declared.Asked.the-variants.{Table as askTable, Query as askQuery, Change as askChange};
-ghost use Rattle.replaying.specs.declared.Answer.the-variants.{Unmade};
-ghost use Rattle.replaying.specs.Replays.{begun as begunOf, queryAnswer, stopped, counted, moved, askedOf, turnOf, finishOf, TurnIs};
+ghost use Rattle.rules.specs.declared.Verdict.the-variants.{Denied};
+ghost use Rattle.following.specs.declared.Asked.the-variants.{Table as askTable, Event as askEvent};
+ghost use Rattle.replaying.specs.declared.Answer.the-variants.{Created};
+ghost use Rattle.replaying.specs.Replays.{begun as begunOf, stopped, counted, moved, askedOf, turnOf, finishOf, TurnIs};
 
 pub fn begun() -> Replay
     ensures { λ r. ⌜ r ≡ begunOf ⌝ }
@@ -39,24 +35,15 @@ pub fn begun() -> Replay
     }
 }
 
-fn found(t: &[u64], key: u64) -> Answer
-    ensures { λ r. ⌜ r ≡ queryAnswer (queryResult (now (t .entry)) key) ⌝ }
-{
-    let answer = query(t, key);
-    match answer {
-        Query::Known(r, looked) => Answer::Found(0, r.function, r.place, looked),
-        Query::Unknown(refusal, looked) => Answer::Found(number(refusal), 0, 0, looked),
-    }
-}
-
 // "After `made=13` comes `events=0`, and no event line is read."
 fn unmade(p: Replay, next: Script, refusal: Refusal) -> Turn
-    ensures { λ r. ⌜ (r .replay ≡ stopped p next) × (r .answer ≡ Unmade (numberOf refusal)) ⌝ }
+    ensures { λ r. ⌜ (r .replay ≡ stopped p next) × (r .answer ≡ Created (Denied refusal)) ⌝ }
 {
     Turn {
         replay: Replay {
             script: Script {
                 due: Due::Nothing,
+                event: Call::Begin,
                 first: 0,
                 second: 0,
                 third: 0,
@@ -66,7 +53,7 @@ fn unmade(p: Replay, next: Script, refusal: Refusal) -> Turn
             words: p.words,
             events: p.events,
         },
-        answer: Answer::Unmade(number(refusal)),
+        answer: Answer::Created(Verdict::Denied(refusal)),
     }
 }
 
@@ -87,7 +74,7 @@ fn tabled(p: Replay, next: Script, room: &mut [u64], c: u64, k: u64, mul1: u64, 
                 words,
                 events: p.events,
             },
-            answer: Answer::Made,
+            answer: Answer::Created(Verdict::Done),
         },
         Verdict::Denied(refusal) => unmade(p, next, refusal),
     }
@@ -107,18 +94,11 @@ fn answered(p: Replay, next: Script, answer: Answer) -> Turn
     }
 }
 
-fn queried(p: Replay, next: Script, room: &mut [u64], key: u64) -> Turn
-    ensures { λ r. ⌜ TurnIs (askedOf (now (room .entry)) p next (askQuery key)) r (now (room .exit)) ⌝ }
+fn evented(p: Replay, next: Script, room: &mut [u64], call: Call, cut: Cut) -> Turn
+    ensures { λ r. ⌜ TurnIs (askedOf (now (room .entry)) p next (askEvent call cut)) r (now (room .exit)) ⌝ }
 {
     let lent = least(p.words, room.len());
-    answered(p, next, found(&room[..lent], key))
-}
-
-fn changed(p: Replay, next: Script, room: &mut [u64], act: Act, cut: Cut) -> Turn
-    ensures { λ r. ⌜ TurnIs (askedOf (now (room .entry)) p next (askChange act cut)) r (now (room .exit)) ⌝ }
-{
-    let lent = least(p.words, room.len());
-    let answer = change(&mut room[..lent], act, cut);
+    let answer = event(&mut room[..lent], call, cut);
     answered(p, next, answer)
 }
 
@@ -146,8 +126,7 @@ pub fn take_line(p: Replay, room: &mut [u64], line: Line) -> Turn
     match asked {
         Asked::Nothing => passed(p, next, Answer::Nothing),
         Asked::Table(c, k, mul1, mul2) => tabled(p, next, room, c, k, mul1, mul2),
-        Asked::Query(key) => queried(p, next, room, key),
-        Asked::Change(act, cut) => changed(p, next, room, act, cut),
+        Asked::Event(call, cut) => evented(p, next, room, call, cut),
         Asked::Bad(line) => passed(p, next, Answer::Bad(line)),
     }
 }

@@ -11,13 +11,14 @@ use lib.Dec.{ltb}
 use lib.Pow.{pow-add}
 use lib.Seq.{length-take-le, take-all}
 use borrow.Author.Tests.{ltb-false}
-use Rattle.lines.specs.Lines.{bytes, nameText, lineOf}
+use Rattle.rules.specs.declared.Call.{Call}
+use Rattle.rules.specs.declared.Call.the-variants.{Query, Insert, Update, Delete, Begin, Step, End, Recover}
+use Rattle.lines.specs.Lines.{bytes, nameText, eventText, lineOf}
 use Rattle.lines.specs.Texts.{digitsIn, decimalText, lineText, Good}
 use Rattle.lines.specs.declared.Name.{Name}
 use Rattle.lines.specs.declared.Name.the-variants.{Cap, Top, Mul1, Mul2, Key, Fn, At, After}
-use Rattle.lines.specs.declared.Op.the-variants.{Insert, Update, Delete, Query, Begin, Step, End, Recover, Cut}
 use Rattle.lines.specs.declared.Line.{Line}
-use Rattle.lines.specs.declared.Line.the-variants.{Number, Event, Bad}
+use Rattle.lines.specs.declared.Line.the-variants.{Number, Event, Cut, Bad}
 use Rattle.lines.proofs.Texts.{onlyTextsSay}
 
 -- a number below 10^(k + 1) has at most k + 1 digits
@@ -45,32 +46,35 @@ name-few Fn = omega arith
 name-few At = omega arith
 name-few After = omega arith
 
+event-few : (q : Call) → length (bytes (eventText q)) ≤ 10
+event-few (Query key) = omega arith
+event-few (Insert key r) = omega arith
+event-few (Update key r) = omega arith
+event-few (Delete key) = omega arith
+event-few Begin = omega arith
+event-few Step = omega arith
+event-few End = omega arith
+event-few Recover = omega arith
+
 text-few : (l : Line) → Good l → length (lineText l) ≤ 26
 unfolding decimalText
 text-few (Number n v) g = omega (arith, length-append (bytes (nameText n)) (decimalText v), name-few n, digits-few (suc v) 19 v (omega (arith, g)))
-text-few (Event Insert) g = omega arith
-text-few (Event Update) g = omega arith
-text-few (Event Delete) g = omega arith
-text-few (Event Query) g = omega arith
-text-few (Event Begin) g = omega arith
-text-few (Event Step) g = omega arith
-text-few (Event End) g = omega arith
-text-few (Event Recover) g = omega arith
-text-few (Event Cut) g = omega arith
+text-few (Event q) g = omega (arith, length-append (bytes (eventText q)) [], event-few q)
+text-few Cut g = omega arith
 text-few Bad g = absurd g
 
 -- a longer line is bad
 long-bad : (line : List ℕ) → 27 ≤ length line → lineOf line ≡ Bad
 long-bad line long = go (lineOf line) (λ d. onlyTextsSay line d)
   where
+    short : (l : Line) → (l ≡ Bad → ⊥) → ((l ≡ Bad → ⊥) → Good l × (line ≡ lineText l)) → l ≡ Bad
+    short l good f = let t = f good in absurd (omega (arith, ap length (t .1), text-few l (t .0), long))
+
     go : (l : Line) → ((l ≡ Bad → ⊥) → Good l × (line ≡ lineText l)) → l ≡ Bad
     go Bad f = refl
-    go (Number n v) f =
-        let t = f (λ e. let z : _≡_ {A = ℕ} 0 1 = cc in omega arith) in
-        absurd (omega (arith, ap length (t .1), text-few (Number n v) (t .0), long))
-    go (Event o) f =
-        let t = f (λ e. let z : _≡_ {A = ℕ} 0 1 = cc in omega arith) in
-        absurd (omega (arith, ap length (t .1), text-few (Event o) (t .0), long))
+    go (Number n v) f = short (Number n v) (λ e. let z : _≡_ {A = ℕ} 0 1 = cc in omega arith) f
+    go (Event q) f = short (Event q) (λ e. let z : _≡_ {A = ℕ} 0 1 = cc in omega arith) f
+    go Cut f = short Cut (λ e. let z : _≡_ {A = ℕ} 0 1 = cc in omega arith) f
 
 pub line-enough : (line : List ℕ) → lineOf (take 27 line) ≡ lineOf line
 line-enough line = go (decLe 27 (length line))

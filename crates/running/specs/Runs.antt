@@ -12,7 +12,7 @@ use Rattle.following.specs.declared.Due.{Due}
 use Rattle.following.specs.declared.Due.the-variants.{Number as aNumber, Event as anEvent, Nothing as noMore}
 use Rattle.replaying.specs.Replays.{begun, Turned, turnOf, finishOf}
 use Rattle.replaying.specs.declared.Answer.{Answer}
-use Rattle.replaying.specs.declared.Answer.the-variants.{Nothing, Made, Unmade, Changed, Kept, Found, Events, Bad}
+use Rattle.replaying.specs.declared.Answer.the-variants.{Nothing, Created, Changed, Kept, Found, Events, Bad}
 use Rattle.replaying.specs.declared.Replay.{Replay}
 use Rattle.running.specs.declared.Run.{Run}
 use Rattle.running.specs.declared.Taken.{Taken}
@@ -105,7 +105,7 @@ ByteTaken run room line byte r left held = TakenIs (byteTaken run room line byte
 
 -- "and stop", "and no event line is read": all that is answered is known
 abbrev pub overAt : Due → Bool
-overAt (aNumber w) = false
+overAt (aNumber name) = false
 overAt anEvent = false
 overAt noMore = true
 
@@ -125,11 +125,10 @@ fed run room line (b ∷ bs) = let x = byteTaken run room line b in x .answer �
 -- the answers that say something
 abbrev pub silent : Answer → Bool
 silent Nothing = true
-silent Made = false
-silent (Unmade n) = false
-silent (Changed n s) = false
-silent (Kept n s k) = false
-silent (Found n f p c) = false
+silent (Created v) = false
+silent (Changed r) = false
+silent (Kept r n) = false
+silent (Found q) = false
 silent (Events n) = false
 silent (Bad n) = false
 

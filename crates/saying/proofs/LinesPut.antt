@@ -1,16 +1,24 @@
 -- Lines that are put one after the other, and what is promised of an answer whose lines are put from the front.
 -- Assumes nothing.
 use Prim.Native.Nat.{ℕ, _+_, _≤_}
-use mathlib.Core.Path.{_≡_, refl, _∙_}
+use mathlib.Core.Path.{_≡_, refl, ap, _∙_}
 use mathlib.Core.List.{List, [], _∷_, _++_, flatMap, append-nil, append-assoc}
 use native.Mathlib.Nat.{zero-add}
 use native.Mathlib.Omega.{arith}
 use lib.ListN.{length, take, drop}
 use lib.Seq.{sets-eq, take-take, take-append-seam, drop-append-seam}
+use Rattle.rules.specs.Answers.{Meaning, changeMeans, verdictMeans}
+use Rattle.rules.specs.Histories.{reported}
+use Rattle.rules.specs.declared.Change.{Change}
+use Rattle.rules.specs.declared.Change.the-variants.{Listed, Refused}
+use Rattle.rules.specs.declared.Refusal.{Refusal}
+use Rattle.rules.specs.declared.Verdict.{Verdict}
+use Rattle.rules.specs.declared.Verdict.the-variants.{Done, Denied}
+use Rattle.numbering.specs.Told.{told}
 use Rattle.replaying.specs.declared.Answer.{Answer}
-use Rattle.replaying.specs.declared.Answer.the-variants.{Nothing}
+use Rattle.replaying.specs.declared.Answer.the-variants.{Nothing, Changed}
 use Rattle.lines.specs.Lines.{bytes}
-use Rattle.saying.specs.Texts.{Line, lineText, textOf}
+use Rattle.saying.specs.Texts.{Line, lineText, createdLines, linesOf, textOf}
 use Rattle.saying.specs.Promises.{Said}
 use Rattle.saying.specs.Writing.{putAt, Put, PutLines, lineWith}
 use Rattle.saying.proofs.Puts.{put-length, then}
@@ -40,6 +48,23 @@ lines-after (y ∷ ys) x = rw (append-assoc (lineText y) (flatMap lineText ys) (
 pub line-after : (xs : List Line) (x : Line) {at r₁ r₂ : ℕ} {l m₁ m₂ : List ℕ} → Put (flatMap lineText xs) at l r₁ m₁ → Put (named x) r₁ m₁ r₂ m₂
     → Put (flatMap lineText (xs ++ (x ∷ []))) at l r₂ m₂
 line-after xs x p q = rw (← (lines-after xs x)) (then p q)
+
+-- ---- a change, and creation
+
+pub change-lines : (r : Change) → linesOf (Changed r) ≡ ("answer", changeMeans r .number) ∷ ("stores", reported r) ∷ []
+change-lines (Listed stores) = refl
+change-lines (Refused e) = refl
+
+told-as : {v w : Verdict} {n : ℕ} → told n ≡ verdictMeans v → v ≡ w → n ≡ verdictMeans w .number
+told-as number e = ap (λ (x : Meaning). x .number) number ∙ ap (λ (x : Verdict). verdictMeans x .number) e
+
+module _ {v : Verdict} {n : ℕ} (number : told n ≡ verdictMeans v) {at r : ℕ} {l m : List ℕ} where
+  pub created-done : v ≡ Done → Put (named ("made", n)) at l r m → Put (flatMap lineText (createdLines v)) at l r m
+  created-done e p = rw e (last-line _ (rw (told-as number e) at p))
+
+  pub created-denied : {d : Refusal} → v ≡ Denied d → Put (named ("made", n)) at l r m → {r₂ : ℕ} {m₂ : List ℕ} → Put (named ("events", 0)) r m r₂ m₂
+      → Put (flatMap lineText (createdLines v)) at l r₂ m₂
+  created-denied e p q = rw e (line-before _ _ (rw (told-as number e) at p) (last-line _ q))
 
 -- ---- from the front
 

@@ -6,8 +6,12 @@
 use Prim.Native.String.{String}
 use mathlib.Core.Path.{_≡_, refl}
 use mathlib.Core.List.{List, [], _∷_, map, flatMap}
+use Rattle.rules.specs.declared.Change.the-variants.{Listed, Refused}
+use Rattle.rules.specs.declared.Query.the-variants.{Known, Unknown}
+use Rattle.rules.specs.declared.Refusal.the-variants.{KeyAbsent, NotGrowing, BadCreation}
+use Rattle.rules.specs.declared.Verdict.the-variants.{Done, Denied}
 use Rattle.replaying.specs.declared.Answer.{Answer}
-use Rattle.replaying.specs.declared.Answer.the-variants.{Nothing, Made, Unmade, Changed, Kept, Found, Events, Bad}
+use Rattle.replaying.specs.declared.Answer.the-variants.{Nothing, Created, Changed, Kept, Found, Events, Bad}
 use Rattle.lines.specs.Lines.{bytes}
 use Rattle.lines.specs.Texts.{digitsIn, decimalText}
 use Rattle.saying.specs.Texts.{textOf}
@@ -15,15 +19,16 @@ use Rattle.saying.specs.Texts.{textOf}
 abbrev pub table : List (Answer × String)
 table =
     (Nothing, "")
-    ∷ (Made, "made=0\n")
-    ∷ (Changed 0 4, "answer=0\nstores=4\n")
-    ∷ (Found 0 10 20 1, "answer=0\nfn=10\nat=20\nprobes=1\n")
-    ∷ (Found 5 0 0 2, "answer=5\nfn=0\nat=0\nprobes=2\n")
+    ∷ (Created Done, "made=0\n")
+    ∷ (Changed (Listed 4), "answer=0\nstores=4\n")
+    ∷ (Changed (Refused NotGrowing), "answer=8\nstores=0\n")
+    ∷ (Found (Known (record { function = 10; place = 20 }) 1), "answer=0\nfn=10\nat=20\nprobes=1\n")
+    ∷ (Found (Unknown KeyAbsent 2), "answer=5\nfn=0\nat=0\nprobes=2\n")
     ∷ (Events 3, "events=3\n")
-    ∷ (Unmade 13, "made=13\nevents=0\n")
-    ∷ (Kept 0 7 5, "answer=0\nstores=7\nkept=5\n")
+    ∷ (Created (Denied BadCreation), "made=13\nevents=0\n")
+    ∷ (Kept (Listed 7) 5, "answer=0\nstores=7\nkept=5\n")
     ∷ (Bad 100, "bad=100\n")
-    ∷ (Found 0 18446744073709551615 9999999999999999999 10000000000000000000, "answer=0\nfn=18446744073709551615\nat=9999999999999999999\nprobes=10000000000000000000\n")
+    ∷ (Found (Known (record { function = 18446744073709551615; place = 9999999999999999999 }) 10000000000000000000), "answer=0\nfn=18446744073709551615\nat=9999999999999999999\nprobes=10000000000000000000\n")
     ∷ []
 
 -- the definitions compute what document 01 writes

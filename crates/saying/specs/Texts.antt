@@ -6,23 +6,46 @@ use Prim.Native.String.{String}
 use mathlib.Core.List.{List, [], _∷_, _++_, flatMap}
 use Rattle.lines.specs.Lines.{bytes}
 use Rattle.lines.specs.Texts.{decimalText}
+use Rattle.rules.specs.Answers.{numberOf, changeMeans, queryMeans}
+use Rattle.rules.specs.declared.Verdict.{Verdict}
+use Rattle.rules.specs.declared.Verdict.the-variants.{Done, Denied}
 use Rattle.replaying.specs.declared.Answer.{Answer}
-use Rattle.replaying.specs.declared.Answer.the-variants.{Nothing, Made, Unmade, Changed, Kept, Found, Events, Bad}
+use Rattle.replaying.specs.declared.Answer.the-variants.{Nothing, Created, Changed, Kept, Found, Events, Bad}
 
 -- a line: its name and its number
 abbrev pub Line : Type 0
 Line = String × ℕ
 
--- an answer's lines. Of a made table "made=0", and of one that is not made its refusal: "After `made=13` comes `events=0`".
--- Of a change "answer=0, stores=4", where "An event under a cut line adds `kept=`, the stores made, after `stores=`". Of a
--- query "answer=0, fn=10, at=20, probes=1". At the end "events=3", or "First bad line: `bad=` its number"
+-- values under their names, as far as there are both
+abbrev pub underNames : List String → List ℕ → List Line
+underNames [] vs = []
+underNames (n ∷ ns) [] = []
+underNames (n ∷ ns) (v ∷ vs) = (n, v) ∷ underNames ns vs
+
+-- a call's number, and its values under their names
+abbrev pub callLines : List String → ℕ → List ℕ → List Line
+callLines names number values = ("answer", number) ∷ underNames names values
+
+-- a change: "answer=0, stores=4". A query: "answer=0, fn=10, at=20, probes=1"
+abbrev pub changeLines : ℕ → List ℕ → List Line
+changeLines = callLines ("stores" ∷ [])
+
+abbrev pub foundLines : ℕ → List ℕ → List Line
+foundLines = callLines ("fn" ∷ "at" ∷ "probes" ∷ [])
+
+-- a made table "made=0", and one that is not made its refusal: "After `made=13` comes `events=0`"
+abbrev pub createdLines : Verdict → List Line
+createdLines Done = ("made", 0) ∷ []
+createdLines (Denied e) = ("made", numberOf e) ∷ ("events", 0) ∷ []
+
+-- an answer's lines. "An event under a cut line adds `kept=`, the stores made, after `stores=`". At the end "events=3", or "First bad
+-- line: `bad=` its number"
 abbrev pub linesOf : Answer → List Line
 linesOf Nothing = []
-linesOf Made = ("made", 0) ∷ []
-linesOf (Unmade n) = ("made", n) ∷ ("events", 0) ∷ []
-linesOf (Changed n s) = ("answer", n) ∷ ("stores", s) ∷ []
-linesOf (Kept n s k) = ("answer", n) ∷ ("stores", s) ∷ ("kept", k) ∷ []
-linesOf (Found n f p c) = ("answer", n) ∷ ("fn", f) ∷ ("at", p) ∷ ("probes", c) ∷ []
+linesOf (Created v) = createdLines v
+linesOf (Changed r) = changeLines (changeMeans r .number) (changeMeans r .values)
+linesOf (Kept r k) = changeLines (changeMeans r .number) (changeMeans r .values) ++ (("kept", k) ∷ [])
+linesOf (Found q) = foundLines (queryMeans q .number) (queryMeans q .values)
 linesOf (Events n) = ("events", n) ∷ []
 linesOf (Bad n) = ("bad", n) ∷ []
 

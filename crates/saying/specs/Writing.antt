@@ -7,7 +7,7 @@ use lib.ListN.{length}
 use lib.Seq.{sets}
 use Rattle.replaying.specs.declared.Answer.{Answer}
 use Rattle.lines.specs.Texts.{decimalText}
-use Rattle.saying.specs.Texts.{lineText, linesOf}
+use Rattle.saying.specs.Texts.{Line, lineText, linesOf}
 
 -- buffer l with a text from byte `at` on
 unfoldable pub putAt : List ℕ → ℕ → List ℕ → List ℕ
@@ -23,6 +23,9 @@ pub record Put (text : List ℕ) (at : ℕ) (l : List ℕ) (r : ℕ) (m : List �
 unfoldable pub lineWith : List ℕ → ℕ → List ℕ
 lineWith name number = name ++ decimalText number ++ (10 ∷ [])
 
--- an answer's lines put from the front
+-- lines, and an answer's lines, put from the front
+abbrev pub PutAll : List Line → List ℕ → ℕ → List ℕ → Type 0
+PutAll lines l r m = Put (flatMap lineText lines) 0 l r m
+
 abbrev pub PutLines : Answer → List ℕ → ℕ → List ℕ → Type 0
-PutLines answer l r m = Put (flatMap lineText (linesOf answer)) 0 l r m
+PutLines answer l r m = PutAll (linesOf answer) l r m

@@ -1,12 +1,20 @@
 // An answer of the script program as lines of text.
+use numbering::change_number;
+use numbering::number;
+use numbering::reported;
+use numbering::verdict_number;
 use replaying::Answer;
+use rules::Change;
+use rules::Query;
+use rules::Verdict;
 ghost use mathlib.Core.Path.{_≡_};
+ghost use mathlib.Core.List.{[], _∷_};
 ghost use Prim.Native.Nat.{_+_, _≤_};
 ghost use lib.ListN.{length, take};
 ghost use Rattle.saying.specs.Promises.{Said};
 ghost use Rattle.lines.specs.Texts.{decimalText};
-ghost use Rattle.saying.specs.Texts.{textOf};
-ghost use Rattle.saying.specs.Writing.{Put, PutLines, lineWith};
+ghost use Rattle.saying.specs.Texts.{foundLines, textOf};
+ghost use Rattle.saying.specs.Writing.{Put, PutLines, PutAll, lineWith};
 
 // Puts the first `count` bytes of a text into a buffer from byte `at` on, and answers the next free byte.
 fn copy(text: &[u8], count: usize, out: &mut [u8], at: usize) -> usize
@@ -56,37 +64,51 @@ fn line(name: &[u8], number: u64, out: &mut [u8; 128], at: usize) -> usize
 }
 
 // "After `made=13` comes `events=0`"
-fn unmade(number: u64, out: &mut [u8; 128]) -> usize
-    ensures { λ r. ⌜ PutLines (Answer.Unmade number) (now (out .entry)) r (now (out .exit)) ⌝ }
+fn created(verdict: Verdict, out: &mut [u8; 128]) -> usize
+    ensures { λ r. ⌜ PutLines (Answer.Created verdict) (now (out .entry)) r (now (out .exit)) ⌝ }
 {
-    let second = line(b"made=", number, out, 0);
-    line(b"events=", 0, out, second)
+    let second = line(b"made=", verdict_number(verdict), out, 0);
+    match verdict {
+        Verdict::Done => second,
+        Verdict::Denied(_) => line(b"events=", 0, out, second),
+    }
 }
 
 // The lines of a change.
-fn changed(number: u64, stores: u64, out: &mut [u8; 128]) -> usize
-    ensures { λ r. ⌜ PutLines (Answer.Changed number stores) (now (out .entry)) r (now (out .exit)) × (r ≤ 56) ⌝ }
+fn changed(change: Change, out: &mut [u8; 128]) -> usize
+    ensures { λ r. ⌜ PutLines (Answer.Changed change) (now (out .entry)) r (now (out .exit)) × (r ≤ 56) ⌝ }
 {
-    let second = line(b"answer=", number, out, 0);
-    line(b"stores=", stores, out, second)
+    let second = line(b"answer=", change_number(change), out, 0);
+    line(b"stores=", reported(change), out, second)
 }
 
 // "An event under a cut line adds `kept=`, the stores made, after `stores=`"
-fn kept(number: u64, stores: u64, made: u64, out: &mut [u8; 128]) -> usize
-    ensures { λ r. ⌜ PutLines (Answer.Kept number stores made) (now (out .entry)) r (now (out .exit)) ⌝ }
+fn kept(change: Change, made: u64, out: &mut [u8; 128]) -> usize
+    ensures { λ r. ⌜ PutLines (Answer.Kept change made) (now (out .entry)) r (now (out .exit)) ⌝ }
 {
-    let third = changed(number, stores, out);
+    let third = changed(change, out);
     line(b"kept=", made, out, third)
 }
 
 // "answer=0, fn=10, at=20, probes=1"
-fn found(number: u64, function: u64, place: u64, probes: u64, out: &mut [u8; 128]) -> usize
-    ensures { λ r. ⌜ PutLines (Answer.Found number function place probes) (now (out .entry)) r (now (out .exit)) ⌝ }
+fn found_lines(number: u64, function: u64, place: u64, probes: u64, out: &mut [u8; 128]) -> usize
+    ensures { λ r. ⌜ PutAll (foundLines number (function ∷ place ∷ probes ∷ [])) (now (out .entry)) r (now (out .exit)) ⌝ }
 {
     let second = line(b"answer=", number, out, 0);
     let third = line(b"fn=", function, out, second);
     let fourth = line(b"at=", place, out, third);
     line(b"probes=", probes, out, fourth)
+}
+
+fn found(answer: Query, out: &mut [u8; 128]) -> usize
+    ensures { λ r. ⌜ PutLines (Answer.Found answer) (now (out .entry)) r (now (out .exit)) ⌝ }
+{
+    match answer {
+        Query::Known(record, probes) => {
+            found_lines(0, record.function, record.place, probes, out)
+        }
+        Query::Unknown(refusal, probes) => found_lines(number(refusal), 0, 0, probes, out),
+    }
 }
 
 // Puts an answer's lines at the front of a buffer, and answers how many bytes they have: 104 at most, for a query's four
@@ -96,13 +118,10 @@ pub fn say(answer: Answer, out: &mut [u8; 128]) -> usize
 {
     match answer {
         Answer::Nothing => 0,
-        Answer::Made => line(b"made=", 0, out, 0),
-        Answer::Unmade(number) => unmade(number, out),
-        Answer::Changed(number, stores) => changed(number, stores, out),
-        Answer::Kept(number, stores, made) => kept(number, stores, made, out),
-        Answer::Found(number, function, place, probes) => {
-            found(number, function, place, probes, out)
-        }
+        Answer::Created(verdict) => created(verdict, out),
+        Answer::Changed(change) => changed(change, out),
+        Answer::Kept(change, made) => kept(change, made, out),
+        Answer::Found(query) => found(query, out),
         Answer::Events(number) => line(b"events=", number, out, 0),
         Answer::Bad(number) => line(b"bad=", number, out, 0),
     }

@@ -66,7 +66,7 @@ same-tells x y = tells-and _ _ (tells-eq _ _) (tells-eq _ _)
 same-self : (x : Slot) → sameSlot x x ≡ true
 same-self x = same-tells x x .1 (refl, refl)
 
--- all that are copy-listed, for each taken slot in order
+-- all that are found, for each taken slot in order
 unfoldable pub copies : Table → List (Slot × Slot)
 copies t = flatMap (copiesOf t (headerOf t)) (takenSlots t)
 
@@ -94,7 +94,7 @@ module _ (t : Table) where
       tells-any (samePlace (placeOf x)) _ (same-place-tells (placeOf x)) (placesOf (headerOf t) (keyIn t x)) .1
       (s .place, holder-among t (keyIn t x) y s, same-tells x y .0 e .0 ∙ same)
 
-  -- a copy that is copy-listed: where the lookup ends, which is elsewhere
+  -- a copy that is found: where the lookup ends, which is elsewhere
   copy-found : (x : Slot) (u : Slot × Slot) → In u (copiesOf t (headerOf t) x) → (y : Slot) × Ends x y × (sameSlot x y ≡ false) × (u ≡ inOrder x y)
   unfolding copiesOf Ends
   copy-found x u i = go (lookup t (headerOf t) (keyIn t x)) refl i
@@ -108,7 +108,7 @@ module _ (t : Table) where
       go (Stands y n) q i = at y n q (sameSlot x y) refl i
       go (Absent n) q i = absurd (List·Memᴰ·not-nil i)
 
-  -- each copy that is copy-listed is a pair of the rules
+  -- each copy that is found is a pair of the rules
   pub copy-twins : (u : Slot × Slot) → In u (copies t) → In u (twins t)
   unfolding copies
   copy-twins u i =
@@ -161,7 +161,7 @@ module _ (t : Table) where
         go (Stands y n) q = (y, (n, q))
         go (Absent n) q = absurd (lookup-sees t x u (in-place c t good x (u .used) (placed x u)) n q)
 
-    -- and where that is elsewhere, a copy is copy-listed
+    -- and where that is elsewhere, a copy is found
     copy-listed : (x y : Slot) → TakenSlot t x → Ends x y → (x ≡ y → ⊥) → In (inOrder x y) (copies t)
     unfolding copies copiesOf Ends
     copy-listed x y u e d = in-flatMap (copiesOf t (headerOf t)) (in-taken t x u) (rw (e .1) (go (sameSlot x y) refl))
@@ -170,7 +170,7 @@ module _ (t : Table) where
         go true q = let r = same-tells x y .0 q in absurd (d (slot-by-bucket (headerOf t .state) c good x y (u .used) (ends-taken x y e .0 .used) (r .0) (r .1)))
         go false q = here refl
 
-    -- each pair of the rules is copy-listed, or there are two copies anyway: of more than two slots with one key each but one is a copy of
+    -- each pair of the rules is found, or there are two copies anyway: of more than two slots with one key each but one is a copy of
     -- that one
     twins-copy : (a b : Slot) → Twins t a b → In {A = Slot × Slot} (a, b) (copies t) ⊎ Two (copies t)
     unfolding Ends

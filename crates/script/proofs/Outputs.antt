@@ -3,7 +3,7 @@
 use mathlib.Core.Path.{_≡_, refl, sym, ap, _∙_}
 use mathlib.Core.List.{List, [], _∷_, flatMap}
 use Rattle.replaying.specs.declared.Answer.{Answer}
-use Rattle.replaying.specs.declared.Answer.the-variants.{Nothing, Made, Unmade, Changed, Kept, Found, Events, Bad}
+use Rattle.replaying.specs.declared.Answer.the-variants.{Nothing, Created, Changed, Kept, Found, Events, Bad}
 use Rattle.running.specs.Runs.{ready, fed, answersTo, spoken}
 use Rattle.running.proofs.Whole.{bytesAnswerAsLines}
 use Rattle.saying.specs.Texts.{textOf}
@@ -14,11 +14,10 @@ pub spoken-text : (xs : List Answer) → flatMap textOf (spoken xs) ≡ flatMap 
 unfolding flatMap textOf
 spoken-text [] = refl
 spoken-text (Nothing ∷ xs) = spoken-text xs
-spoken-text (Made ∷ xs) = rw (spoken-text xs)
-spoken-text (Unmade n ∷ xs) = rw (spoken-text xs)
-spoken-text (Changed n s ∷ xs) = rw (spoken-text xs)
-spoken-text (Kept n s k ∷ xs) = rw (spoken-text xs)
-spoken-text (Found n f p c ∷ xs) = rw (spoken-text xs)
+spoken-text (Created v ∷ xs) = rw (spoken-text xs)
+spoken-text (Changed r ∷ xs) = rw (spoken-text xs)
+spoken-text (Kept r n ∷ xs) = rw (spoken-text xs)
+spoken-text (Found q ∷ xs) = rw (spoken-text xs)
 spoken-text (Events n ∷ xs) = rw (spoken-text xs)
 spoken-text (Bad n ∷ xs) = rw (spoken-text xs)
 

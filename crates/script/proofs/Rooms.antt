@@ -20,7 +20,7 @@ use Rattle.rules.proofs.Meanings.{verdict-one}
 use Rattle.following.specs.declared.Script.{Script}
 use Rattle.following.specs.declared.Asked.the-variants.{Table as askTable}
 use Rattle.replaying.specs.Replays.{askedOf}
-use Rattle.replaying.specs.declared.Answer.the-variants.{Made}
+use Rattle.replaying.specs.declared.Answer.the-variants.{Created as CreatedAs}
 use Rattle.replaying.specs.declared.Replay.{Replay}
 use Rattle.script.specs.Parts.{RoomIsEnough, RoomMakesAll}
 
@@ -36,7 +36,7 @@ roomIsEnough room enough c small = length-take-le (wordsFor c) room (omega (arit
 
 module _ (room : List ℕ) (p : Replay) (next : Script) (c k mul1 mul2 : ℕ) (small : c ≤ 8) where
   made-answer : (v : Verdict) (u : Table) → createResult (take (wordsFor c) room) c k mul1 mul2 ≡ (v, u) → v ≡ Done
-      → askedOf room p next (askTable c k mul1 mul2) .answer ≡ Made
+      → askedOf room p next (askTable c k mul1 mul2) .answer ≡ CreatedAs Done
   made-answer v u e d = rw (le-leb c 8 small, e, d)
 
 pub roomMakesAll : RoomMakesAll

@@ -9,10 +9,11 @@ use lib.ListN.{length, take}
 use lib.Dec.{ltb}
 use Rattle.rules.specs.Words.{wordsFor}
 use Rattle.rules.specs.Demands.{GoodCreation}
+use Rattle.rules.specs.declared.Verdict.the-variants.{Done}
 use Rattle.following.specs.declared.Script.{Script}
 use Rattle.following.specs.declared.Asked.the-variants.{Table as askTable}
 use Rattle.replaying.specs.Replays.{askedOf}
-use Rattle.replaying.specs.declared.Answer.the-variants.{Made}
+use Rattle.replaying.specs.declared.Answer.the-variants.{Created}
 use Rattle.replaying.specs.declared.Replay.{Replay}
 use Rattle.running.specs.Runs.{ready, known, endOf, Stand, afterBytes, answersIn}
 use Rattle.running.specs.declared.Run.{Run}
@@ -70,7 +71,7 @@ RoomIsEnough = (room : List ℕ) → wordsFor 8 ≤ length room → RoomFor room
 -- so `made=13` is never answered for want of room: with a good c, k and multipliers the table is made
 abbrev pub RoomMakesAll : Type 0
 RoomMakesAll = (room : List ℕ) → RoomFor room → (p : Replay) (next : Script) (c k mul1 mul2 : ℕ) → c ≤ 8 → GoodCreation (wordsFor c) c k mul1 mul2
-    → askedOf room p next (askTable c k mul1 mul2) .answer ≡ Made
+    → askedOf room p next (askTable c k mul1 mul2) .answer ≡ Created Done
 
 -- ---- what the program's functions promise. s is where the run stood, and u is where it stands at exit
 

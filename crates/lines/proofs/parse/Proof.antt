@@ -1,60 +1,49 @@
--- `lines::parse` meets its contract: a name leads to a decimal, and no name to an event.
+-- `lines::parse` meets its contract: the texts of the rows are those of the rule.
 -- Assumes nothing.
-use Rattle.lines.proofs.Answered.{is-no-name, is-no-decimal, an-event, a-number, no-number}
+use mathlib.Core.List.{flatMap}
 use borrow.Author.Needs.{needs}
+use Rattle.lines.proofs.Rows.{by-row, by-none}
 use Rattle.lines.proofs.parse.Statement.{statement}
 use Rattle.lines.proofs.parse.Tie as tie
 
-read-name-requires : tie.Need-read-name-requires
-read-name-requires c κs = search needs
+slice-aggregate-find : tie.Need-slice-aggregate-find
+slice-aggregate-find c = search needs
+
+find-requires : tie.Need-find-requires
+find-requires c κs = search needs
 
 enum-known-found : tie.Need-enum-known-found
 enum-known-found c = search needs
 
-read-decimal-requires : tie.Need-read-decimal-requires
-read-decimal-requires c κs = search needs
+says-requires : tie.Need-says-requires
+says-requires c κs = search needs
 
-enum-known-number : tie.Need-enum-known-number
-enum-known-number c = search needs
+whole-requires : tie.Need-whole-requires
+whole-requires c κs = search needs
 
 enum-told : tie.Need-enum-told
 enum-told c = search needs
 
-enum-told-2 : tie.Need-enum-told-2
-enum-told-2 c = search needs
-
-read-event-requires : tie.Need-read-event-requires
-read-event-requires c κs = search needs
-
 returns : tie.Need-returns
+unfolding flatMap
 returns c =
-    let d = c .before .before .before in
-    let f = d .before .before in
-    a-number _ (f .before .before .read-name .ensures) (f .found .given .1) (d .read-decimal .ensures) (c .before .number .given .1)
+    let s = c .before in
+    let f = s .before .before in
+    by-row _ (f .before .before .find .ensures) (f .found .given .1) (s .says .ensures) (c .whole .ensures)
 
 returns-2 : tie.Need-returns-2
-returns-2 c =
-    let m = c .before in
-    let d = m .before in
-    let f = d .before .before in
-    no-number _ (f .before .before .read-name .ensures) (f .found .given .1) (d .read-decimal .ensures) (is-no-decimal _ (m .match2 .keys2))
-
-returns-3 : tie.Need-returns-3
-returns-3 c =
-    let m = c .before .before in
-    an-event _ (m .before .read-name .ensures) (is-no-name _ (m .match .keys2)) (c .read-event .ensures)
+unfolding flatMap
+returns-2 c = by-none _ (c .before .before .find .ensures) (c .enum-told .given .1)
 
 pub parse-spec : {M : Type 1} → statement M
 parse-spec =
     tie.close
     (tie.spec
-    read-name-requires
+    slice-aggregate-find
+    find-requires
     enum-known-found
-    read-decimal-requires
-    enum-known-number
+    says-requires
+    whole-requires
     enum-told
-    enum-told-2
-    read-event-requires
     returns
-    returns-2
-    returns-3)
+    returns-2)

@@ -1,52 +1,38 @@
--- `saying::found` meets its contract: its lines are put one after the other.
+-- `saying::found` meets its contract.
 -- Assumes nothing.
-use mathlib.Core.Path.{refl}
-use Rattle.saying.proofs.LinesPut.{line-before, last-line}
-use native.Mathlib.Omega.{arith}
+use borrow.Author.Needs.{needs}
 use Rattle.saying.proofs.found.Statement.{statement}
 use Rattle.saying.proofs.found.Tie as tie
 
-slice-aggregate-line : tie.Need-slice-aggregate-line
-slice-aggregate-line c = refl
+enum-known-answer : tie.Need-enum-known-answer
+enum-known-answer c = search needs
 
-line-requires : tie.Need-line-requires
-line-requires c κs = omega arith
+found-lines-requires : tie.Need-found-lines-requires
+found-lines-requires c κs = search needs
 
-slice-aggregate-line-2 : tie.Need-slice-aggregate-line-2
-slice-aggregate-line-2 c = refl
+enum-known-answer-2 : tie.Need-enum-known-answer-2
+enum-known-answer-2 c = search needs
 
-line-requires-2 : tie.Need-line-requires-2
-line-requires-2 c κs = omega arith
+number-requires : tie.Need-number-requires
+number-requires c κs = search needs
 
-slice-aggregate-line-3 : tie.Need-slice-aggregate-line-3
-slice-aggregate-line-3 c = refl
-
-line-requires-3 : tie.Need-line-requires-3
-line-requires-3 c κs = omega arith
-
-slice-aggregate-line-4 : tie.Need-slice-aggregate-line-4
-slice-aggregate-line-4 c = refl
-
-line-requires-4 : tie.Need-line-requires-4
-line-requires-4 c κs = omega arith
+found-lines-requires-2 : tie.Need-found-lines-requires-2
+found-lines-requires-2 c κs = search needs
 
 returns : tie.Need-returns
-returns c =
-    let third = c .before .before .before in
-    let second = third .before .before .before in
-    let first = second .before .before .before in
-    line-before _ _ (first .line .ensures .0) (line-before _ _ (second .line2 .ensures .0) (line-before _ _ (third .line3 .ensures .0) (last-line _ (c .line4 .ensures .0))))
+returns c = rw (c .before .before .before .answer .given .1) (c .found-lines .ensures)
+
+returns-2 : tie.Need-returns-2
+returns-2 c = let n = c .before .before in rw (n .before .before .answer2 .given .1) (rw (n .number .ensures) at (c .found-lines2 .ensures))
 
 pub found-spec : {M : Type 1} → statement M
 found-spec =
     tie.close
     (tie.spec
-    slice-aggregate-line
-    line-requires
-    slice-aggregate-line-2
-    line-requires-2
-    slice-aggregate-line-3
-    line-requires-3
-    slice-aggregate-line-4
-    line-requires-4
-    returns)
+    enum-known-answer
+    found-lines-requires
+    enum-known-answer-2
+    number-requires
+    found-lines-requires-2
+    returns
+    returns-2)

@@ -22,6 +22,12 @@ event-read-requires c κs = search needs
 enum-told-2 : tie.Need-enum-told-2
 enum-told-2 c = search needs
 
+cut-read-requires : tie.Need-cut-read-requires
+cut-read-requires c κs = search needs
+
+enum-told-3 : tie.Need-enum-told-3
+enum-told-3 c = search needs
+
 no-event-line-requires-2 : tie.Need-no-event-line-requires-2
 no-event-line-requires-2 c κs = search needs
 
@@ -35,7 +41,10 @@ returns-2 : tie.Need-returns-2
 returns-2 c = rw (c .before .before .line .given .1) (c .event-read .ensures)
 
 returns-3 : tie.Need-returns-3
-returns-3 c = rw (c .before .before .enum-told2 .given .1) (rw (c .before .no-event-line2 .ensures) at (c .stops-at2 .ensures))
+returns-3 c = rw (c .before .enum-told2 .given .1) (c .cut-read .ensures)
+
+returns-4 : tie.Need-returns-4
+returns-4 c = rw (c .before .before .enum-told3 .given .1) (rw (c .before .no-event-line2 .ensures) at (c .stops-at2 .ensures))
 
 pub event-line-spec : {M : Type 1} → statement M
 event-line-spec =
@@ -47,8 +56,11 @@ event-line-spec =
     enum-known-line
     event-read-requires
     enum-told-2
+    cut-read-requires
+    enum-told-3
     no-event-line-requires-2
     stops-at-requires-2
     returns
     returns-2
-    returns-3)
+    returns-3
+    returns-4)

@@ -22,6 +22,12 @@ enum-told-2 c = search needs
 stops-requires-2 : tie.Need-stops-requires-2
 stops-requires-2 c κs = search needs
 
+enum-told-3 : tie.Need-enum-told-3
+enum-told-3 c = search needs
+
+stops-requires-3 : tie.Need-stops-requires-3
+stops-requires-3 c κs = search needs
+
 returns : tie.Need-returns
 returns c = rw (c .before .before .line .given .1) (c .number-named .ensures)
 
@@ -30,6 +36,9 @@ returns-2 c = rw (c .before .enum-told .given .1) (c .stops .ensures)
 
 returns-3 : tie.Need-returns-3
 returns-3 c = rw (c .before .enum-told2 .given .1) (c .stops2 .ensures)
+
+returns-4 : tie.Need-returns-4
+returns-4 c = rw (c .before .enum-told3 .given .1) (c .stops3 .ensures)
 
 pub number-line-spec : {M : Type 1} → statement M
 number-line-spec =
@@ -41,6 +50,9 @@ number-line-spec =
     stops-requires
     enum-told-2
     stops-requires-2
+    enum-told-3
+    stops-requires-3
     returns
     returns-2
-    returns-3)
+    returns-3
+    returns-4)

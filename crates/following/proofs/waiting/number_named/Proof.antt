@@ -5,9 +5,6 @@ use borrow.Author.Needs.{needs}
 use Rattle.following.proofs.waiting.number_named.Statement.{statement}
 use Rattle.following.proofs.waiting.number_named.Tie as tie
 
-name-for-requires : tie.Need-name-for-requires
-name-for-requires c κs = search needs
-
 name-number-requires : tie.Need-name-number-requires
 name-number-requires c κs = search needs
 
@@ -18,19 +15,22 @@ number-read-requires : tie.Need-number-read-requires
 number-read-requires c κs = search needs
 
 returns : tie.Need-returns
-returns c = rw (← (c .before .before .before .before .name-for .ensures), ← (c .before .before .before .name-number .ensures), ← (c .before .before .name-number2 .ensures), eq-eqb _ _ (c .before .if1 .taken)) (c .number-read .ensures)
+returns c =
+    let t = c .before in
+    rw (← (t .before .before .name-number .ensures), ← (t .before .name-number2 .ensures), eq-eqb _ _ (t .if1 .taken)) (c .number-read .ensures)
 
 stops-requires : tie.Need-stops-requires
 stops-requires c κs = search needs
 
 returns-2 : tie.Need-returns-2
-returns-2 c = rw (← (c .before .before .before .before .name-for .ensures), ← (c .before .before .before .name-number .ensures), ← (c .before .before .name-number2 .ensures), ne-eqb _ _ (c .before .if1 .left)) (c .stops .ensures)
+returns-2 c =
+    let e = c .before in
+    rw (← (e .before .before .name-number .ensures), ← (e .before .name-number2 .ensures), ne-eqb _ _ (e .if1 .left)) (c .stops .ensures)
 
 pub number-named-spec : {M : Type 1} → statement M
 number-named-spec =
     tie.close
     (tie.spec
-    name-for-requires
     name-number-requires
     name-number-requires-2
     number-read-requires

@@ -31,17 +31,20 @@ asks-requires c κs = search needs
 enum-told-5 : tie.Need-enum-told-5
 enum-told-5 c = search needs
 
-waits-requires-4 : tie.Need-waits-requires-4
-waits-requires-4 c κs = search needs
+key-read-requires : tie.Need-key-read-requires
+key-read-requires c κs = search needs
 
 enum-told-6 : tie.Need-enum-told-6
 enum-told-6 c = search needs
 
-waits-requires-5 : tie.Need-waits-requires-5
-waits-requires-5 c κs = search needs
+waits-requires-4 : tie.Need-waits-requires-4
+waits-requires-4 c κs = search needs
 
 enum-told-7 : tie.Need-enum-told-7
 enum-told-7 c = search needs
+
+filled-requires : tie.Need-filled-requires
+filled-requires c κs = search needs
 
 asks-requires-2 : tie.Need-asks-requires-2
 asks-requires-2 c κs = search needs
@@ -49,38 +52,8 @@ asks-requires-2 c κs = search needs
 enum-told-8 : tie.Need-enum-told-8
 enum-told-8 c = search needs
 
-waits-requires-6 : tie.Need-waits-requires-6
-waits-requires-6 c κs = search needs
-
-enum-told-9 : tie.Need-enum-told-9
-enum-told-9 c = search needs
-
-waits-requires-7 : tie.Need-waits-requires-7
-waits-requires-7 c κs = search needs
-
-enum-told-10 : tie.Need-enum-told-10
-enum-told-10 c = search needs
-
-asks-requires-3 : tie.Need-asks-requires-3
-asks-requires-3 c κs = search needs
-
-enum-told-11 : tie.Need-enum-told-11
-enum-told-11 c = search needs
-
-asks-requires-4 : tie.Need-asks-requires-4
-asks-requires-4 c κs = search needs
-
-enum-told-12 : tie.Need-enum-told-12
-enum-told-12 c = search needs
-
-asks-requires-5 : tie.Need-asks-requires-5
-asks-requires-5 c κs = search needs
-
-enum-told-13 : tie.Need-enum-told-13
-enum-told-13 c = search needs
-
-waits-requires-8 : tie.Need-waits-requires-8
-waits-requires-8 c κs = search needs
+onward-requires : tie.Need-onward-requires
+onward-requires c κs = search needs
 
 returns : tie.Need-returns
 returns c = rw (c .before .enum-told .given .1) (c .waits .ensures)
@@ -95,31 +68,16 @@ returns-4 : tie.Need-returns-4
 returns-4 c = rw (c .before .enum-told4 .given .1) (c .asks .ensures)
 
 returns-5 : tie.Need-returns-5
-returns-5 c = rw (c .before .enum-told5 .given .1) (c .waits4 .ensures)
+returns-5 c = rw (c .before .enum-told5 .given .1) (c .key-read .ensures)
 
 returns-6 : tie.Need-returns-6
-returns-6 c = rw (c .before .enum-told6 .given .1) (c .waits5 .ensures)
+returns-6 c = rw (c .before .enum-told6 .given .1) (c .waits4 .ensures)
 
 returns-7 : tie.Need-returns-7
-returns-7 c = rw (c .before .enum-told7 .given .1) (c .asks2 .ensures)
+returns-7 c = rw (c .before .before .enum-told7 .given .1) (rw (c .before .filled .ensures) at (c .asks2 .ensures))
 
 returns-8 : tie.Need-returns-8
-returns-8 c = rw (c .before .enum-told8 .given .1) (c .waits6 .ensures)
-
-returns-9 : tie.Need-returns-9
-returns-9 c = rw (c .before .enum-told9 .given .1) (c .waits7 .ensures)
-
-returns-10 : tie.Need-returns-10
-returns-10 c = rw (c .before .enum-told10 .given .1) (c .asks3 .ensures)
-
-returns-11 : tie.Need-returns-11
-returns-11 c = rw (c .before .enum-told11 .given .1) (c .asks4 .ensures)
-
-returns-12 : tie.Need-returns-12
-returns-12 c = rw (c .before .enum-told12 .given .1) (c .asks5 .ensures)
-
-returns-13 : tie.Need-returns-13
-returns-13 c = rw (c .before .enum-told13 .given .1) (c .waits8 .ensures)
+returns-8 c = rw (c .before .enum-told8 .given .1) (c .onward .ensures)
 
 pub number-read-spec : {M : Type 1} → statement M
 number-read-spec =
@@ -134,23 +92,14 @@ number-read-spec =
     enum-told-4
     asks-requires
     enum-told-5
-    waits-requires-4
+    key-read-requires
     enum-told-6
-    waits-requires-5
+    waits-requires-4
     enum-told-7
+    filled-requires
     asks-requires-2
     enum-told-8
-    waits-requires-6
-    enum-told-9
-    waits-requires-7
-    enum-told-10
-    asks-requires-3
-    enum-told-11
-    asks-requires-4
-    enum-told-12
-    asks-requires-5
-    enum-told-13
-    waits-requires-8
+    onward-requires
     returns
     returns-2
     returns-3
@@ -158,9 +107,4 @@ number-read-spec =
     returns-5
     returns-6
     returns-7
-    returns-8
-    returns-9
-    returns-10
-    returns-11
-    returns-12
-    returns-13)
+    returns-8)

@@ -23,44 +23,44 @@ tabled-requires c κs = search needs
 enum-known-asked-2 : tie.Need-enum-known-asked-2
 enum-known-asked-2 c = search needs
 
-queried-requires : tie.Need-queried-requires
-queried-requires c κs = search needs
+evented-requires : tie.Need-evented-requires
+evented-requires c κs = search needs
 
 enum-known-asked-3 : tie.Need-enum-known-asked-3
 enum-known-asked-3 c = search needs
-
-changed-requires : tie.Need-changed-requires
-changed-requires c κs = search needs
-
-enum-known-asked-4 : tie.Need-enum-known-asked-4
-enum-known-asked-4 c = search needs
 
 passed-requires-2 : tie.Need-passed-requires-2
 passed-requires-2 c κs = search needs
 
 returns : tie.Need-returns
-returns c = turn-as _ (c .before .before .before .before .before .before .before .args .p) _ (c .before .before .before .before .read .result) (c .before .before .before .before .read .ensures) _ (c .before .enum-told .given .1) (nothing-taken (c .before .before .before .before .before .before .before .args .p) _ _ (c .passed .ensures))
+returns c =
+    let r = c .before .before .before .before in
+    let p = r .before .before .before .args .p in
+    turn-as _ p _ (r .read .result) (r .read .ensures) _ (c .before .enum-told .given .1) (nothing-taken p _ _ (c .passed .ensures))
 
 same-length : tie.Need-same-length
 same-length c = search needs
 
 returns-2 : tie.Need-returns-2
-returns-2 c = turn-as _ (c .before .before .before .before .before .before .before .before .before .before .before .args .p) _ (c .before .before .before .before .before .before .before .before .read .result) (c .before .before .before .before .before .before .before .before .read .ensures) _ (c .before .before .before .before .before .asked .given .1) (c .before .before .tabled .ensures)
+returns-2 c =
+    let a = c .before .before .before .before .before in
+    let r = a .before .before .before in
+    turn-as _ (r .before .before .before .args .p) _ (r .read .result) (r .read .ensures) _ (a .asked .given .1) (c .before .before .tabled .ensures)
 
 same-length-2 : tie.Need-same-length-2
 same-length-2 c = search needs
 
 returns-3 : tie.Need-returns-3
-returns-3 c = turn-as _ (c .before .before .before .before .before .before .before .before .before .before .before .args .p) _ (c .before .before .before .before .before .before .before .before .read .result) (c .before .before .before .before .before .before .before .before .read .ensures) _ (c .before .before .before .before .before .asked2 .given .1) (c .before .before .queried .ensures)
-
-same-length-3 : tie.Need-same-length-3
-same-length-3 c = search needs
+returns-3 c =
+    let a = c .before .before .before .before .before in
+    let r = a .before .before .before in
+    turn-as _ (r .before .before .before .args .p) _ (r .read .result) (r .read .ensures) _ (a .asked2 .given .1) (c .before .before .evented .ensures)
 
 returns-4 : tie.Need-returns-4
-returns-4 c = turn-as _ (c .before .before .before .before .before .before .before .before .before .before .before .args .p) _ (c .before .before .before .before .before .before .before .before .read .result) (c .before .before .before .before .before .before .before .before .read .ensures) _ (c .before .before .before .before .before .asked3 .given .1) (c .before .before .changed .ensures)
-
-returns-5 : tie.Need-returns-5
-returns-5 c = turn-as _ (c .before .before .before .before .before .before .before .before .args .p) _ (c .before .before .before .before .before .read .result) (c .before .before .before .before .before .read .ensures) _ (c .before .before .asked4 .given .1) (end-taken (c .before .before .before .before .before .before .before .before .args .p) _ _ _ (c .passed2 .ensures))
+returns-4 c =
+    let r = c .before .before .before .before .before in
+    let p = r .before .before .before .args .p in
+    turn-as _ p _ (r .read .result) (r .read .ensures) _ (c .before .before .asked3 .given .1) (end-taken p _ _ _ (c .passed2 .ensures))
 
 pub take-line-spec : {M : Type 1} → statement M
 take-line-spec =
@@ -72,16 +72,12 @@ take-line-spec =
     enum-known-asked
     tabled-requires
     enum-known-asked-2
-    queried-requires
+    evented-requires
     enum-known-asked-3
-    changed-requires
-    enum-known-asked-4
     passed-requires-2
     returns
     same-length
     returns-2
     same-length-2
     returns-3
-    same-length-3
-    returns-4
-    returns-5)
+    returns-4)

@@ -1,9 +1,9 @@
--- `replaying::changes::kept` meets its contract.
+-- `replaying::events::kept` meets its contract.
 -- Assumes nothing.
 use native.Mathlib.Omega.{arith}
 use borrow.Author.Needs.{needs}
-use Rattle.replaying.proofs.changes.kept.Statement.{statement}
-use Rattle.replaying.proofs.changes.kept.Tie as tie
+use Rattle.replaying.proofs.events.kept.Statement.{statement}
+use Rattle.replaying.proofs.events.kept.Tie as tie
 
 enum-told : tie.Need-enum-told
 enum-told c = search needs
