@@ -15,10 +15,18 @@ ghost use mathlib.Core.Path.{_≡_};
 ghost use mathlib.Core.List.{[], _∷_};
 ghost use Prim.Native.Nat.{_+_, _^_, _≤_, _<_};
 ghost use lib.ListN.{length};
-ghost use Rattle.rules.specs.Words.{keyWord};
-ghost use Rattle.rules.specs.Stores.{putStores, clearStores, moveStores, placingStores, redoStores};
+ghost use Rattle.rules.specs.Stores.{putStores, clearStores, moveStores, placingStores, redoStores, logStores};
 ghost use Rattle.reading.specs.Within.{SlotWithin};
 ghost use Rattle.listing.specs.Listing.{Room, listedAt, Run, Addressed, Takes};
+
+// "update flag"; "update target, function, place"
+const FLAG: usize = 5;
+
+const TARGET: usize = 6;
+
+const FUNCTION: usize = 7;
+
+const PLACE: usize = 8;
 
 // "pairs: word index, new word"
 pub fn store(list: &mut [u64], at: usize, index: usize, word: u64) -> usize
@@ -60,18 +68,18 @@ pub fn redo(list: &mut [u64], at: usize, x: Slot, r: Record) -> usize
     let key = key_word(x);
     let second = store(list, at, key + 1, r.function);
     let third = store(list, second, key + 2, r.place);
-    store(list, third, 5, 0)
+    store(list, third, FLAG, 0)
 }
 
 // "words 6, 7, 8; flag 1", where "Word 6 holds the index of the slot's key word."
 pub fn log(list: &mut [u64], at: usize, x: Slot, r: Record) -> usize
     requires { ⌜ Room (now list) (at + 4) × Addressed x ⌝ }
-    ensures { λ n. ⌜ (n ≡ at + 4) × (now (list .exit) ≡ listedAt (now (list .entry)) at ((6, keyWord x) ∷ (7, r .function) ∷ (8, r .place) ∷ (5, 1) ∷ [])) ⌝ }
+    ensures { λ n. ⌜ (n ≡ at + 4) × (now (list .exit) ≡ listedAt (now (list .entry)) at (logStores x r)) ⌝ }
 {
-    let second = store(list, at, 6, key_word(x) as u64);
-    let third = store(list, second, 7, r.function);
-    let fourth = store(list, third, 8, r.place);
-    store(list, fourth, 5, 1)
+    let second = store(list, at, TARGET, key_word(x) as u64);
+    let third = store(list, second, FUNCTION, r.function);
+    let fourth = store(list, third, PLACE, r.place);
+    store(list, fourth, FLAG, 1)
 }
 
 // A move: "the item's three words and token at its new slot; old token cleared"
