@@ -7,11 +7,11 @@ use mathlib.Core.Option.{Option·map}
 use native.Mathlib.Omega.{arith}
 use denote.Enum.Declared.{tagOf}
 use types.Run.{OneOf}
-use Rattle.rules.specs.Words.{Table, placeOf, keyWord, tokenOf, hide}
+use Rattle.rules.specs.Words.{Table, placeOf, tokenOf, hide}
 use Rattle.rules.specs.Places.{lookup}
 use Rattle.rules.specs.Placing.{freeSlot, placing}
 use Rattle.rules.specs.Answers.{LookupTells}
-use Rattle.rules.specs.Stores.{putStores, clearStores, placingStores, redoStores, updateStores}
+use Rattle.rules.specs.Stores.{putStores, clearStores, placingStores, logStores, redoStores, updateStores}
 use Rattle.rules.specs.Calls.{refused, listed, insertIn, updateIn, deleteIn}
 use Rattle.rules.specs.declared.Header.{Header}
 use Rattle.rules.specs.declared.Slot.{Slot}
@@ -79,9 +79,9 @@ module _ (t : Table) (h : Header) (l : List ℕ) (x : Slot) (key : ℕ) (r : Rec
   renew-free {y} e f g s = rw (is-free e (freeSlot t h (placeOf x)) o, ← f, ← g) (s, omega (arith, s .0))
 
   pub renew-full : {n₁ n₂ : ℕ} {l₁ l₂ : List ℕ} → OneOf (1 ∷ 2 ∷ []) (tagOf placing-type p)
-      → (n₁ ≡ 0 + 4) × (l₁ ≡ listedAt l 0 ((6, keyWord x) ∷ (7, r .function) ∷ (8, r .place) ∷ (5, 1) ∷ [])) → (n₂ ≡ n₁ + 3) × (l₂ ≡ listedAt l₁ n₁ (redoStores x r))
+      → (n₁ ≡ 0 + 4) × (l₁ ≡ listedAt l 0 (logStores x r)) → (n₂ ≡ n₁ + 3) × (l₂ ≡ listedAt l₁ n₁ (redoStores x r))
       → Run n₂ l l₂ (updateStores t h x key r) × (n₂ ≤ 7)
   unfolding updateStores redoStores
   renew-full k s₁ s₂ =
       rw (not-free p k (freeSlot t h (placeOf x)) o)
-      ((omega (arith, s₁ .0, s₂ .0), then l 0 ((6, keyWord x) ∷ (7, r .function) ∷ (8, r .place) ∷ (5, 1) ∷ []) (redoStores x r) (s₁ .1) (s₁ .0) (s₂ .1)), omega (arith, s₁ .0, s₂ .0))
+      ((omega (arith, s₁ .0, s₂ .0), then l 0 (logStores x r) (redoStores x r) (s₁ .1) (s₁ .0) (s₂ .1)), omega (arith, s₁ .0, s₂ .0))

@@ -19,8 +19,7 @@ ghost use mathlib.Core.Path.{_≡_};
 ghost use mathlib.Core.List.{[], _∷_};
 ghost use Prim.Native.Nat.{_+_, _^_, _≤_, _<_};
 ghost use lib.ListN.{length};
-ghost use Rattle.rules.specs.Words.{keyWord};
-ghost use Rattle.rules.specs.Stores.{putStores, clearStores, moveStores, placingStores, redoStores};
+ghost use Rattle.rules.specs.Stores.{putStores, clearStores, moveStores, placingStores, redoStores, logStores};
 ghost use Rattle.reading.specs.Within.{SlotWithin};
 ghost use Rattle.listing.specs.Listing.{Room, listedAt, Run, Addressed, Takes};
 
@@ -70,7 +69,7 @@ pub fn redo(list: &mut [u64], at: usize, x: Slot, r: Record) -> usize
 // "words 6, 7, 8; flag 1", where "Word 6 holds the index of the slot's key word."
 pub fn log(list: &mut [u64], at: usize, x: Slot, r: Record) -> usize
     requires { ⌜ Room (now list) (at + 4) × Addressed x ⌝ }
-    ensures { λ n. ⌜ (n ≡ at + 4) × (now (list .exit) ≡ listedAt (now (list .entry)) at ((6, keyWord x) ∷ (7, r .function) ∷ (8, r .place) ∷ (5, 1) ∷ [])) ⌝ }
+    ensures { λ n. ⌜ (n ≡ at + 4) × (now (list .exit) ≡ listedAt (now (list .entry)) at (logStores x r)) ⌝ }
 {
     let second = store(list, at, TARGET, key_word(x) as u64);
     let third = store(list, second, LOGGED_FUNCTION, r.function);

@@ -55,7 +55,7 @@ module _ (t : Table) (m : PlainMap) (whole : SoundMap t m) (x : Slot) (here : In
       let flag : flagOf u ≡ 0 = made-kept t xs 5 (hidden-misses x (here .slot) 5 (not-flag x (here .slot)) xs hidden) ∙ o .flag in
       let good = o .header .state in
       let carried = unseen (headerOf t .c) t u x near good here token same in
-      let orderly = unseen-orderly (headerOf t .c) t u x near good here 0 0 o token same flag in
+      let orderly = unseen-orderly (headerOf t .c) t u x near good here token same 0 0 o flag in
       record {
         sound = record { orderly = orderly; alone = kept-alone t u _ (orderly .header .state) m (whole .map) carried (whole .sound .alone) };
         map = kept-map t u _ (orderly .header .state) m (whole .map) carried;

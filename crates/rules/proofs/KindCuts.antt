@@ -4,14 +4,14 @@
 use Prim.Native.Nat.{ℕ, _+_, _*_, _≤_}
 use mathlib.Core.Path.{_≡_, refl}
 use mathlib.Core.Bool.{false}
-use mathlib.Core.List.{List, [], _∷_, List·Memᴰ as In}
+use mathlib.Core.List.{List, [], _∷_, _++_, List·Memᴰ as In}
 use mathlib.Core.Option.{some}
 use mathlib.Core.Logic.{inl, inr}
 use native.Mathlib.Omega.{arith}
-use lib.ListN.{length}
+use lib.ListN.{length, take}
 use Rattle.rules.specs.Words.{Table, headerOf, InUse, flagOf, loggedOf, placeOf, tokenWord, keyWord, functionWord, placeWord, keyIn, recordIn, tokenOf, taken}
 use Rattle.rules.specs.Places.{placesOf}
-use Rattle.rules.specs.Stores.{Store, putStores, clearStores, moveStores, redoStores, made}
+use Rattle.rules.specs.Stores.{Store, putStores, clearStores, moveStores, logStores, redoStores, made}
 use Rattle.rules.specs.Soundness.{TakenSlot, PlainMap, FlaggedTable}
 use Rattle.rules.specs.Demands.{changed}
 use Rattle.rules.specs.declared.Header.{Header}
@@ -81,17 +81,8 @@ module _ (t : Table) (m : PlainMap) (whole : SoundMap t m) (x : Slot) (item : Ta
   )
 
   -- "words 6, 7, 8", and then "flag 1"
-  one : List Store
-  one = (6, keyWord x) ∷ []
-
-  two : List Store
-  two = (6, keyWord x) ∷ (7, r .function) ∷ []
-
-  three : List Store
-  three = (6, keyWord x) ∷ (7, r .function) ∷ (8, r .place) ∷ []
-
   logged : List Store
-  logged = (6, keyWord x) ∷ (7, r .function) ∷ (8, r .place) ∷ (5, 1) ∷ []
+  logged = logStores x r
 
   log-near : Touched t (made t logged) x
   unfolding logged
@@ -110,7 +101,7 @@ module _ (t : Table) (m : PlainMap) (whole : SoundMap t m) (x : Slot) (item : Ta
       let good = o .header .state in
       let carried = unseen (headerOf t .c) t u x log-near good (item .used) log-token (λ q. kept) in
       let flag = made-left t logged 5 1 (omega (arith, within)) (inr (inr (inr (inl (refl, refl, tt))))) in
-      let orderly = unseen-orderly (headerOf t .c) t u x log-near good (item .used) 0 1 o log-token (λ q. kept) flag in
+      let orderly = unseen-orderly (headerOf t .c) t u x log-near good (item .used) log-token (λ q. kept) 0 1 o flag in
       record {
         orderly = orderly;
         alone = kept-alone t u _ (orderly .header .state) m (whole .map) carried (whole .sound .alone);
@@ -130,18 +121,21 @@ module _ (t : Table) (m : PlainMap) (whole : SoundMap t m) (x : Slot) (item : Ta
 
   -- "words 6, 7, 8; flag 1; function, place in the slot; flag 0": the log is not seen, and then it can be made again
   pub log-cuts : (P : Table → Type 0) → ((u : Table) → SoundMap u m → P u) → ((u : Table) → Mends u (changed m (keyIn t x) (some r)) → P u)
-      → EveryCut P t ((6, keyWord x) ∷ (7, r .function) ∷ (8, r .place) ∷ (5, 1) ∷ redoStores x r)
-  unfolding one two three logged
+      → EveryCut P t (logStores x r ++ redoStores x r)
+  unfolding logged
   log-cuts P before after =
       let blank : (xs : List Store) → Each (Hidden x) xs → Each Log xs → P (made t xs) = λ xs e f. before (made t xs) (blank-sound t m whole x (item .used) xs e (λ q. log-item xs f)) in
       let rest = cuts-weaken (λ (u : Table). Mends u (changed m (keyIn t x) (some r))) P after (made t logged) (redoStores x (loggedOf (made t logged))) (redo-cuts (made t logged) _ x redoing) in
       let again : EveryCut P (made t logged) (redoStores x r) = rw log-words at rest in (
         before t whole,
         (
-          blank one (inl (omega arith), tt) (omega arith, tt),
+          blank (take 1 (logStores x r)) (inl (omega arith), tt) (omega arith, tt),
           (
-            blank two (inl (omega arith), (inl (omega arith), tt)) (omega arith, (omega arith, tt)),
-            (blank three (inl (omega arith), (inl (omega arith), (inl (omega arith), tt))) (omega arith, (omega arith, (omega arith, tt))), again),
+            blank (take 2 (logStores x r)) (inl (omega arith), (inl (omega arith), tt)) (omega arith, (omega arith, tt)),
+            (
+              blank (take 3 (logStores x r)) (inl (omega arith), (inl (omega arith), (inl (omega arith), tt))) (omega arith, (omega arith, (omega arith, tt))),
+              again,
+            ),
           ),
         ),
       )

@@ -5,13 +5,13 @@
 use Prim.Native.Nat.{ℕ, _+_, _*_, _≤_, _<_}
 use mathlib.Core.Path.{_≡_, refl, sym, ap, _∙_}
 use mathlib.Core.Bool.{true, false}
-use mathlib.Core.List.{_∷_, List·Memᴰ as In}
+use mathlib.Core.List.{_++_, List·Memᴰ as In}
 use mathlib.Core.Logic.{_⊎_, inl, inr}
 use mathlib.Core.Option.{none, some}
 use lib.ListN.{length}
 use Rattle.rules.specs.Words.{Table, GoodState, headerOf, InUse, placeOf, keyWord, keyIn, recordIn, tokenOf, keysOf, isTaken, taken, show, hide}
 use Rattle.rules.specs.Places.{placesOf}
-use Rattle.rules.specs.Stores.{putStores, clearStores, redoStores, made}
+use Rattle.rules.specs.Stores.{putStores, clearStores, logStores, redoStores, made}
 use Rattle.rules.specs.Soundness.{TakenSlot, OrderlyTable, SoundTable, PlainMap, HasMap}
 use Rattle.rules.specs.Demands.{changed}
 use Rattle.rules.specs.declared.Place.{Place}
@@ -74,7 +74,9 @@ module _ (t : Table) (m : PlainMap) (whole : SoundMap t m) where
     put-shown = shown-after 0 t put x _ key r orderly here put-writes (bit .here)
 
     put-orderly : OrderlyTable 0 put
-    put-orderly = written-orderly 0 t put x _ key r orderly here put-writes (show-follows (headerOf t) _ _ _ (x .slot) key (here .slot)) Nothing (Only x) put-carries (placed-here 0 t put x _ key r orderly here put-writes among)
+    put-orderly =
+        written-orderly 0 t put x _ key r orderly here put-writes (show-follows (headerOf t) _ _ _ (x .slot) key (here .slot)) Nothing (Only x) put-carries
+        (placed-here 0 t put x _ key r orderly here put-writes among)
 
     pub put-sound : m key ≡ none → Becomes t put (changed m key (some r))
     put-sound absent =
@@ -143,7 +145,9 @@ module _ (t : Table) (o : OrderlyTable 0 t) (x : Slot) (there : TakenSlot t x) w
   clear-carries = clear-carried 0 t cleared x _ _ _ o (there .used) clear-writes clear-bit
 
   clear-orderly : OrderlyTable 0 cleared
-  clear-orderly = written-orderly 0 t cleared x _ _ _ o (there .used) clear-writes (hide-follows (headerOf t) _ _ _ (x .slot) (keyIn t x) (there .used .slot)) (Only x) Nothing clear-carries (λ z a n. absurd n)
+  clear-orderly =
+      written-orderly 0 t cleared x _ _ _ o (there .used) clear-writes (hide-follows (headerOf t) _ _ _ (x .slot) (keyIn t x) (there .used .slot))
+      (Only x) Nothing clear-carries (λ z a n. absurd n)
 
   pub good-cleared : GoodState (headerOf t .c) (headerOf cleared .state)
   good-cleared = good-after 0 t cleared x _ _ _ o (there .used) clear-writes
@@ -195,7 +199,8 @@ place-bucket z x e = ap (λ (p : Place). p .bucket) e
 module _ (t : Table) (m : PlainMap) (whole : SoundMap t m) (x : Slot) (there : TakenSlot t x) (r : Record) where
   -- u has r in slot z, under x's key, and x's item no more
   replaced : (u : Table) (z : Slot) (v : ℕ) → InUse (headerOf t .state) z → SlotWritten t u z v (keyIn t x) r
-      → Follows (headerOf t) (tokenOf t (z .bucket)) v (keysOf t (z .bucket)) (keysOf u (z .bucket)) (z .slot) (keyIn t x) → isTaken (headerOf t) v (z .slot) ≡ true
+      → Follows (headerOf t) (tokenOf t (z .bucket)) v (keysOf t (z .bucket)) (keysOf u (z .bucket)) (z .slot) (keyIn t x)
+      → isTaken (headerOf t) v (z .slot) ≡ true
       → In (placeOf z) (placesOf (headerOf t) (keyIn t x)) → Carried t u (Only x) (Only z) → Becomes t u (changed m (keyIn t x) (some r))
   replaced u z v here writes follows bit among carried =
       let o = whole .sound .orderly in
@@ -222,13 +227,14 @@ module _ (t : Table) (m : PlainMap) (whole : SoundMap t m) (x : Slot) (there : T
   among-places = placed-in 0 t (whole .sound .orderly) x there
 
   -- "words 6, 7, 8; flag 1; function, place in the slot; flag 0"
-  pub log-sound : Becomes t (made t ((6, keyWord x) ∷ (7, r .function) ∷ (8, r .place) ∷ (5, 1) ∷ redoStores x r)) (changed m (keyIn t x) (some r))
+  pub log-sound : Becomes t (made t (logStores x r ++ redoStores x r)) (changed m (keyIn t x) (some r))
   unfolding taken keysOf keyIn keyWord
   log-sound =
       let o = whole .sound .orderly in
       let used = there .used in
       let writes = log-written t x (used .slot) (slot-within (length t) (headerOf t) (o .header) x used .0) r (o .flag) in
-      replaced _ x (tokenOf t (x .bucket)) used writes (kept-follows (headerOf t) _ _ _ (x .slot) _ (λ q. refl)) (there .shown) among-places (rewrite-carried 0 t _ x _ _ _ o used writes refl)
+      replaced _ x (tokenOf t (x .bucket)) used writes (kept-follows (headerOf t) _ _ _ (x .slot) _ (λ q. refl)) (there .shown) among-places
+      (rewrite-carried 0 t _ x _ _ _ o used writes refl)
 
   -- "three words to its lowest free slot; one token store that sets it and clears the old"
   pub beside-sound : (z : Slot) → placeOf z ≡ placeOf x → z .slot < 4 → taken t (headerOf t) z ≡ false

@@ -41,18 +41,19 @@ module _ (f : ℕ) (t u : Table) (x : Slot) (v key : ℕ) (r : Record) (o : Orde
   unfolding taken
   put-carried bit free =
       turned (headerOf t .c) t u x (written .near) good here Nothing (Only x) (λ y n g. g)
-      (λ y used b n. inl (rw (written .token) (bit .other (y .slot) (used .slot) n), λ g. g)) (λ q. never q free) (λ q. refl)
+      (λ y used b n. inl (rw (written .token) (bit .other (y .slot) (used .slot) n), λ g. g)) (inr (λ q. never q free, λ q. refl))
 
   pub clear-carried : Bit (headerOf t) (tokenOf t (x .bucket)) v (x .slot) false → Carried t u (Only x) Nothing
+  unfolding taken
   clear-carried bit =
       turned (headerOf t .c) t u x (written .near) good here (Only x) Nothing (elsewhere x refl)
       (λ y used b n. inl (rw (written .token) (bit .other (y .slot) (used .slot) n), λ g. n (ap (λ (s : Slot). s .slot) g)))
-      (λ q. refl) (λ q. never (rw (written .token) at q) (bit .here))
+      (inr (λ q. refl, λ q. never (rw (written .near .header, written .token) at q) (bit .here)))
 
   pub rewrite-carried : v ≡ tokenOf t (x .bucket) → Carried t u (Only x) (Only x)
   rewrite-carried e =
       turned (headerOf t .c) t u x (written .near) good here (Only x) (Only x) (elsewhere x refl)
-      (λ y used b n. inl (rw (written .token, e), λ g. n (ap (λ (s : Slot). s .slot) g))) (λ q. refl) (λ q. refl)
+      (λ y used b n. inl (rw (written .token, e), λ g. n (ap (λ (s : Slot). s .slot) g))) (inr (λ q. refl, λ q. refl))
 
   -- one token store sets x and clears a, a slot of the same bucket
   pub beside-carried : (a : Slot) → InUse (headerOf t .state) a → a .bucket ≡ x .bucket → (w : ℕ) → Bit (headerOf t) (tokenOf t (x .bucket)) w (a .slot) false → Bit (headerOf t) w v (x .slot) true
@@ -60,7 +61,7 @@ module _ (f : ℕ) (t u : Table) (x : Slot) (v key : ℕ) (r : Record) (o : Orde
   unfolding taken
   beside-carried a used b w cleared set free apart =
       turned (headerOf t .c) t u x (written .near) good here (Only a) (Only x) (elsewhere a b)
-      (λ y in-use same n. go y in-use same n (ℕ-discrete (y .slot) (a .slot))) (λ q. never q free) (λ q. refl)
+      (λ y in-use same n. go y in-use same n (ℕ-discrete (y .slot) (a .slot))) (inr (λ q. never q free, λ q. refl))
     where
       go : (y : Slot) → InUse (headerOf t .state) y → y .bucket ≡ x .bucket → (y .slot ≡ x .slot → ⊥) → Dec (y .slot ≡ a .slot)
           → ((isTaken (headerOf t) (tokenOf u (x .bucket)) (y .slot) ≡ isTaken (headerOf t) (tokenOf t (x .bucket)) (y .slot)) × (Only a y → ⊥))

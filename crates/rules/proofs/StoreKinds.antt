@@ -3,12 +3,12 @@
 -- Assumes nothing.
 use Prim.Native.Nat.{ℕ, _+_, _*_, _≤_, _<_}
 use mathlib.Core.Path.{_≡_, refl, sym, _∙_}
-use mathlib.Core.List.{List, _∷_}
+use mathlib.Core.List.{List, _++_}
 use mathlib.Core.Logic.{inl, inr}
 use native.Mathlib.Omega.{arith}
 use lib.ListN.{length}
 use Rattle.rules.specs.Words.{Table, flagOf, tokenWord, keyWord, functionWord, placeWord, keyIn, recordIn, tokenOf, show, hide}
-use Rattle.rules.specs.Stores.{Store, putStores, clearStores, redoStores, made}
+use Rattle.rules.specs.Stores.{Store, putStores, clearStores, logStores, redoStores, made}
 use Rattle.rules.specs.declared.Header.{Header}
 use Rattle.rules.specs.declared.Slot.{Slot}
 use Rattle.rules.specs.declared.Record.{Record}
@@ -56,10 +56,10 @@ module _ (t : Table) (x : Slot) (low : x .slot < 4) (within : 9 + 13 * x .bucket
       }
 
   -- "words 6, 7, 8; flag 1; function, place in the slot; flag 0", from flag 0
-  pub log-written : (r : Record) → flagOf t ≡ 0 → SlotWritten t (made t ((6, keyWord x) ∷ (7, r .function) ∷ (8, r .place) ∷ (5, 1) ∷ redoStores x r)) x (tokenOf t (x .bucket)) (keyIn t x) r
+  pub log-written : (r : Record) → flagOf t ≡ 0 → SlotWritten t (made t (logStores x r ++ redoStores x r)) x (tokenOf t (x .bucket)) (keyIn t x) r
   unfolding redoStores tokenOf keyIn recordIn flagOf tokenWord keyWord functionWord placeWord
   log-written r clear =
-      let xs : List Store = (6, keyWord x) ∷ (7, r .function) ∷ (8, r .place) ∷ (5, 1) ∷ redoStores x r in
+      let xs : List Store = logStores x r ++ redoStores x r in
       record {
         near = touched x low t xs (inl (omega arith), (inl (omega arith), (inl (omega arith), (inl (omega arith), (inr (inr (omega arith)), (inr (inr (omega arith)), (inl (omega arith), tt)))))));
         token = made-kept t xs (tokenWord (x .bucket)) (omega arith, (omega arith, (omega arith, (omega arith, (omega arith, (omega arith, (omega arith, tt)))))));

@@ -51,15 +51,13 @@ number-again : (w : ℕ) → tokenNumber (tokenNumber w) ≡ tokenNumber w
 number-again w = number-of-low (tokenNumber w) (number-low w)
 
 -- a computed test of all numbers below n, and what one of all sixteen token numbers says of a word's
-below : ℕ → (ℕ → Bool) → Bool
+abbrev below : ℕ → (ℕ → Bool) → Bool
 below n p = all (map p (from 0 n))
 
 below-all : (n : ℕ) (p : ℕ → Bool) → below n p ≡ true → (i : ℕ) → i < n → p i ≡ true
-unfolding below
 below-all n p e i l = tells-all p _ (λ x. Iff·rfl) (from 0 n) .0 e i (in-from 0 n i (omega arith) (omega arith))
 
-pub number-tested : (p : ℕ → Bool) → all (map p (from 0 16)) ≡ true → (w : ℕ) → p (tokenNumber w) ≡ true
-unfolding below
+pub number-tested : (p : ℕ → Bool) → below 16 p ≡ true → (w : ℕ) → p (tokenNumber w) ≡ true
 number-tested p e w = below-all 16 p e (tokenNumber w) (number-low w)
 
 -- "a token store is always below 16"
@@ -110,11 +108,11 @@ module _ (h : Header) where
       }
 
   pub show-bit : (w s key : ℕ) → s < 4 → Bit h w (show h w s key) s true
-  unfolding show isTaken tokenNumber below changesTest bitOf
+  unfolding show isTaken tokenNumber changesTest bitOf
   show-bit w s key sl = changes (λ v z. show h v z key) 1 refl w s sl (rw (taken-number w s, number-again w))
 
   pub hide-bit : (w s : ℕ) → s < 4 → Bit h w (hide h w s) s false
-  unfolding hide isTaken tokenNumber below changesTest bitOf
+  unfolding hide isTaken tokenNumber changesTest bitOf
   hide-bit w s sl = changes (λ v z. hide h v z) 0 refl w s sl (rw (taken-number w s, number-again w))
 
 -- ---- what should stand there

@@ -121,9 +121,9 @@ module _ (c : ℕ) (t u : Table) (x : Slot) (near : Touched t u x) (good : GoodS
   -- a slot beside x, in its bucket: it stays, or it is gone
   pub turned : (Gone New : Slot → Type 0) → ((y : Slot) → (y .bucket ≡ x .bucket → ⊥) → Gone y → ⊥)
       → ((y : Slot) → InUse (headerOf t .state) y → y .bucket ≡ x .bucket → (y .slot ≡ x .slot → ⊥) → ((bitAfter (y .slot) ≡ bitBefore (y .slot)) × (Gone y → ⊥)) ⊎ (Gone y × (bitAfter (y .slot) ≡ false)))
-      → (bitBefore (x .slot) ≡ true → Gone x) → (bitAfter (x .slot) ≡ true → New x) → Carried t u Gone New
+      → Seen t u Gone New x → Carried t u Gone New
   unfolding taken
-  turned Gone New apart beside gone new = slotwise t u (near .header) Gone New (λ y used. go y used (ℕ-discrete (y .bucket) (x .bucket)) (ℕ-discrete (y .slot) (x .slot)))
+  turned Gone New apart beside itself = slotwise t u (near .header) Gone New (λ y used. go y used (ℕ-discrete (y .bucket) (x .bucket)) (ℕ-discrete (y .slot) (x .slot)))
     where
       neighbour : (y : Slot) → InUse (headerOf t .state) y → y .bucket ≡ x .bucket → (y .slot ≡ x .slot → ⊥) → ((bitAfter (y .slot) ≡ bitBefore (y .slot)) × (Gone y → ⊥)) ⊎ (Gone y × (bitAfter (y .slot) ≡ false)) → Seen t u Gone New y
       neighbour y used b n (inl (e, g)) = inl (stays y (used .slot) (λ q. n) (λ q. e), g)
@@ -132,25 +132,7 @@ module _ (c : ℕ) (t u : Table) (x : Slot) (near : Touched t u x) (good : GoodS
       go : (y : Slot) → InUse (headerOf t .state) y → Dec (y .bucket ≡ x .bucket) → Dec (y .slot ≡ x .slot) → Seen t u Gone New y
       go y used (no n) d = inl (stays y (used .slot) (λ q. absurd (n q)) (λ q. absurd (n q)), apart y n)
       go y used (yes b) (no n) = neighbour y used b n (beside y used b n)
-      go y used (yes b) (yes s) =
-          let same : y ≡ x = slot-by-bucket (headerOf t .state) c good y x used here b s in
-          rw same (inr (gone, λ q. new (rw (near .header) at q)))
-
-  -- where the token word stays, and x is free or keeps its item, nothing is seen of the stores
-  pub unseen : tokenOf u (x .bucket) ≡ tokenOf t (x .bucket) → (taken t (headerOf t) x ≡ true → (keyIn u x ≡ keyIn t x) × (recordIn u x ≡ recordIn t x)) → Carried t u Nothing Nothing
-  unfolding taken
-  unseen token same = slotwise t u (near .header) Nothing Nothing (λ y used. go y used (ℕ-discrete (y .bucket) (x .bucket)) (ℕ-discrete (y .slot) (x .slot)))
-    where
-      itself : (b : Bool) → taken t (headerOf t) x ≡ b → Seen t u Nothing Nothing x
-      itself true q = inl (record { shown = rw (near .header, token); key = same q .0; value = same q .1 }, λ g. g)
-      itself false q = inr (λ e. never e q, λ e. never (rw (near .header, token) at e) q)
-
-      go : (y : Slot) → InUse (headerOf t .state) y → Dec (y .bucket ≡ x .bucket) → Dec (y .slot ≡ x .slot) → Seen t u Nothing Nothing y
-      go y used (no n) d = inl (stays y (used .slot) (λ q. absurd (n q)) (λ q. absurd (n q)), λ g. g)
-      go y used (yes b) (no n) = inl (stays y (used .slot) (λ q. n) (λ q. rw token), λ g. g)
-      go y used (yes b) (yes s) =
-          let e : y ≡ x = slot-by-bucket (headerOf t .state) c good y x used here b s in
-          rw e (itself (taken t (headerOf t) x) refl)
+      go y used (yes b) (yes s) = let same : y ≡ x = slot-by-bucket (headerOf t .state) c good y x used here b s in rw same itself
 
   -- ---- what stays orderly
 
@@ -162,7 +144,8 @@ module _ (c : ℕ) (t u : Table) (x : Slot) (near : Touched t u x) (good : GoodS
   unfolding keysOf keyIn keyWord
   rekeyed = record { here = refl; other = λ z l d. keys-kept (x .bucket) z l (λ b. d) }
 
-  pub touched-orderly : (f g : ℕ) → OrderlyTable f t → Follows (headerOf t) (tokenOf t (x .bucket)) (tokenOf u (x .bucket)) (keysOf t (x .bucket)) (keysOf u (x .bucket)) (x .slot) (keyIn u x)
+  pub touched-orderly : (f g : ℕ) → OrderlyTable f t
+      → Follows (headerOf t) (tokenOf t (x .bucket)) (tokenOf u (x .bucket)) (keysOf t (x .bucket)) (keysOf u (x .bucket)) (x .slot) (keyIn u x)
       → flagOf u ≡ g → Placed u → OrderlyTable g u
   unfolding meantOf
   touched-orderly f g o follows flag placed = record {
@@ -181,10 +164,19 @@ module _ (c : ℕ) (t u : Table) (x : Slot) (near : Touched t u x) (good : GoodS
       unused j l free (yes e) = absurd (free (here .level) (here .used) (rw e (here .bucket)))
       unused j l free (no n) = near .tokens j n ∙ o .unused j l free
 
-  -- where nothing is seen
-  pub unseen-orderly : (f g : ℕ) → OrderlyTable f t → tokenOf u (x .bucket) ≡ tokenOf t (x .bucket) → (taken t (headerOf t) x ≡ true → (keyIn u x ≡ keyIn t x) × (recordIn u x ≡ recordIn t x))
-      → flagOf u ≡ g → OrderlyTable g u
-  unfolding taken keysOf keyIn keyWord
-  unseen-orderly f g o token same flag =
-      touched-orderly f g o (λ m k. rw token (kept-follows (headerOf t) _ _ _ (x .slot) _ (λ q. same q .0) m k)) flag
-      (carried-placed t u Nothing Nothing (unseen token same) (near .header) (o .placed) (λ z a n. absurd n))
+  -- where the token word stays, and x is free or keeps its item, nothing is seen of the stores
+  module _ (token : tokenOf u (x .bucket) ≡ tokenOf t (x .bucket))
+      (same : taken t (headerOf t) x ≡ true → (keyIn u x ≡ keyIn t x) × (recordIn u x ≡ recordIn t x)) where
+    pub unseen : Carried t u Nothing Nothing
+    unfolding taken
+    unseen = turned Nothing Nothing (λ y n g. g) (λ y used b n. inl (rw token, λ g. g)) (itself (taken t (headerOf t) x) refl)
+      where
+        itself : (b : Bool) → taken t (headerOf t) x ≡ b → Seen t u Nothing Nothing x
+        itself true q = inl (record { shown = rw (near .header, token); key = same q .0; value = same q .1 }, λ g. g)
+        itself false q = inr (λ e. never e q, λ e. never (rw (near .header, token) at e) q)
+
+    pub unseen-orderly : (f g : ℕ) → OrderlyTable f t → flagOf u ≡ g → OrderlyTable g u
+    unfolding taken keysOf keyIn keyWord
+    unseen-orderly f g o flag =
+        touched-orderly f g o (λ m k. rw token (kept-follows (headerOf t) _ _ _ (x .slot) _ (λ q. same q .0) m k)) flag
+        (carried-placed t u Nothing Nothing unseen (near .header) (o .placed) (λ z a n. absurd n))

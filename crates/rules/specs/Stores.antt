@@ -6,7 +6,7 @@ use Prim.Native.Nat.{ℕ, zero, suc, _+_, _*_}
 use mathlib.Core.List.{List, [], _∷_, _++_}
 use mathlib.Core.Option.{Option, none, some}
 use lib.ListN.{length, drop, set}
-use Rattle.rules.specs.Words.{Table, stateWord, placeOf, keyWord, functionWord, placeWord, keyIn, recordIn, tokenWord, tokenOf, show, hide}
+use Rattle.rules.specs.Words.{Table, stateWord, wordOfState, wordOfFlag, wordOfTarget, wordOfFunction, wordOfPlace, placeOf, keyWord, functionWord, placeWord, keyIn, recordIn, tokenWord, tokenOf, show, hide}
 use Rattle.rules.specs.Placing.{freeSlot}
 use Rattle.rules.specs.declared.State.{State}
 use Rattle.rules.specs.declared.Header.{Header}
@@ -43,14 +43,17 @@ placingStores t h Nowhere key r = []
 
 -- "function, place in the slot; flag 0"; as recovery has it, "function and place from words 7 and 8, then flag 0"
 unfoldable pub redoStores : Slot → Record → List Store
-redoStores x r = (functionWord x, r .function) ∷ (placeWord x, r .place) ∷ (5, 0) ∷ []
+redoStores x r = (functionWord x, r .function) ∷ (placeWord x, r .place) ∷ (wordOfFlag, 0) ∷ []
+
+-- "words 6, 7, 8; flag 1". "Word 6 holds the index of the slot's key word."
+abbrev pub logStores : Slot → Record → List Store
+logStores x r = (wordOfTarget, keyWord x) ∷ (wordOfFunction, r .function) ∷ (wordOfPlace, r .place) ∷ (wordOfFlag, 1) ∷ []
 
 -- "update, bucket has a free slot | three words to its lowest free slot; one token store that sets it and clears the old"
 -- "update, bucket full | words 6, 7, 8; flag 1; function, place in the slot; flag 0"
--- "Word 6 holds the index of the slot's key word."
 abbrev pub updateWith : Table → Header → Slot → Option Slot → ℕ → Record → List Store
 updateWith t h x (some free) key r = putStores h (hide h (tokenOf t (x .bucket)) (x .slot)) free key r
-updateWith t h x none key r = (6, keyWord x) ∷ (7, r .function) ∷ (8, r .place) ∷ (5, 1) ∷ redoStores x r
+updateWith t h x none key r = logStores x r ++ redoStores x r
 
 unfoldable pub updateStores : Table → Header → Slot → ℕ → Record → List Store
 updateStores t h x key r = updateWith t h x (freeSlot t h (placeOf x)) key r
@@ -63,10 +66,10 @@ abbrev pub endedOf : State → State
 endedOf s = record { k = s .k; phase = 0 }
 
 unfoldable pub beginStores : State → List Store
-beginStores s = (4, stateWord (begunOf s)) ∷ []
+beginStores s = (wordOfState, stateWord (begunOf s)) ∷ []
 
 unfoldable pub endStores : State → List Store
-endStores s = (4, stateWord (endedOf s)) ∷ []
+endStores s = (wordOfState, stateWord (endedOf s)) ∷ []
 
 -- "growth step | placing of the first taken interim slot .., then its interim token cleared"
 unfoldable pub stepStores : Table → Header → Slot → Placing → List Store

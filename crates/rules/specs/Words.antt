@@ -41,19 +41,34 @@ stateWord s = s .k + 256 * s .phase
 unfoldable pub atRest : State → Bool
 atRest s = eqb (s .phase) 0
 
+-- words 4 to 8: "state", "update flag", "update target, function, place"
+abbrev pub wordOfState : ℕ
+wordOfState = 4
+
+abbrev pub wordOfFlag : ℕ
+wordOfFlag = 5
+
+abbrev pub wordOfTarget : ℕ
+wordOfTarget = 6
+
+abbrev pub wordOfFunction : ℕ
+wordOfFunction = 7
+
+abbrev pub wordOfPlace : ℕ
+wordOfPlace = 8
+
 -- words 0 to 4: form; c; "multipliers A1, A2"; state
 unfoldable pub headerOf : Table → Header
-headerOf t = record { form = word t 0; c = word t 1; mul1 = word t 2; mul2 = word t 3; state = stateOf (word t 4) }
+headerOf t = record { form = word t 0; c = word t 1; mul1 = word t 2; mul2 = word t 3; state = stateOf (word t wordOfState) }
 
--- word 5, "update flag"; words 6, 7, 8, "update target, function, place"
 unfoldable pub flagOf : Table → ℕ
-flagOf t = word t 5
+flagOf t = word t wordOfFlag
 
 unfoldable pub targetOf : Table → ℕ
-targetOf t = word t 6
+targetOf t = word t wordOfTarget
 
 unfoldable pub loggedOf : Table → Record
-loggedOf t = record { function = word t 7; place = word t 8 }
+loggedOf t = record { function = word t wordOfFunction; place = word t wordOfPlace }
 
 -- "At rest 1 ≤ k ≤ c, while growing 2 ≤ k ≤ c. Other states are bad."
 unfoldable pub stateGood : ℕ → State → Bool

@@ -1,71 +1,13 @@
 // The types that the rules of document 01 and the code share: what the header says, where an item stands,
-// the calls, and what each call answers. The only code is that of a state, which is handed on by value; specs/ has the rules, and
-// proofs/ the laws about them.
+// the calls, and what each call answers. The only code is that of a state (`phases`); specs/ has the rules, and proofs/ the laws about
+// them.
 pub mod layout;
-
-ghost use mathlib.Core.Path.{_≡_};
-ghost use Prim.Native.Nat.{_≤_};
-ghost use Rattle.rules.specs.Words.{atRest, stateGood, stateWord};
-ghost use Rattle.rules.specs.Stores.{begunOf, endedOf};
+mod phases;
 
 // Word 4, decoded: "k + 256·phase; phase 0 at rest, 1 growing".
 pub struct State {
     pub k: u64,
     pub phase: u64,
-}
-
-impl State {
-    // "phase 0 at rest"
-    pub fn at_rest(self) -> bool
-        ensures { λ r. ⌜ r ≡ atRest self ⌝ }
-    {
-        self.phase == 0
-    }
-
-    // "At rest 1 ≤ k ≤ c, while growing 2 ≤ k ≤ c. Other states are bad."
-    pub fn good(self, c: u64) -> bool
-        ensures { λ r. ⌜ r ≡ stateGood c self ⌝ }
-    {
-        if c < self.k {
-            return false;
-        }
-        if self.phase == 0 {
-            return 1 <= self.k;
-        }
-        if self.phase == 1 {
-            return 2 <= self.k;
-        }
-        false
-    }
-
-    // "state: k + 1, phase 1"
-    pub fn begun(self) -> State
-        requires { ⌜ self .k ≤ 20 ⌝ }
-        ensures { λ r. ⌜ r ≡ begunOf self ⌝ }
-    {
-        State {
-            k: self.k + 1,
-            phase: 1,
-        }
-    }
-
-    // "state: phase 0"
-    pub fn ended(self) -> State
-        ensures { λ r. ⌜ r ≡ endedOf self ⌝ }
-    {
-        State {
-            k: self.k,
-            phase: 0,
-        }
-    }
-
-    // "k + 256·phase"
-    pub fn word(self) -> u64
-        requires { ⌜ (self .k ≤ 21) × (self .phase ≤ 1) ⌝ }
-        ensures { λ r. ⌜ r ≡ stateWord self ⌝ }
-    {
-        self.k + 256 * self.phase
-    }
 }
 
 // Words 0 to 4, decoded.
