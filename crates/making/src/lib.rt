@@ -1,32 +1,21 @@
 // The two calls that write the table. "A changing call only reads the table": it lists its stores, and make makes them.
+use reading::header::words_for;
 use rules::Refusal;
 use rules::Verdict;
-use rules::layout::BUCKET_WORDS;
 use rules::layout::CAPACITY;
 use rules::layout::FORM;
-use rules::layout::HEADER_WORDS;
 use rules::layout::MULTIPLIER1;
 use rules::layout::MULTIPLIER2;
 use rules::layout::STATE;
-use words::power;
 ghost use mathlib.Core.Path.{_≡_};
 ghost use mathlib.Core.Bool.{true};
 ghost use Prim.Native.Nat.{_*_, _≤_};
 ghost use lib.ListN.{length, replicate};
 ghost use Rattle.rules.specs.Choice.{all};
-ghost use Rattle.rules.specs.Words.{wordsFor};
 ghost use Rattle.rules.specs.Stores.{pairs, made};
 ghost use Rattle.rules.specs.Results.{createTests};
 ghost use Rattle.making.specs.Promises.{Created, Made};
 ghost use Rattle.making.specs.Indexes.{inside};
-
-// "The table has exactly 9 + 13·(2^(c+1) − 1) words"
-pub fn words_for(c: u64) -> usize
-    requires { ⌜ c ≤ 20 ⌝ }
-    ensures { λ r. ⌜ r ≡ wordsFor c ⌝ }
-{
-    HEADER_WORDS + BUCKET_WORDS * (power(c + 1) - 1)
-}
 
 // "13 | c, first k (1 to c), length or a multiplier bad". c is tested first: the size of a table is computed only where it fits.
 fn creation_good(size: usize, c: u64, k: u64, mul1: u64, mul2: u64) -> bool

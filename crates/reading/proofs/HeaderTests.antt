@@ -1,6 +1,6 @@
 -- A header with one thing wrong fails its tests, and with nothing else wrong the state decides.
 -- Assumes nothing.
-use Prim.Native.Nat.{ℕ, _+_, _-_, _*_, _%_, _^_, _≤_, _<_}
+use Prim.Native.Nat.{ℕ, _%_, _≤_, _<_}
 use mathlib.Core.Path.{_≡_, sym}
 use mathlib.Core.Bool.{false, and-true}
 use native.Mathlib.Omega.{arith}
@@ -40,11 +40,6 @@ module _ (size : ℕ) (h : Header) where
   pub by-state : 1 ≤ h .c → h .c ≤ 20 → size ≡ wordsFor (h .c) → h .form ≡ 1 → h .mul1 % 2 ≡ 1 → h .mul2 % 2 ≡ 1 → stateGood (h .c) (h .state) ≡ all (headerTests size h)
   unfolding headerTests capacityTests odd
   by-state a b l f m n = rw (le-leb _ _ a, le-leb _ _ b, eq-eqb _ _ l, eq-eqb _ _ f, eq-eqb _ _ m, eq-eqb _ _ n, and-true)
-
--- the length that the code computes
-pub sized : (p c : ℕ) → p ≡ 2 ^ (c + 1) → 9 + 13 * (p - 1) ≡ wordsFor c
-unfolding wordsFor
-sized p c e = rw e
 
 -- a table without room for the header's nine words is too short for every c
 pub too-short : (t : Table) → length t < 9 → headerGood t ≡ false

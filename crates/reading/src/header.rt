@@ -13,7 +13,7 @@ ghost use mathlib.Core.Path.{_≡_};
 ghost use Prim.Native.Nat.{_≤_};
 ghost use lib.ListN.{length};
 ghost use Rattle.rules.specs.Choice.{all};
-ghost use Rattle.rules.specs.Words.{headerOf, headerTests};
+ghost use Rattle.rules.specs.Words.{wordsFor, headerOf, headerTests};
 
 pub fn decode(t: &[u64]) -> Header
     requires { ⌜ 9 ≤ length (now t) ⌝ }
@@ -31,6 +31,14 @@ pub fn decode(t: &[u64]) -> Header
     }
 }
 
+// "The table has exactly 9 + 13·(2^(c+1) − 1) words"
+pub fn words_for(c: u64) -> usize
+    requires { ⌜ c ≤ 20 ⌝ }
+    ensures { λ r. ⌜ r ≡ wordsFor c ⌝ }
+{
+    HEADER_WORDS + BUCKET_WORDS * (power(c + 1) - 1)
+}
+
 // "length, form, c, multipliers or state"
 pub fn header_good(size: usize, h: Header) -> bool
     ensures { λ r. ⌜ r ≡ all (headerTests size h) ⌝ }
@@ -41,7 +49,7 @@ pub fn header_good(size: usize, h: Header) -> bool
     if 20 < h.c {
         return false;
     }
-    if size != HEADER_WORDS + BUCKET_WORDS * (power(h.c + 1) - 1) {
+    if size != words_for(h.c) {
         return false;
     }
     if h.form != 1 {

@@ -14,7 +14,7 @@ use following::read;
 use following::start;
 use lines::Line;
 use making::create;
-use making::words_for;
+use reading::header::words_for;
 use rules::Call;
 use rules::Refusal;
 use rules::Verdict;

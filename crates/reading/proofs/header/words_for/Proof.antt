@@ -1,12 +1,12 @@
--- `making::words_for` meets its contract: with c at most 20 the size fits.
+-- `reading::header::words_for` meets its contract: with c at most 20 the size fits.
 -- Assumes nothing.
 use Prim.Native.Nat.{_+_, _^_, _≤_}
 use native.Mathlib.Omega.{arith}
 use lib.Pow.{pow-mono}
 use Rattle.rules.specs.Words.{wordsFor}
 use borrow.Author.Needs.{needs}
-use Rattle.making.proofs.words_for.Statement.{statement}
-use Rattle.making.proofs.words_for.Tie as tie
+use Rattle.reading.proofs.header.words_for.Statement.{statement}
+use Rattle.reading.proofs.header.words_for.Tie as tie
 
 add-power : tie.Need-add-power
 add-power c = search needs
