@@ -7,7 +7,7 @@ use Prim.Native.Nat.{ℕ, _+_, _*_, _/_, _%_, _^_, _<_}
 use mathlib.Core.Path.{_≡_, refl, sym, ap, _∙_}
 use mathlib.Core.Bool.{Bool, true, false, cond, _&&_, _||_}
 use mathlib.Core.List.{map}
-use mathlib.Core.Logic.{Iff·rfl}
+use mathlib.Core.Logic.{_↔_, Iff·rfl}
 use native.Mathlib.Omega.{arith}
 use lib.Dec.{eqb, ltb}
 use lib.Pow.{shr-le}
@@ -131,9 +131,10 @@ abbrev pub Follows : Header → ℕ → ℕ → (ℕ → ℕ) → (ℕ → ℕ) 
 Follows h w v keys others s key = Meant h w keys → Rekeyed keys others s key → Meant h v others
 
 module _ (h : Header) where
-  stored-meant : (w : ℕ) (keys : ℕ → ℕ) → Stored w → Meant h w keys
+  -- "every token word at most 15"
+  pub meant-low : (w : ℕ) (keys : ℕ → ℕ) → Meant h w keys ↔ (w < 16)
   unfolding meant
-  stored-meant w keys l = sym (number-of-low w l)
+  meant-low w keys = (λ m. omega (arith, m, number-low w), λ l. sym (number-of-low w l))
 
   -- where all slots are free it is 0
   pub meant-of-free : (w : ℕ) (keys : ℕ → ℕ) → ((z : ℕ) → z < 4 → isTaken h w z ≡ false) → meant h w keys ≡ 0
@@ -159,13 +160,13 @@ module _ (h : Header) where
       kept-follows same m e = m
 
       pub show-follows : s < 4 → Follows h w (show h w s key) keys others s key
-      show-follows l m e = stored-meant (show h w s key) others (show-bit h w s key l .stored)
+      show-follows l m e = meant-low (show h w s key) others .1 (show-bit h w s key l .stored)
 
       pub hide-follows : s < 4 → Follows h w (hide h w s) keys others s key
-      hide-follows l m e = stored-meant (hide h w s) others (hide-bit h w s l .stored)
+      hide-follows l m e = meant-low (hide h w s) others .1 (hide-bit h w s l .stored)
 
       pub beside-follows : s < 4 → (a : ℕ) → a < 4 → Follows h w (show h (hide h w a) s key) keys others s key
-      beside-follows l a k m e = stored-meant (show h (hide h w a) s key) others (show-bit h (hide h w a) s key l .stored)
+      beside-follows l a k m e = meant-low (show h (hide h w a) s key) others .1 (show-bit h (hide h w a) s key l .stored)
 
 -- the state plays no part
 module _ (h : Header) (s : State) where
