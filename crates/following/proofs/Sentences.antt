@@ -25,7 +25,7 @@ use Rattle.following.specs.declared.Asked.the-variants.{Nothing as askNo
 use Rattle.following.specs.declared.Reading.{Reading}
 use Rattle.following.specs.declared.Ending.the-variants.{Bad as Torn}
 use Rattle.following.specs.Scripts.{start, nextLine, onward, waits, stopsAt, stops, numbersIn, numberRead, nameNumber, eventBegun, mayBeCut, expected, readingOf, endedAt, endingOf}
-use Rattle.following.specs.Sentences.{headerNames, namesOf, namesAfter, numbered, eventLines, callLines, cutLines, Changing, asking, readAll, lineFrom, EventDue, Asks, BadAfter, EndsBad, NotNamed, NoEvent, NoChange, HeaderRead, EventsRead, CutEventsRead, CutLineElseBad, HeaderInOrder, NumbersInOrder, CutNumbersInOrder, EventElseBad, StopsForGood}
+use Rattle.following.specs.Sentences.{headerNames, namesOf, namesAfter, numbered, eventLines, callLines, cutLines, Changing, asking, readAll, lineFrom, EventDue, Asks, BadAfter, EndsBad, NotNamed, NoEvent, NoChange, HeaderRead, EventsRead, CallsNamed, CutEventsRead, CutLineElseBad, HeaderInOrder, NumbersInOrder, CutNumbersInOrder, EventElseBad, StopsForGood}
 
 -- ---- a line in place of a number
 
@@ -325,6 +325,14 @@ headerRead c k mul1 mul2 = record { alone = refl; next = due-here _ refl refl; c
 
 pub eventsRead : EventsRead
 eventsRead s d q = subst (λ (under : CutLine). Asks s (callLines q) (askEvent q under)) (d .cut) (call-asks s q (begins-free s d (blank q)))
+
+pub callsNamed : CallsNamed
+callsNamed s d = (
+  λ key f place. eventsRead s d (Insert key (record { function = f; place = place })),
+  λ key f place. eventsRead s d (Update key (record { function = f; place = place })),
+  λ key. eventsRead s d (Delete key),
+  λ key. eventsRead s d (Query key),
+)
 
 pub cutEventsRead : CutEventsRead
 cutEventsRead = cut-asks

@@ -9,7 +9,7 @@ use mathlib.Core.List.{List, [], _∷_, _++_}
 use lib.ListN.{length, drop}
 use Rattle.rules.specs.declared.Call.{Call}
 use Rattle.rules.specs.declared.Call.the-variants.{Query, Insert, Update, Delete, Begin, Step, End, Recover}
-use Rattle.lines.specs.Lines.{blank}
+use Rattle.lines.specs.Lines.{noRecord, blank}
 use Rattle.lines.specs.declared.Name.{Name}
 use Rattle.lines.specs.declared.Name.the-variants.{Cap, Top, Mul1, Mul2, Key, Fn, At, After}
 use Rattle.lines.specs.declared.Line.{Line}
@@ -142,6 +142,16 @@ HeaderRead = (c k mul1 mul2 : ℕ) → Asks start (numbered headerNames (c ∷ k
 -- each event with its lines, in their order
 abbrev pub EventsRead : Type 0
 EventsRead = (s : Script) → EventDue s → (q : Call) → Asks s (callLines q) (askEvent q noCut)
+
+-- the same of the events with numbers, spelt out: key, function and place in their order
+abbrev pub CallsNamed : Type 0
+CallsNamed = (s : Script) → EventDue s
+    → ((key f place : ℕ) → Asks s (Event (Insert 0 noRecord) ∷ Number Key key ∷ Number Fn f ∷ Number At place ∷ [])
+    (askEvent (Insert key (record { function = f; place = place })) noCut))
+    × ((key f place : ℕ) → Asks s (Event (Update 0 noRecord) ∷ Number Key key ∷ Number Fn f ∷ Number At place ∷ [])
+    (askEvent (Update key (record { function = f; place = place })) noCut))
+    × ((key : ℕ) → Asks s (Event (Delete 0) ∷ Number Key key ∷ []) (askEvent (Delete key) noCut))
+    × ((key : ℕ) → Asks s (Event (Query 0) ∷ Number Key key ∷ []) (askEvent (Query key) noCut))
 
 -- "`op=cut` with `after`, which must stand right before a changing event or recover .. and lets only that many of its stores be
 -- made": each of them, with its lines

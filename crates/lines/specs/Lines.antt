@@ -66,17 +66,12 @@ beginning (Event q) = eventText q
 beginning Cut = "op=cut"
 beginning Bad = ""
 
--- every line that is not bad, with its number still 0
+-- every line that is not bad, with its number still 0. No text begins with another, so that their order says nothing
 abbrev pub rows : List Line
 rows =
-    Number Cap 0
-    ∷ Number Top 0
-    ∷ Number Mul1 0
-    ∷ Number Mul2 0
-    ∷ Number Key 0
+    Number Key 0
     ∷ Number Fn 0
     ∷ Number At 0
-    ∷ Number After 0
     ∷ Event (Insert 0 noRecord)
     ∷ Event (Update 0 noRecord)
     ∷ Event (Delete 0)
@@ -86,6 +81,11 @@ rows =
     ∷ Event End
     ∷ Event Recover
     ∷ Cut
+    ∷ Number After 0
+    ∷ Number Cap 0
+    ∷ Number Top 0
+    ∷ Number Mul1 0
+    ∷ Number Mul2 0
     ∷ []
 
 abbrev pub rowAt : ℕ → Line

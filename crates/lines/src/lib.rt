@@ -30,15 +30,11 @@ pub enum Line {
     Bad,
 }
 
-// The texts that a line may begin with, each filled up with spaces to a row of 10 bytes.
-const TEXTS: [u8; 170] = *b"cap=      \
-                            top=      \
-                            mul1=     \
-                            mul2=     \
-                            key=      \
+// The texts that a line may begin with, each filled up with spaces to a row of 10 bytes. None begins with another, so that their
+// order says nothing: those come first that a script has most of.
+const TEXTS: [u8; 170] = *b"key=      \
                             fn=       \
                             at=       \
-                            after=    \
                             op=insert \
                             op=update \
                             op=delete \
@@ -47,7 +43,12 @@ const TEXTS: [u8; 170] = *b"cap=      \
                             op=step   \
                             op=end    \
                             op=recover\
-                            op=cut    ";
+                            op=cut    \
+                            after=    \
+                            cap=      \
+                            top=      \
+                            mul1=     \
+                            mul2=     ";
 
 const NO_RECORD: Record = Record {
     function: 0,
@@ -59,23 +60,23 @@ fn says(row: usize) -> Line
     ensures { λ r. ⌜ r ≡ rowAt row ⌝ }
 {
     match row {
-        0 => Line::Number(Name::Cap, 0),
-        1 => Line::Number(Name::Top, 0),
-        2 => Line::Number(Name::Mul1, 0),
-        3 => Line::Number(Name::Mul2, 0),
-        4 => Line::Number(Name::Key, 0),
-        5 => Line::Number(Name::Fn, 0),
-        6 => Line::Number(Name::At, 0),
-        7 => Line::Number(Name::After, 0),
-        8 => Line::Event(Call::Insert(0, NO_RECORD)),
-        9 => Line::Event(Call::Update(0, NO_RECORD)),
-        10 => Line::Event(Call::Delete(0)),
-        11 => Line::Event(Call::Query(0)),
-        12 => Line::Event(Call::Begin),
-        13 => Line::Event(Call::Step),
-        14 => Line::Event(Call::End),
-        15 => Line::Event(Call::Recover),
-        16 => Line::Cut,
+        0 => Line::Number(Name::Key, 0),
+        1 => Line::Number(Name::Fn, 0),
+        2 => Line::Number(Name::At, 0),
+        3 => Line::Event(Call::Insert(0, NO_RECORD)),
+        4 => Line::Event(Call::Update(0, NO_RECORD)),
+        5 => Line::Event(Call::Delete(0)),
+        6 => Line::Event(Call::Query(0)),
+        7 => Line::Event(Call::Begin),
+        8 => Line::Event(Call::Step),
+        9 => Line::Event(Call::End),
+        10 => Line::Event(Call::Recover),
+        11 => Line::Cut,
+        12 => Line::Number(Name::After, 0),
+        13 => Line::Number(Name::Cap, 0),
+        14 => Line::Number(Name::Top, 0),
+        15 => Line::Number(Name::Mul1, 0),
+        16 => Line::Number(Name::Mul2, 0),
         _ => Line::Bad,
     }
 }
@@ -200,8 +201,7 @@ fn whole(line: &[u8], at: usize, says: Line) -> Line
 pub fn parse(line: &[u8]) -> Line
     ensures { λ r. ⌜ Parsed (now (line .entry)) r (now (line .exit)) ⌝ }
 {
-    let texts = TEXTS;
-    let found = find(line, &texts);
+    let found = find(line, &TEXTS);
     match found {
         Found::Row(row, at) => whole(line, at, says(row)),
         Found::Not => Line::Bad,

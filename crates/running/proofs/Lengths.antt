@@ -1,4 +1,4 @@
--- No good line has more than 26 bytes, and so 27 bytes of a line tell what the line says.
+-- Every good line is shorter than the room for a line, and so the bytes that are held tell what the line says.
 -- Assumes nothing.
 use Prim.Native.Nat.{ℕ, zero, suc, _+_, _/_, _%_, _^_, _≤_, _<_}
 use mathlib.Core.Path.{_≡_, refl, sym, ap, _∙_}
@@ -20,6 +20,7 @@ use Rattle.lines.specs.declared.Name.the-variants.{Cap, Top, Mul1, Mul2, Key, F
 use Rattle.lines.specs.declared.Line.{Line}
 use Rattle.lines.specs.declared.Line.the-variants.{Number, Event, Cut, Bad}
 use Rattle.lines.proofs.Texts.{onlyTextsSay}
+use Rattle.running.specs.Runs.{lineRoom}
 
 -- a number below 10^(k + 1) has at most k + 1 digits
 digits-few : (n k v : ℕ) → v < 10 ^ (k + 1) → length (digitsIn n v) ≤ k + 1
@@ -56,7 +57,7 @@ event-few Step = omega arith
 event-few End = omega arith
 event-few Recover = omega arith
 
-text-few : (l : Line) → Good l → length (lineText l) ≤ 26
+text-few : (l : Line) → Good l → length (lineText l) < lineRoom
 unfolding decimalText
 text-few (Number n v) g = omega (arith, length-append (bytes (nameText n)) (decimalText v), name-few n, digits-few (suc v) 19 v (omega (arith, g)))
 text-few (Event q) g = omega (arith, length-append (bytes (eventText q)) [], event-few q)
@@ -64,7 +65,7 @@ text-few Cut g = omega arith
 text-few Bad g = absurd g
 
 -- a longer line is bad
-long-bad : (line : List ℕ) → 27 ≤ length line → lineOf line ≡ Bad
+long-bad : (line : List ℕ) → lineRoom ≤ length line → lineOf line ≡ Bad
 long-bad line long = go (lineOf line) (λ d. onlyTextsSay line d)
   where
     short : (l : Line) → (l ≡ Bad → ⊥) → ((l ≡ Bad → ⊥) → Good l × (line ≡ lineText l)) → l ≡ Bad
@@ -76,9 +77,9 @@ long-bad line long = go (lineOf line) (λ d. onlyTextsSay line d)
     go (Event q) f = short (Event q) (λ e. let z : _≡_ {A = ℕ} 0 1 = cc in omega arith) f
     go Cut f = short Cut (λ e. let z : _≡_ {A = ℕ} 0 1 = cc in omega arith) f
 
-pub line-enough : (line : List ℕ) → lineOf (take 27 line) ≡ lineOf line
-line-enough line = go (decLe 27 (length line))
+pub line-enough : (line : List ℕ) → lineOf (take lineRoom line) ≡ lineOf line
+line-enough line = go (decLe lineRoom (length line))
   where
-    go : Dec (27 ≤ length line) → lineOf (take 27 line) ≡ lineOf line
-    go (yes l) = long-bad (take 27 line) (omega (arith, length-take-le 27 line l)) ∙ sym (long-bad line l)
-    go (no l) = ap lineOf (take-all 27 line (omega arith))
+    go : Dec (lineRoom ≤ length line) → lineOf (take lineRoom line) ≡ lineOf line
+    go (yes l) = long-bad (take lineRoom line) (omega (arith, length-take-le lineRoom line l)) ∙ sym (long-bad line l)
+    go (no l) = ap lineOf (take-all lineRoom line (omega arith))

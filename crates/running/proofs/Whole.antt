@@ -15,7 +15,7 @@ use Rattle.replaying.specs.Replays.{begun, Turned, turnOf}
 use Rattle.replaying.specs.declared.Answer.{Answer}
 use Rattle.replaying.specs.declared.Answer.the-variants.{Nothing}
 use Rattle.replaying.specs.declared.Replay.{Replay}
-use Rattle.running.specs.Runs.{joined, split, answers, answersTo, heldAfter, After, byteTaken, endOf, fed, silent, spoken, BytesAnswerAsLines}
+use Rattle.running.specs.Runs.{joined, split, answers, answersTo, lineRoom, heldAfter, After, byteTaken, endOf, fed, silent, spoken, BytesAnswerAsLines}
 use Rattle.running.proofs.Lengths.{line-enough}
 
 -- ---- lines whose first begins with bytes that were read before
@@ -48,39 +48,39 @@ prefixed-nothing (l ∷ ls, torn) = refl
 
 -- as many bytes of it as there is place for
 pub record Holds (read line : List ℕ) (held : ℕ) : Type 0 where
-  pub long : length line ≡ 27
-  pub count : held ≡ min (length read) 27
-  pub bytes : take held line ≡ take 27 read
+  pub long : length line ≡ lineRoom
+  pub count : held ≡ min (length read) lineRoom
+  pub bytes : take held line ≡ take lineRoom read
 
 holds-more : (read line : List ℕ) (held byte : ℕ) → Holds read line held → Holds (read ++ (byte ∷ [])) (heldAfter line held byte .1) (heldAfter line held byte .0)
-holds-more read line held byte h = go (decLe 27 held)
+holds-more read line held byte h = go (decLe lineRoom held)
   where
     more : length (read ++ (byte ∷ [])) ≡ length read + 1
     more = length-append read (byte ∷ [])
 
-    go : Dec (27 ≤ held) → Holds (read ++ (byte ∷ [])) (heldAfter line held byte .1) (heldAfter line held byte .0)
+    go : Dec (lineRoom ≤ held) → Holds (read ++ (byte ∷ [])) (heldAfter line held byte .1) (heldAfter line held byte .0)
     go (yes full) =
-        let enough : held ≡ 27 = omega (arith, h .count) in
-        rw (le-ltb held 27 full)
+        let enough : held ≡ lineRoom = omega (arith, h .count) in
+        rw (le-ltb held lineRoom full)
         (record {
           long = h .long;
           count = omega (arith, h .count, more);
-          bytes = h .bytes ∙ sym (take-append-le 27 read (byte ∷ []) (omega (arith, h .count)));
+          bytes = h .bytes ∙ sym (take-append-le lineRoom read (byte ∷ []) (omega (arith, h .count)));
         })
     go (no place) =
-        let free : held < 27 = omega arith in
-        let all : take 27 read ≡ read = take-all 27 read (omega (arith, h .count)) in
-        let both : take 27 (read ++ (byte ∷ [])) ≡ read ++ (byte ∷ []) = take-all 27 (read ++ (byte ∷ [])) (omega (arith, more, h .count)) in
+        let free : held < lineRoom = omega arith in
+        let all : take lineRoom read ≡ read = take-all lineRoom read (omega (arith, h .count)) in
+        let both : take lineRoom (read ++ (byte ∷ [])) ≡ read ++ (byte ∷ []) = take-all lineRoom (read ++ (byte ∷ [])) (omega (arith, more, h .count)) in
         let one : held + 1 ≡ suc held = omega arith in
         let next : take (suc held) (set line held byte) ≡ take held line ++ (byte ∷ []) = take-suc-set line held byte (omega (arith, h .long)) in
-        rw (lt-ltb held 27 free)
+        rw (lt-ltb held lineRoom free)
         (record {
           long = length-set line held byte ∙ h .long;
           count = omega (arith, h .count, more);
           bytes = ap (λ (k : ℕ). take k (set line held byte)) one ∙ next ∙ rw (h .bytes, all, both);
         })
 
-holds-nothing : (line : List ℕ) → length line ≡ 27 → Holds [] line 0
+holds-nothing : (line : List ℕ) → length line ≡ lineRoom → Holds [] line 0
 holds-nothing line long = record { long = long; count = refl; bytes = refl }
 
 held-some : (read line : List ℕ) (held : ℕ) → Holds read line held → ltb 0 held ≡ some-held read false

@@ -62,9 +62,13 @@ answersTo room input = answers room begun (map lineOf (split input .0)) (split i
 abbrev pub ready : Run
 ready = record { replay = begun; held = 0 }
 
+-- as many bytes of a line as are held: one more than the longest good line has
+abbrev pub lineRoom : ℕ
+lineRoom = 27
+
 -- a byte is held where there is place
 abbrev pub heldAfter : List ℕ → ℕ → ℕ → ℕ × List ℕ
-heldAfter line held byte = cond (ltb held 27) (held + 1, set line held byte) (held, line)
+heldAfter line held byte = cond (ltb held lineRoom) (held + 1, set line held byte) (held, line)
 
 abbrev pub HeldIs : List ℕ → ℕ → ℕ → ℕ → List ℕ → Type 0
 HeldIs line held byte r left = _≡_ {A = ℕ × List ℕ} (r, left) (heldAfter line held byte)
@@ -136,9 +140,9 @@ abbrev pub spoken : List Answer → List Answer
 spoken [] = []
 spoken (a ∷ rest) = cond (silent a) (spoken rest) (a ∷ spoken rest)
 
--- any input, fed byte by byte with 27 bytes to hold a line in, is answered as its lines are
+-- any input, fed byte by byte with that room for a line, is answered as its lines are
 abbrev pub BytesAnswerAsLines : Type 0
-BytesAnswerAsLines = (room line input : List ℕ) → length line ≡ 27 → spoken (fed ready room line input) ≡ spoken (answersTo room input)
+BytesAnswerAsLines = (room line input : List ℕ) → length line ≡ lineRoom → spoken (fed ready room line input) ≡ spoken (answersTo room input)
 
 -- ---- where the answer is known
 

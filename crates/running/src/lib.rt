@@ -10,8 +10,10 @@ use replaying::take_line;
 ghost use mathlib.Core.Path.{_≡_};
 ghost use Rattle.running.specs.Runs.{ready as readyOf, HeldIs, LineTaken, ByteTaken, known as knownOf, endOf};
 
-// Where a run stands: in its replay, and how many bytes of the line are held. No good line has more than 26 bytes, so that 27 of
-// a line tell that it is bad.
+// As many bytes of a line as are held: one more than the longest good line has, so that so many bytes tell that a line is bad.
+pub const LINE: usize = 27;
+
+// Where a run stands: in its replay, and how many bytes of the line are held.
 pub struct Run {
     pub replay: Replay,
     pub held: usize,
@@ -29,11 +31,11 @@ pub fn ready() -> Run
     Run { replay, held: 0 }
 }
 
-// One byte more of a line, as far as 27 of them.
-fn hold(line: &mut [u8; 27], held: usize, byte: u8) -> usize
+// One byte more of a line, as far as there is place.
+fn hold(line: &mut [u8; LINE], held: usize, byte: u8) -> usize
     ensures { λ r. ⌜ HeldIs (now (line .entry)) held byte r (now (line .exit)) ⌝ }
 {
-    if held < 27 {
+    if held < LINE {
         line[held] = byte;
         return held + 1;
     }
@@ -41,7 +43,7 @@ fn hold(line: &mut [u8; 27], held: usize, byte: u8) -> usize
 }
 
 // "each ended by a newline"
-fn take_newline(run: Run, room: &mut [u64], line: &[u8; 27]) -> Taken
+fn take_newline(run: Run, room: &mut [u64], line: &[u8; LINE]) -> Taken
     ensures { λ r. ⌜ LineTaken run (now (room .entry)) (now (line .entry)) r (now (room .exit)) ⌝ }
 {
     let bytes: &[u8] = line;
@@ -60,7 +62,7 @@ fn take_newline(run: Run, room: &mut [u64], line: &[u8; 27]) -> Taken
     }
 }
 
-pub fn take_byte(run: Run, room: &mut [u64], line: &mut [u8; 27], byte: u8) -> Taken
+pub fn take_byte(run: Run, room: &mut [u64], line: &mut [u8; LINE], byte: u8) -> Taken
     ensures { λ r. ⌜ ByteTaken run (now (room .entry)) (now (line .entry)) byte r (now (room .exit)) (now (line .exit)) ⌝ }
 {
     if byte == b'\n' {

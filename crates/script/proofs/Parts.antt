@@ -16,7 +16,7 @@ use lib.Seq.{take-suc, take-add, take-all, length-take-le}
 use denote.Enum.Declared.{tagOf}
 use types.Run.{OneOf}
 use Rattle.replaying.specs.declared.Answer.{Answer}
-use Rattle.running.specs.Runs.{ready, byteTaken, TakenIs, known, endOf, fed, spoken, Stand, afterByte, afterBytes, answersIn}
+use Rattle.running.specs.Runs.{lineRoom, ready, byteTaken, TakenIs, known, endOf, fed, spoken, Stand, afterByte, afterBytes, answersIn}
 use Rattle.running.specs.declared.Run.{Run}
 use Rattle.running.specs.declared.Taken.{Taken}
 use Rattle.running.proofs.Parts.{partsAreFed, after-more, answers-more, knownIsAll}
@@ -54,7 +54,7 @@ texts-joined s (p ∷ ps) = ap (λ (later : List ℕ). textIn s p ++ later) (tex
 
 -- ---- all that is written
 
-module _ (room line : List ℕ) (long : length line ≡ 27) where
+module _ (room line : List ℕ) (long : length line ≡ lineRoom) where
   s : Stand
   s = begun room line
 

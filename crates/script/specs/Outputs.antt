@@ -19,16 +19,16 @@ use Rattle.lines.specs.Texts.{digitsIn, decimalText}
 use Rattle.following.specs.Scripts.{readingOf, endingOf}
 use Rattle.replaying.specs.Events.{answerTo, tableAfter}
 use Rattle.replaying.specs.Replays.{turnOf, finishOf}
-use Rattle.running.specs.Runs.{ready, fed, answersTo}
+use Rattle.running.specs.Runs.{lineRoom, ready, fed, answersTo}
 use Rattle.saying.specs.Texts.{textOf}
 
 -- the text of all that is answered to an input, on lent words
 unfoldable pub outputTo : List ℕ → List ℕ → List ℕ
 outputTo room input = flatMap textOf (answersTo room input)
 
--- so it is written, also where the input is fed byte by byte, as the program does, with 27 bytes to hold a line in
+-- so it is written, also where the input is fed byte by byte, as the program does, with that room for a line
 abbrev pub BytesWritten : Type 0
-BytesWritten = (room line input : List ℕ) → length line ≡ 27 → flatMap textOf (fed ready room line input) ≡ outputTo room input
+BytesWritten = (room line input : List ℕ) → length line ≡ lineRoom → flatMap textOf (fed ready room line input) ≡ outputTo room input
 
 -- ---- document 01's case, and its other sentences, as inputs and outputs
 

@@ -15,7 +15,7 @@ use Rattle.following.specs.declared.Asked.the-variants.{Table as askTable}
 use Rattle.replaying.specs.Replays.{askedOf}
 use Rattle.replaying.specs.declared.Answer.the-variants.{Created}
 use Rattle.replaying.specs.declared.Replay.{Replay}
-use Rattle.running.specs.Runs.{ready, known, endOf, Stand, afterBytes, answersIn}
+use Rattle.running.specs.Runs.{lineRoom, ready, known, endOf, Stand, afterBytes, answersIn}
 use Rattle.running.specs.declared.Run.{Run}
 use Rattle.saying.specs.Texts.{textOf}
 use Rattle.script.specs.Outputs.{outputTo}
@@ -49,12 +49,12 @@ texts s (p ∷ ps) = textIn s p ++ texts (afterBytes s p) ps
 
 -- the texts of the parts, and where the input has ended that of the end, are what the whole input is answered
 abbrev pub PartsWritten : Type 0
-PartsWritten = (room line : List ℕ) (parts : List (List ℕ)) → length line ≡ 27
+PartsWritten = (room line : List ℕ) (parts : List (List ℕ)) → length line ≡ lineRoom
     → texts (begun room line) parts ++ textOf (endOf (afterBytes (begun room line) (joined parts) .run)) ≡ outputTo room (joined parts)
 
 -- where the answer is known the texts of the parts are all of it, whatever the input has after them
 abbrev pub KnownPartsWritten : Type 0
-KnownPartsWritten = (room line : List ℕ) (parts : List (List ℕ)) (later : List ℕ) → length line ≡ 27
+KnownPartsWritten = (room line : List ℕ) (parts : List (List ℕ)) (later : List ℕ) → length line ≡ lineRoom
     → known (afterBytes (begun room line) (joined parts) .run) ≡ true
     → texts (begun room line) parts ≡ outputTo room (joined parts ++ later)
 

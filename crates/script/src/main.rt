@@ -4,6 +4,7 @@
 use libc::STDERR_FILENO;
 use libc::STDIN_FILENO;
 use libc::STDOUT_FILENO;
+use running::LINE;
 use running::Run;
 use running::end;
 use running::known;
@@ -35,7 +36,13 @@ fn pauses(run: Run, free: usize) -> bool
     free < 128
 }
 
-fn take_some(start: Run, room: &mut [u64], line: &mut [u8; 27], text: &[u8], out: &mut [u8]) -> Took
+fn take_some(
+    start: Run,
+    room: &mut [u64],
+    line: &mut [u8; LINE],
+    text: &[u8],
+    out: &mut [u8],
+) -> Took
     ensures { λ r. ⌜ TookSome (standing start (now (room .entry)) (now (line .entry))) (now (text .entry)) r
         (standing (r .run) (now (room .exit)) (now (line .exit))) (now (out .exit)) × (length (now (out .exit)) ≡ length (now (out .entry))) ⌝ }
 {
@@ -66,7 +73,13 @@ struct Part {
     written: bool,
 }
 
-fn take_part(start: Run, room: &mut [u64], line: &mut [u8; 27], part: &[u8], out: &mut [u8]) -> Part
+fn take_part(
+    start: Run,
+    room: &mut [u64],
+    line: &mut [u8; LINE],
+    part: &[u8],
+    out: &mut [u8],
+) -> Part
     requires { ⌜ 128 ≤ length (now out) ⌝ }
     ensures { λ r. ⌜ TookPart (standing start (now (room .entry)) (now (line .entry))) (now (part .entry)) r
         (standing (r .run) (now (room .exit)) (now (line .exit))) ⌝ }
@@ -120,7 +133,7 @@ fn finish(run: Run, out: &mut [u8]) -> bool
 }
 
 // Takes what was read, which is nothing where the input has ended.
-fn take_read(run: Run, room: &mut [u64], line: &mut [u8; 27], part: &[u8], out: &mut [u8]) -> Turn
+fn take_read(run: Run, room: &mut [u64], line: &mut [u8; LINE], part: &[u8], out: &mut [u8]) -> Turn
     requires { ⌜ 128 ≤ length (now out) ⌝ }
     ensures { λ r. ⌜ WentOn (standing run (now (room .entry)) (now (line .entry))) (now (part .entry)) r
         (standing (r .run) (now (room .exit)) (now (line .exit))) ⌝ }
@@ -155,7 +168,7 @@ fn take_read(run: Run, room: &mut [u64], line: &mut [u8; 27], part: &[u8], out: 
 fn read_some(
     run: Run,
     room: &mut [u64],
-    line: &mut [u8; 27],
+    line: &mut [u8; LINE],
     input: &mut [u8],
     out: &mut [u8],
 ) -> Turn
@@ -181,7 +194,7 @@ fn read_some(
 }
 
 // A proved loop has to end, and nothing says that the input does. So the parts are counted, up to a number that no run comes to.
-fn read_all(room: &mut [u64], line: &mut [u8; 27], input: &mut [u8], out: &mut [u8]) -> Turn
+fn read_all(room: &mut [u64], line: &mut [u8; LINE], input: &mut [u8], out: &mut [u8]) -> Turn
     requires { ⌜ (wordsFor 8 ≤ length (now room)) × (128 ≤ length (now out)) ⌝ }
     ensures { λ r. ⌜ Ran (begun (now (room .entry)) (now (line .entry))) (r .outcome) (standing (r .run) (now (room .exit)) (now (line .exit))) ⌝ }
 {
@@ -224,7 +237,7 @@ fn tell(outcome: Outcome) {
 // The room holds a table of the largest cap, 8.
 fn main() {
     let mut words = [0u64; 6652];
-    let mut line = [0u8; 27];
+    let mut line = [0u8; LINE];
     let mut input = io::large_buffer();
     let mut out = io::large_buffer();
     let last = read_all(&mut words, &mut line, &mut input, &mut out);
