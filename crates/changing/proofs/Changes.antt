@@ -21,7 +21,7 @@ use Rattle.rules.specs.declared.Lookup.the-variants.{Stands, Absent}
 use Rattle.rules.specs.declared.Placing.{Placing}
 use Rattle.rules.specs.declared.Placing.the-variants.{Free}
 use Rattle.rules.specs.declared.Refusal.the-variants.{KeyPresent, KeyAbsent, NoPlace}
-use Rattle.rules.proofs.Meanings.{lookup-told-by}
+use Rattle.rules.proofs.Calls.Meanings.{lookup-told-by}
 use Rattle.rules.proofs.Lookup.{the-type as lookup-type}
 use Rattle.rules.proofs.Placing.{the-type as placing-type}
 use Rattle.placing.specs.Search.{optional}

@@ -14,10 +14,10 @@ use Rattle.rules.specs.declared.Header.{Header}
 use Rattle.rules.specs.declared.Level.{Level}
 use Rattle.rules.specs.declared.Place.{Place}
 use Rattle.rules.specs.declared.Slot.{Slot}
-use Rattle.rules.proofs.Lists.{firstOf-map, firstOf-given, firstOf-flatMap}
-use Rattle.rules.proofs.Along.{along, along-all, along-pass, along-hit, along-over}
-use Rattle.rules.proofs.Walks.{from-next, from-end}
-use Rattle.rules.proofs.Lowest.{passing, lowest-some, lowest-none}
+use Rattle.rules.proofs.Basics.Lists.{firstOf-map, firstOf-given, firstOf-flatMap}
+use Rattle.rules.proofs.Basics.Along.{along, along-all, along-pass, along-hit, along-over}
+use Rattle.rules.proofs.Basics.Walks.{from-next, from-end}
+use Rattle.rules.proofs.Basics.Lowest.{passing, lowest-some, lowest-none}
 
 -- ---- in the interim level
 

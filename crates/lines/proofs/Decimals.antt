@@ -11,8 +11,8 @@ use borrow.Author.Tests.{ltb-true, ltb-false, lt-ltb, le-ltb, leb-true, le-leb, 
 use lib.Seq.{append-snoc}
 use lib.Dec.{ltb, leb, eqb}
 use Rattle.rules.specs.Choice.{all}
-use Rattle.rules.proofs.Tests.{tells-and, all-yes}
-use Rattle.rules.proofs.Lists.{never, given-some}
+use Rattle.rules.proofs.Basics.Tests.{tells-and, all-yes}
+use Rattle.rules.proofs.Basics.Lists.{never, given-some}
 use Rattle.lines.specs.Lines.{isDigit, valueFrom, noLeadingZero, decimalOf}
 use Rattle.lines.specs.Texts.{digitsIn, decimalText}
 use Rattle.lines.proofs.Digits.{not-zero-first}

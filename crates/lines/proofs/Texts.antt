@@ -8,7 +8,7 @@ use mathlib.Core.Option.{Option, none, some}
 use borrow.Author.Tests.{eqb-true}
 use lib.ListN.{length, drop}
 use lib.Dec.{eqb}
-use Rattle.rules.proofs.Lists.{never}
+use Rattle.rules.proofs.Basics.Lists.{never}
 use Rattle.lines.specs.Lines.{bytes, nameText, blank, beginning, rows, begins, decimalOf, numbered, unlessMore, wholeLine, saidBy, lineOf}
 use Rattle.lines.specs.Texts.{decimalText, decimalAfter, lineText, Good, TextsSay, OnlyTextsSay}
 use Rattle.lines.specs.declared.Name.{Name}

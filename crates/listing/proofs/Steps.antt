@@ -8,8 +8,8 @@ use Rattle.rules.specs.Answers.{changeMeans}
 use Rattle.rules.specs.declared.Call.the-variants.{Step as step}
 use Rattle.rules.specs.Results.{stepResult}
 use Rattle.rules.specs.declared.Stepped.{Stepped}
-use Rattle.rules.proofs.Meanings.{stepped-one}
-use Rattle.rules.proofs.StepPlacing.{stepIsACall}
+use Rattle.rules.proofs.Calls.Meanings.{stepped-one}
+use Rattle.rules.proofs.Calls.StepPlacing.{stepIsACall}
 use Rattle.listing.specs.Promises.{Changed, StepTaken}
 
 pub step-changes : {t u : Table} {l m : List ℕ} {s : Stepped} → StepTaken t l s u m → Changed step t l (s .change) u m

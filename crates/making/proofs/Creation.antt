@@ -15,7 +15,7 @@ use Rattle.rules.specs.Words.{Table, wordsFor, odd, capacityTests, stateWord}
 use Rattle.rules.specs.Results.{createTests, created, createResult}
 use Rattle.rules.specs.declared.Verdict.the-variants.{Done, Denied}
 use Rattle.rules.specs.declared.Refusal.the-variants.{BadCreation}
-use Rattle.rules.proofs.Tests.{all-yes, all-no}
+use Rattle.rules.proofs.Basics.Tests.{all-yes, all-no}
 use Rattle.making.specs.Promises.{Created}
 
 module _ (size c k mul1 mul2 : ℕ) where

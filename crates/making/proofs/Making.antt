@@ -15,7 +15,7 @@ use Rattle.rules.specs.Stores.{Store, pairs, made}
 use Rattle.rules.specs.Results.{makeTests, makeResult}
 use Rattle.rules.specs.declared.Verdict.the-variants.{Done, Denied}
 use Rattle.rules.specs.declared.Refusal.the-variants.{BadMaking}
-use Rattle.rules.proofs.Tests.{all-yes}
+use Rattle.rules.proofs.Basics.Tests.{all-yes}
 use Rattle.making.specs.Promises.{Made}
 use Rattle.making.specs.Indexes.{inside}
 

@@ -7,7 +7,7 @@ use Rattle.rules.specs.Words.{Table}
 use Rattle.rules.specs.Answers.{verdictMeans}
 use Rattle.rules.specs.Results.{createResult, makeResult}
 use Rattle.rules.specs.declared.Verdict.{Verdict}
-use Rattle.rules.proofs.Meanings.{verdict-one}
+use Rattle.rules.proofs.Calls.Meanings.{verdict-one}
 use Rattle.making.specs.Promises.{IsResult, Created, Made}
 
 module _ {r s : Verdict} {u v : Table} where

@@ -18,10 +18,10 @@ use Rattle.rules.specs.declared.Hashes.{Hashes}
 use Rattle.rules.specs.declared.Place.{Place}
 use Rattle.rules.specs.declared.Slot.{Slot}
 use Rattle.rules.specs.declared.Placing.the-variants.{Free}
-use Rattle.rules.proofs.Lists.{firstOf-map, firstOf-given}
-use Rattle.rules.proofs.FreeSlots.{taken-in}
+use Rattle.rules.proofs.Basics.Lists.{firstOf-map, firstOf-given}
+use Rattle.rules.proofs.Words.FreeSlots.{taken-in}
 use Rattle.reading.specs.Levels.{placeIn}
-use Rattle.rules.proofs.Lowest.{lowest-some, lowest-none}
+use Rattle.rules.proofs.Basics.Lowest.{lowest-some, lowest-none}
 use Rattle.placing.specs.Buckets.{itemIn, itemsIn, firstFree}
 
 -- ---- the four records

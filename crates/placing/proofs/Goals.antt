@@ -17,11 +17,11 @@ use Rattle.rules.specs.declared.Level.{Level}
 use Rattle.rules.specs.declared.Hashes.{Hashes}
 use Rattle.rules.specs.declared.Place.{Place}
 use Rattle.rules.specs.declared.Slot.{Slot}
-use Rattle.rules.proofs.Lists.{select-in}
-use Rattle.rules.proofs.Headers.{bucket-fits}
-use Rattle.rules.proofs.Levels.{top-used, bottom-used, exponent-fits}
-use Rattle.rules.proofs.MoveOrder.{other-first, other-second, other-none}
-use Rattle.rules.proofs.PlacesWithin.{place-in-level}
+use Rattle.rules.proofs.Basics.Lists.{select-in}
+use Rattle.rules.proofs.Words.Headers.{bucket-fits}
+use Rattle.rules.proofs.Words.Levels.{top-used, bottom-used, exponent-fits}
+use Rattle.rules.proofs.Places.MoveOrder.{other-first, other-second, other-none}
+use Rattle.rules.proofs.Places.PlacesWithin.{place-in-level}
 use Rattle.reading.specs.Within.{BucketWithin, AllWithin}
 use Rattle.reading.specs.Levels.{placeIn}
 use Rattle.placing.specs.Within.{LevelWithin}

@@ -17,8 +17,8 @@ use Rattle.rules.specs.declared.Place.{Place}
 use Rattle.rules.specs.declared.Slot.{Slot}
 use Rattle.rules.specs.declared.Placing.{Placing}
 use Rattle.rules.specs.declared.Placing.the-variants.{Move}
-use Rattle.rules.proofs.Lists.{firstOf-append, firstOf-map, firstOf-flatMap}
-use Rattle.rules.proofs.Along.{along}
+use Rattle.rules.proofs.Basics.Lists.{firstOf-append, firstOf-map, firstOf-flatMap}
+use Rattle.rules.proofs.Basics.Along.{along}
 use Rattle.placing.specs.Search.{optional, goalsOf, itemMove, bucketMove, placeMove, placesMove}
 use Rattle.placing.specs.Buckets.{itemIn, itemsIn, keyAmong}
 use Rattle.placing.specs.declared.moves.Way.{Way}

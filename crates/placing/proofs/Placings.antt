@@ -19,7 +19,7 @@ use Rattle.rules.specs.declared.Hashes.{Hashes}
 use Rattle.rules.specs.declared.Slot.{Slot}
 use Rattle.rules.specs.declared.Placing.{Placing}
 use Rattle.rules.specs.declared.Placing.the-variants.{Free, Move, Nowhere}
-use Rattle.rules.proofs.Lists.{firstOf-some}
+use Rattle.rules.proofs.Basics.Lists.{firstOf-some}
 use Rattle.placing.specs.Search.{optional}
 
 pub nowhere : (p : Placing) → OneOf (2 ∷ []) (tagOf the-type p) → optional p ≡ none

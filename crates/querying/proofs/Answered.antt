@@ -20,8 +20,8 @@ use Rattle.rules.specs.declared.Refusal.{Refusal}
 use Rattle.rules.specs.declared.Refusal.the-variants.{BadHeader, FlagSet, KeyAbsent}
 use Rattle.rules.specs.declared.Query.{Query}
 use Rattle.rules.specs.declared.Query.the-variants.{Known, Unknown}
-use Rattle.rules.proofs.Few.{four-at-rest, six-at-most}
-use Rattle.rules.proofs.Meanings.{query-one, lookup-told-by}
+use Rattle.rules.proofs.Places.Few.{four-at-rest, six-at-most}
+use Rattle.rules.proofs.Calls.Meanings.{query-one, lookup-told-by}
 use Rattle.reading.specs.Gates.{gateOf}
 use Rattle.reading.specs.declared.gate.Gate.{Gate}
 use Rattle.reading.specs.declared.gate.Gate.the-variants.{Open, Shut}

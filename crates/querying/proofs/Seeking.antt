@@ -12,7 +12,7 @@ use Rattle.rules.specs.Places.{holds, hitIn}
 use Rattle.rules.specs.declared.Header.{Header}
 use Rattle.rules.specs.declared.Place.{Place}
 use Rattle.rules.specs.declared.Slot.{Slot}
-use Rattle.rules.proofs.Walks.{slots-next, slots-end}
+use Rattle.rules.proofs.Basics.Walks.{slots-next, slots-end}
 
 module _ (t : Table) (h : Header) (key : ℕ) where
   -- in a bucket's slots from s on

@@ -15,8 +15,8 @@ use Rattle.rules.specs.declared.Place.{Place}
 use Rattle.rules.specs.declared.Slot.{Slot}
 use Rattle.rules.specs.declared.Lookup.{Lookup}
 use Rattle.rules.specs.declared.Lookup.the-variants.{Stands, Absent}
-use Rattle.rules.proofs.Lists.{firstOf-some, given-some, map-in, from-in}
-use Rattle.rules.proofs.FreeSlots.{slot-place}
+use Rattle.rules.proofs.Basics.Lists.{firstOf-some, given-some, map-in, from-in}
+use Rattle.rules.proofs.Words.FreeSlots.{slot-place}
 use Rattle.reading.specs.Within.{BucketWithin, SlotWithin, AllWithin, Standing}
 use Rattle.querying.specs.Promises.{hereOr, position}
 

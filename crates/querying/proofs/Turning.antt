@@ -22,9 +22,9 @@ use Rattle.rules.specs.declared.Place.{Place}
 use Rattle.rules.specs.declared.Slot.{Slot}
 use Rattle.rules.specs.declared.Lookup.{Lookup}
 use Rattle.rules.specs.declared.Lookup.the-variants.{Stands, Absent}
-use Rattle.rules.proofs.Walks.{getD-in, stands-at}
-use Rattle.rules.proofs.Headers.{bucket-fits}
-use Rattle.rules.proofs.Levels.{exponent-fits}
+use Rattle.rules.proofs.Basics.Walks.{getD-in, stands-at}
+use Rattle.rules.proofs.Words.Headers.{bucket-fits}
+use Rattle.rules.proofs.Words.Levels.{exponent-fits}
 use Rattle.reading.specs.Levels.{NthLevel, placeIn}
 use Rattle.querying.specs.Turns.{placeOfTurn, nthPlace, fresh}
 

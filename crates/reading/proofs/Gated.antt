@@ -12,7 +12,7 @@ use Rattle.rules.specs.Calls.{headerGood, checked}
 use Rattle.rules.specs.declared.Header.{Header}
 use Rattle.rules.specs.declared.Refusal.{Refusal}
 use Rattle.rules.specs.declared.Refusal.the-variants.{BadHeader}
-use Rattle.rules.proofs.Headers.{good-header}
+use Rattle.rules.proofs.Words.Headers.{good-header}
 use Rattle.reading.specs.Gates.{gateOf, also, headerTest, Ready}
 use Rattle.reading.specs.declared.gate.Gate.{Gate}
 use Rattle.reading.specs.declared.gate.Gate.the-variants.{Open, Shut}

@@ -10,7 +10,7 @@ use Rattle.rules.specs.Choice.{all}
 use Rattle.rules.specs.Words.{Table, wordsFor, stateGood, odd, capacityTests, headerTests, headerOf}
 use Rattle.rules.specs.Calls.{headerGood}
 use Rattle.rules.specs.declared.Header.{Header}
-use Rattle.rules.proofs.Tests.{all-no}
+use Rattle.rules.proofs.Basics.Tests.{all-no}
 
 module _ (size : ℕ) (h : Header) where
   pub low : h .c < 1 → false ≡ all (headerTests size h)

@@ -6,7 +6,7 @@ use Rattle.rules.specs.Places.{firstPlace, secondPlace, placesIn}
 use Rattle.rules.specs.declared.Level.{Level}
 use Rattle.rules.specs.declared.Hashes.{Hashes}
 use Rattle.rules.specs.declared.Place.{Place}
-use Rattle.rules.proofs.Probing.{places-one, places-two}
+use Rattle.rules.proofs.Places.Probing.{places-one, places-two}
 use Rattle.reading.specs.Levels.{placeIn}
 
 module _ (x : Hashes) (l : Level) {f s : Place} (p : f ≡ placeIn l (x .first)) (q : s ≡ placeIn l (x .second)) where

@@ -10,7 +10,7 @@ use borrow.Author.Tests.{eqb-true}
 use Rattle.rules.specs.Choice.{select}
 use Rattle.rules.specs.Words.{slots, tokenNumber, isTaken, show, hide, takenOf}
 use Rattle.rules.specs.declared.Header.{Header}
-use Rattle.rules.proofs.Tokens.{taken-number, number-tested}
+use Rattle.rules.proofs.Words.Tokens.{taken-number, number-tested}
 
 -- one, s places up
 pub shifted : (s : ℕ) → s < 4 → (1 * 2 ^ s % 18446744073709551616 ≡ 2 ^ s) × (2 ^ s ≤ 8)

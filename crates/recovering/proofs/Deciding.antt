@@ -21,12 +21,12 @@ use Rattle.rules.specs.declared.Slot.{Slot}
 use Rattle.rules.specs.declared.Finding.{Finding}
 use Rattle.rules.specs.declared.Finding.the-variants.{Doubled, Flagged, Neither}
 use Rattle.rules.specs.declared.Record.{Record}
-use Rattle.rules.proofs.Headers.{header-passes}
-use Rattle.rules.proofs.Tests.{all-no}
-use Rattle.rules.proofs.Meanings.{finding-tells}
-use Rattle.rules.proofs.PlacesInUse.{slot-within}
-use Rattle.rules.proofs.Twins.{taken-in, twins-ordered}
-use Rattle.rules.proofs.Targets.{target-some}
+use Rattle.rules.proofs.Words.Headers.{header-passes}
+use Rattle.rules.proofs.Basics.Tests.{all-no}
+use Rattle.rules.proofs.Calls.Meanings.{finding-tells}
+use Rattle.rules.proofs.Places.PlacesInUse.{slot-within}
+use Rattle.rules.proofs.Tables.Twins.{taken-in, twins-ordered}
+use Rattle.rules.proofs.Tables.Targets.{target-some}
 use Rattle.scanning.proofs.Copying.{copies, copy-twins, linear, still-alike, flagged-alike}
 use Rattle.reading.specs.Within.{SlotWithin}
 use Rattle.scanning.specs.declared.copies.Scan.{Scan}

@@ -10,7 +10,7 @@ use Rattle.rules.specs.Words.{Table, tokenOf, loggedOf}
 use Rattle.rules.specs.Stores.{written, clearStores, redoStores}
 use Rattle.rules.specs.Soundness.{finding}
 use Rattle.rules.specs.Answers.{FindingTells}
-use Rattle.rules.proofs.Meanings.{finding-told-by}
+use Rattle.rules.proofs.Calls.Meanings.{finding-told-by}
 use Rattle.rules.specs.Calls.{refused, listed, recoverOf}
 use Rattle.rules.specs.declared.Header.{Header}
 use Rattle.rules.specs.declared.Slot.{Slot}

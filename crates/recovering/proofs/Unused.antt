@@ -12,7 +12,7 @@ use Rattle.rules.specs.Words.{Table, levelsInUse, exponentInUse, bucketsOf, all
 use Rattle.rules.specs.declared.State.{State}
 use Rattle.rules.specs.declared.Header.{Header}
 use Rattle.rules.specs.declared.Level.{Level}
-use Rattle.rules.proofs.Loops.{testsFrom, tests-whole, all-within}
+use Rattle.rules.proofs.Basics.Loops.{testsFrom, tests-whole, all-within}
 use Rattle.recovering.specs.Found.{tidyToken, zeroToken}
 
 -- ---- the words

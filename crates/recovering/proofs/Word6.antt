@@ -18,12 +18,12 @@ use Rattle.rules.specs.declared.State.{State}
 use Rattle.rules.specs.declared.Header.{Header}
 use Rattle.rules.specs.declared.Level.{Level}
 use Rattle.rules.specs.declared.Slot.{Slot}
-use Rattle.rules.proofs.Lists.{never, firstOf-some, firstOf-none, given-some, given-none}
-use Rattle.rules.proofs.Tests.{Tells, tells-le, tells-and}
-use Rattle.rules.proofs.Along.{along, along-all}
-use Rattle.rules.proofs.PlacesInUse.{slot-within}
-use Rattle.rules.proofs.Twins.{taken-in, in-taken}
-use Rattle.rules.proofs.Targets.{target-found, target-none}
+use Rattle.rules.proofs.Basics.Lists.{never, firstOf-some, firstOf-none, given-some, given-none}
+use Rattle.rules.proofs.Basics.Tests.{Tells, tells-le, tells-and}
+use Rattle.rules.proofs.Basics.Along.{along, along-all}
+use Rattle.rules.proofs.Places.PlacesInUse.{slot-within}
+use Rattle.rules.proofs.Tables.Twins.{taken-in, in-taken}
+use Rattle.rules.proofs.Tables.Targets.{target-found, target-none}
 use Rattle.recovering.specs.Found.{inLevel, homeOf, homeMeans}
 use Rattle.recovering.specs.declared.target.Home.{Home}
 use Rattle.recovering.specs.declared.target.Home.the-variants.{In as InLevelOf, Nowhere}

@@ -14,7 +14,7 @@ use Rattle.rules.specs.declared.Call.{Call}
 use Rattle.rules.specs.declared.Call.the-variants.{Query}
 use Rattle.rules.specs.declared.Change.{Change}
 use Rattle.rules.specs.declared.Query.{Query as QueryAnswer}
-use Rattle.rules.proofs.Meanings.{change-one, query-one}
+use Rattle.rules.proofs.Calls.Meanings.{change-one, query-one}
 use Rattle.listing.specs.Promises.{Changed as ChangedBy}
 use Rattle.querying.specs.Promises.{Queried}
 use Rattle.following.specs.declared.Cut.{Cut}

@@ -19,7 +19,7 @@ use Rattle.rules.specs.declared.Call.the-variants.{Query, Insert, Update, Delet
 use Rattle.rules.specs.declared.Refusal.the-variants.{BadCreation}
 use Rattle.rules.specs.declared.Verdict.{Verdict}
 use Rattle.rules.specs.declared.Verdict.the-variants.{Done, Denied}
-use Rattle.rules.proofs.Meanings.{verdict-one}
+use Rattle.rules.proofs.Calls.Meanings.{verdict-one}
 use Rattle.following.specs.Sentences.{Changing}
 use Rattle.following.specs.declared.Cut.{Cut}
 use Rattle.following.specs.declared.Cut.the-variants.{None as noCut, After as cutAfter}

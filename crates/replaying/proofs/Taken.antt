@@ -13,7 +13,7 @@ use Rattle.rules.specs.declared.Refusal.{Refusal}
 use Rattle.rules.specs.declared.Refusal.the-variants.{BadCreation}
 use Rattle.rules.specs.declared.Verdict.{Verdict}
 use Rattle.rules.specs.declared.Verdict.the-variants.{Done, Denied}
-use Rattle.rules.proofs.Meanings.{verdict-one}
+use Rattle.rules.proofs.Calls.Meanings.{verdict-one}
 use Rattle.making.specs.Promises.{Created}
 use Rattle.lines.specs.declared.Line.{Line}
 use Rattle.following.specs.Scripts.{readingOf, endingOf}

@@ -1,26 +1,26 @@
 -- The user's three demands, proved: one theorem. Each field is the law of the same name.
 -- Assumes nothing.
 use Rattle.rules.specs.Mission.{Demand1, Demand2, Demand3, Mission}
-use Rattle.rules.proofs.Sound.{soundnessIsTested}
-use Rattle.rules.proofs.Maps.{mapExists}
-use Rattle.rules.proofs.Findings.{recoverAnswers, recoveryAccepts}
-use Rattle.rules.proofs.Queries.{queryIsACall, queryAnswers, queryCounts, probesAreFew, probesAreDistinct}
-use Rattle.rules.proofs.Refusals.{refusalsInOrder}
-use Rattle.rules.proofs.StoreLists.{storesAsWritten}
-use Rattle.rules.proofs.StoreNumbers.{storeNumbers}
-use Rattle.rules.proofs.LentLists.{changeAnswers}
-use Rattle.rules.proofs.Making.{makeAnswers}
-use Rattle.rules.proofs.Creating.{createAnswers, createdIsEmpty}
-use Rattle.rules.proofs.StepPlacing.{stepIsACall}
-use Rattle.rules.proofs.Inside.{storesInside, tokenStoresLow}
-use Rattle.rules.proofs.Inserting.{insertAnswers}
-use Rattle.rules.proofs.Updating.{updateAnswers, deleteAnswers}
-use Rattle.rules.proofs.GrowthSteps.{stepAnswers}
-use Rattle.rules.proofs.BeginEnd.{beginAnswers, endAnswers}
-use Rattle.rules.proofs.MadeLists.{makeTakesTheList}
-use Rattle.rules.proofs.Recurring.{recoveryMayBeCut}
-use Rattle.rules.proofs.MadeCuts.{cutsAreSafe}
-use Rattle.rules.proofs.GrowthCost.{growthBound}
+use Rattle.rules.proofs.Tables.Sound.{soundnessIsTested}
+use Rattle.rules.proofs.Tables.Maps.{mapExists}
+use Rattle.rules.proofs.Tables.Findings.{recoverAnswers, recoveryAccepts}
+use Rattle.rules.proofs.Calls.Queries.{queryIsACall, queryAnswers, queryCounts, probesAreFew, probesAreDistinct}
+use Rattle.rules.proofs.Calls.Refusals.{refusalsInOrder}
+use Rattle.rules.proofs.Calls.StoreLists.{storesAsWritten}
+use Rattle.rules.proofs.Calls.StoreNumbers.{storeNumbers}
+use Rattle.rules.proofs.Calls.LentLists.{changeAnswers}
+use Rattle.rules.proofs.Calls.Making.{makeAnswers}
+use Rattle.rules.proofs.Calls.Creating.{createAnswers, createdIsEmpty}
+use Rattle.rules.proofs.Calls.StepPlacing.{stepIsACall}
+use Rattle.rules.proofs.Calls.Inside.{storesInside, tokenStoresLow}
+use Rattle.rules.proofs.Calls.Inserting.{insertAnswers}
+use Rattle.rules.proofs.Calls.Updating.{updateAnswers, deleteAnswers}
+use Rattle.rules.proofs.Calls.GrowthSteps.{stepAnswers}
+use Rattle.rules.proofs.Calls.BeginEnd.{beginAnswers, endAnswers}
+use Rattle.rules.proofs.Calls.MadeLists.{makeTakesTheList}
+use Rattle.rules.proofs.Cutting.Recurring.{recoveryMayBeCut}
+use Rattle.rules.proofs.Cutting.MadeCuts.{cutsAreSafe}
+use Rattle.rules.proofs.Growth.GrowthCost.{growthBound}
 
 pub demand1 : Demand1
 demand1 =

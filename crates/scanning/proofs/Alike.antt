@@ -6,7 +6,7 @@ use mathlib.Core.List.{List, [], _∷_, List·Memᴰ as In, List·Memᴰ·head a
 use mathlib.Core.Logic.{_⊎_, ⊎-elim, inl, inr}
 use native.Mathlib.Omega.{arith}
 use lib.ListN.{length}
-use Rattle.rules.proofs.Lists.{NoRepeat}
+use Rattle.rules.proofs.Basics.Lists.{NoRepeat}
 
 module _ {A : Type 0} where
   -- the same list, or both with two elements or more

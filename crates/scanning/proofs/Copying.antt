@@ -20,13 +20,13 @@ use Rattle.rules.specs.declared.Slot.{Slot}
 use Rattle.rules.specs.declared.Lookup.{Lookup}
 use Rattle.rules.specs.declared.Lookup.the-variants.{Stands, Absent}
 use Rattle.rules.specs.declared.Finding.the-variants.{Neither}
-use Rattle.rules.proofs.Lists.{never, flatMap-in, in-flatMap, ascending-flatMap, NoRepeat}
-use Rattle.rules.proofs.Tests.{Tells, tells-lt, tells-eq, tells-and, tells-or, tells-all, tells-any}
+use Rattle.rules.proofs.Basics.Lists.{never, flatMap-in, in-flatMap, ascending-flatMap, NoRepeat}
+use Rattle.rules.proofs.Basics.Tests.{Tells, tells-lt, tells-eq, tells-and, tells-or, tells-all, tells-any}
 use Rattle.scanning.proofs.Alike.{Alike, Two, alike-parts}
-use Rattle.rules.proofs.FreeSlots.{slot-place}
-use Rattle.rules.proofs.PlacesInUse.{same-place-tells, slot-by-bucket, in-place}
-use Rattle.rules.proofs.Twins.{before-once, before-apart, taken-in, in-taken, taken-apart, taken-compare, Twins, twins-ordered, twins-apart, same-or-twins}
-use Rattle.rules.proofs.Lookups.{stands-one, lookup-stands, lookup-sees, holder-among, holder-taken}
+use Rattle.rules.proofs.Words.FreeSlots.{slot-place}
+use Rattle.rules.proofs.Places.PlacesInUse.{same-place-tells, slot-by-bucket, in-place}
+use Rattle.rules.proofs.Tables.Twins.{before-once, before-apart, taken-in, in-taken, taken-apart, taken-compare, Twins, twins-ordered, twins-apart, same-or-twins}
+use Rattle.rules.proofs.Places.Lookups.{stands-one, lookup-stands, lookup-sees, holder-among, holder-taken}
 
 -- ---- the order of slots as a test
 

@@ -11,7 +11,7 @@ use Rattle.rules.specs.Choice.{any, from}
 use Rattle.rules.specs.Words.{Table, sizeOf, levelsInUse, bucketsOf, slotAt, slotsIn, placeOf, placeAt, slotsOf, slotsInUse, isTaken, tokenOf, taken, keyIn}
 use Rattle.rules.specs.Places.{hashesOf, firstPlace, secondPlace, samePlace, placesIn, probes, placesOf, lookup}
 use Rattle.rules.specs.Answers.{LookupTells}
-use Rattle.rules.proofs.Meanings.{lookup-told-by}
+use Rattle.rules.proofs.Calls.Meanings.{lookup-told-by}
 use Rattle.rules.specs.declared.State.{State}
 use Rattle.rules.specs.declared.Header.{Header}
 use Rattle.rules.specs.declared.Level.{Level}
@@ -21,7 +21,7 @@ use Rattle.rules.specs.declared.Slot.{Slot}
 use Rattle.rules.specs.declared.Lookup.{Lookup}
 use Rattle.rules.specs.declared.Lookup.the-variants.{Stands, Absent}
 use Rattle.reading.specs.Levels.{placeIn}
-use Rattle.rules.proofs.Loops.{foldFrom, fold-whole, within, fold-within, testsFrom, tests-whole, any-within}
+use Rattle.rules.proofs.Basics.Loops.{foldFrom, fold-whole, within, fold-within, testsFrom, tests-whole, any-within}
 use Rattle.scanning.specs.Copying.{isBefore, inOrder, sameSlot}
 use Rattle.scanning.specs.declared.copies.Scan.{Scan}
 use Rattle.scanning.specs.declared.copies.Scan.the-variants.{Clear, Pair, Spoilt}

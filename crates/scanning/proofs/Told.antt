@@ -14,12 +14,12 @@ use Rattle.scanning.specs.Copying.{inOrder, sameSlot, copyAt, copiesOf}
 use Rattle.rules.specs.declared.Slot.{Slot}
 use Rattle.rules.specs.declared.Lookup.{Lookup}
 use Rattle.rules.specs.declared.Lookup.the-variants.{Stands, Absent}
-use Rattle.rules.proofs.Lists.{never}
-use Rattle.rules.proofs.Tests.{tells-and}
-use Rattle.rules.proofs.Loops.{fold-select}
-use Rattle.rules.proofs.PlacesInUse.{in-place}
-use Rattle.rules.proofs.Twins.{taken-in}
-use Rattle.rules.proofs.Lookups.{lookup-sees}
+use Rattle.rules.proofs.Basics.Lists.{never}
+use Rattle.rules.proofs.Basics.Tests.{tells-and}
+use Rattle.rules.proofs.Basics.Loops.{fold-select}
+use Rattle.rules.proofs.Places.PlacesInUse.{in-place}
+use Rattle.rules.proofs.Tables.Twins.{taken-in}
+use Rattle.rules.proofs.Places.Lookups.{lookup-sees}
 use Rattle.scanning.proofs.Copying.{copies, itself-in-place}
 use Rattle.scanning.specs.declared.copies.Scan.{Scan}
 use Rattle.scanning.specs.declared.copies.Scan.the-variants.{Clear, Spoilt}

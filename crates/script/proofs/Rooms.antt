@@ -15,8 +15,8 @@ use Rattle.rules.specs.Results.{createResult}
 use Rattle.rules.specs.Demands.{GoodCreation, CreatedWords}
 use Rattle.rules.specs.declared.Verdict.{Verdict}
 use Rattle.rules.specs.declared.Verdict.the-variants.{Done}
-use Rattle.rules.proofs.Creating.{createAnswers}
-use Rattle.rules.proofs.Meanings.{verdict-one}
+use Rattle.rules.proofs.Calls.Creating.{createAnswers}
+use Rattle.rules.proofs.Calls.Meanings.{verdict-one}
 use Rattle.following.specs.declared.Script.{Script}
 use Rattle.following.specs.declared.Asked.the-variants.{Table as askTable}
 use Rattle.replaying.specs.Replays.{askedOf}

@@ -4,7 +4,7 @@ use Rattle.rules.specs.Stores.{clearStores}
 use native.Mathlib.Omega.{arith}
 use denote.Ref.{now}
 use Rattle.reading.specs.Within.{SlotWithin}
-use Rattle.rules.proofs.Headers.{table-small}
+use Rattle.rules.proofs.Words.Headers.{table-small}
 use Rattle.listing.proofs.Outcomes.{did-list, did-refuse, did-as}
 use Rattle.changing.proofs.Changes.{is-absent, delete-absent, delete-listed}
 use borrow.Author.Needs.{needs}

@@ -4,8 +4,8 @@ use mathlib.Core.Logic.{⊎-elim}
 use mathlib.Core.Path.{_≡_, _∙_}
 use denote.Ref.{now}
 use native.Mathlib.Omega.{arith}
-use Rattle.rules.proofs.Headers.{table-small}
-use Rattle.rules.proofs.Meanings.{placing-told-by}
+use Rattle.rules.proofs.Words.Headers.{table-small}
+use Rattle.rules.proofs.Calls.Meanings.{placing-told-by}
 use Rattle.listing.specs.Listing.{Takes}
 use Rattle.listing.proofs.Placings.{apart-free, apart-move}
 use Rattle.listing.proofs.Outcomes.{did-list, did-refuse, did-as}

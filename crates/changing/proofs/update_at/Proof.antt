@@ -1,7 +1,7 @@
 -- `changing::update_at` meets its contract.
 -- Assumes nothing.
 use native.Mathlib.Omega.{arith}
-use Rattle.rules.proofs.Headers.{table-small}
+use Rattle.rules.proofs.Words.Headers.{table-small}
 use Rattle.listing.proofs.Outcomes.{did-list, did-refuse, did-as}
 use Rattle.changing.proofs.Changes.{is-absent, update-absent, update-listed}
 use borrow.Author.Needs.{needs}

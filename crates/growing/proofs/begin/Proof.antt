@@ -2,7 +2,7 @@
 -- Assumes nothing.
 use native.Mathlib.Omega.{arith}
 use Rattle.rules.specs.declared.Call.the-variants.{Begin as begin}
-use Rattle.rules.proofs.Headers.{sizes}
+use Rattle.rules.proofs.Words.Headers.{sizes}
 use Rattle.listing.proofs.Outcomes.{changed-shut, changed-open, change-long}
 use borrow.Author.Needs.{needs}
 use Rattle.growing.proofs.begin.Statement.{statement}

@@ -4,7 +4,7 @@ use mathlib.Core.Path.{_≡_, sym, _∙_}
 use mathlib.Core.Bool.{false}
 use native.Mathlib.Omega.{arith}
 use Rattle.rules.specs.Words.{atRest}
-use Rattle.rules.proofs.Headers.{sizes}
+use Rattle.rules.proofs.Words.Headers.{sizes}
 use Rattle.listing.proofs.Outcomes.{did-list, did-refuse, did-as}
 use Rattle.growing.proofs.Growth.{is-empty, is-there, end-resting, end-taken, end-listed}
 use borrow.Author.Needs.{needs}

@@ -3,8 +3,8 @@
 use mathlib.Core.Path.{sym, _∙_}
 use denote.Ref.{now}
 use borrow.Author.Needs.{needs}
-use Rattle.rules.proofs.Headers.{header-state}
-use Rattle.rules.proofs.Meanings.{placing-tells}
+use Rattle.rules.proofs.Words.Headers.{header-state}
+use Rattle.rules.proofs.Calls.Meanings.{placing-tells}
 use Rattle.placing.proofs.Goals.{top-within, bottom-within}
 use Rattle.placing.proofs.Placings.{free-somewhere, not-free, by-top, by-bottom, by-move}
 use Rattle.placing.proofs.placing.Statement.{statement}

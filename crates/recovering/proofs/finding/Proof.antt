@@ -5,7 +5,7 @@ use native.Mathlib.Omega.{arith}
 use borrow.Author.Tests.{not-true, not-false}
 use borrow.Author.Needs.{needs}
 use Rattle.rules.specs.Words.{flagOf}
-use Rattle.rules.proofs.Headers.{header-fits}
+use Rattle.rules.proofs.Words.Headers.{header-fits}
 use Rattle.recovering.proofs.Deciding.{scan-within, find-untidy, find-unused, find-misflagged, find-still, find-flagged}
 use Rattle.recovering.proofs.finding.Statement.{statement}
 use Rattle.recovering.proofs.finding.Tie as tie

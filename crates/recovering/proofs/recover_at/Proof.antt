@@ -7,7 +7,7 @@ use denote.Ref.{now}
 use lib.ListN.{length}
 use Rattle.rules.specs.Words.{wordsFor, loggedOf}
 use Rattle.rules.specs.Stores.{clearStores, redoStores}
-use Rattle.rules.proofs.Headers.{table-small}
+use Rattle.rules.proofs.Words.Headers.{table-small}
 use Rattle.reading.specs.Within.{SlotWithin}
 use Rattle.listing.proofs.Outcomes.{did-list, did-refuse, did-as}
 use Rattle.recovering.proofs.Recovery.{did-nothing, recover-sound, recover-neither, recover-doubled, recover-flagged}

@@ -7,8 +7,8 @@ use native.Mathlib.Omega.{arith}
 use denote.Ref.{now}
 use lib.Pow.{pow-mono}
 use Rattle.rules.specs.Words.{slotAt, placeAt}
-use Rattle.rules.proofs.Headers.{header-state, next-bucket-fits}
-use Rattle.rules.proofs.Levels.{interim-used, exponent-fits}
+use Rattle.rules.proofs.Words.Headers.{header-state, next-bucket-fits}
+use Rattle.rules.proofs.Words.Levels.{interim-used, exponent-fits}
 use Rattle.reading.specs.Within.{BucketWithin}
 use Rattle.growing.specs.Interim.{itemOf}
 use Rattle.growing.proofs.FirstItem.{itemFrom, items-all, items-hit, items-pass, items-over}

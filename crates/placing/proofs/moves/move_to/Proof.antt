@@ -8,9 +8,9 @@ use denote.Ref.{now}
 use lib.ListN.{length, take, getD}
 use Rattle.rules.specs.Choice.{firstOf}
 use Rattle.rules.specs.Placing.{freeSlot}
-use Rattle.rules.proofs.Walks.{among-first}
+use Rattle.rules.proofs.Basics.Walks.{among-first}
 use Rattle.reading.specs.Within.{BucketWithin}
-use Rattle.rules.proofs.Along.{along, along-all, first-pass, first-hit, first-over}
+use Rattle.rules.proofs.Basics.Along.{along, along-all, first-pass, first-hit, first-over}
 use Rattle.placing.proofs.Goals.{past}
 use Rattle.placing.proofs.Placings.{not-free, is-free}
 use Rattle.placing.proofs.Moving.{item-moves, item-stays}

@@ -6,9 +6,9 @@ use Prim.Native.Nat.{_-_}
 use denote.Ref.{now}
 use native.Mathlib.Omega.{arith}
 use Rattle.rules.specs.Words.{slotAt, slotsIn}
-use Rattle.rules.proofs.Walks.{slots-next, slots-end}
+use Rattle.rules.proofs.Basics.Walks.{slots-next, slots-end}
 use Rattle.placing.specs.Search.{optional, itemMove, bucketMove}
-use Rattle.rules.proofs.Along.{along, along-pass, along-hit, along-over}
+use Rattle.rules.proofs.Basics.Along.{along, along-pass, along-hit, along-over}
 use Rattle.placing.proofs.Placings.{nowhere, somewhere}
 use Rattle.placing.proofs.Moving.{item-of, bucket-all}
 use Rattle.placing.proofs.moves.moves_of_bucket.Statement.{statement}

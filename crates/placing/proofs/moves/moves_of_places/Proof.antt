@@ -6,10 +6,10 @@ use Prim.Native.Nat.{_-_, _≤_}
 use native.Mathlib.Omega.{arith}
 use denote.Ref.{now}
 use lib.ListN.{length, take, getD}
-use Rattle.rules.proofs.Walks.{among-first}
+use Rattle.rules.proofs.Basics.Walks.{among-first}
 use Rattle.reading.specs.Within.{BucketWithin}
 use Rattle.placing.specs.Search.{optional, placeMove, placesMove}
-use Rattle.rules.proofs.Along.{along, first-pass, first-hit, first-over}
+use Rattle.rules.proofs.Basics.Along.{along, first-pass, first-hit, first-over}
 use Rattle.placing.proofs.Goals.{past}
 use Rattle.placing.proofs.Placings.{nowhere, somewhere}
 use Rattle.placing.proofs.Moving.{place-move, places-all}

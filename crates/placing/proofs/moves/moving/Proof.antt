@@ -4,7 +4,7 @@ use mathlib.Core.Path.{_≡_}
 use denote.Ref.{now}
 use borrow.Author.Needs.{needs}
 use Rattle.rules.specs.Words.{topOf, bottomOf}
-use Rattle.rules.proofs.Headers.{header-state}
+use Rattle.rules.proofs.Words.Headers.{header-state}
 use Rattle.placing.specs.Within.{LevelWithin}
 use Rattle.placing.proofs.Goals.{top-within, bottom-within}
 use Rattle.placing.proofs.Placings.{nowhere, somewhere}

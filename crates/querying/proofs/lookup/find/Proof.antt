@@ -10,7 +10,7 @@ use lib.ListN.{length}
 use Rattle.rules.specs.Words.{levelsInUse, slotAt}
 use Rattle.rules.specs.Places.{probes, hitIn, seek}
 use Rattle.rules.specs.declared.Lookup.the-variants.{Absent}
-use Rattle.rules.proofs.Headers.{header-state}
+use Rattle.rules.proofs.Words.Headers.{header-state}
 use Rattle.reading.specs.Within.{BucketWithin}
 use Rattle.querying.specs.Turns.{nthPlace}
 use Rattle.querying.proofs.Seeking.{inSlots, slots-all, slots-over, slot-free, slot-other, slot-hit}

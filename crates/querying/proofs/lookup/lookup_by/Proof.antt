@@ -4,8 +4,8 @@ use mathlib.Core.Path.{ap, _∙_}
 use denote.Ref.{now}
 use Rattle.rules.specs.Places.{hitIn, seek, probes, placesOf, lookup}
 use Rattle.rules.specs.declared.Hashes.{Hashes}
-use Rattle.rules.proofs.PlacesWithin.{places-within}
-use Rattle.rules.proofs.Meanings.{lookup-tells}
+use Rattle.rules.proofs.Places.PlacesWithin.{places-within}
+use Rattle.rules.proofs.Calls.Meanings.{lookup-tells}
 use Rattle.querying.proofs.Standings.{seek-within}
 use Rattle.querying.proofs.lookup.lookup_by.Statement.{statement}
 use Rattle.querying.proofs.lookup.lookup_by.Tie as tie

@@ -3,7 +3,7 @@
 use mathlib.Core.Path.{refl}
 use native.Mathlib.Omega.{arith}
 use Rattle.rules.specs.Words.{bottomOf}
-use Rattle.rules.proofs.States.{state-fits}
+use Rattle.rules.proofs.Words.States.{state-fits}
 use Rattle.reading.proofs.levels.bottom.Statement.{statement}
 use Rattle.reading.proofs.levels.bottom.Tie as tie
 

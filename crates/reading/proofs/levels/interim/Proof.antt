@@ -2,7 +2,7 @@
 -- Assumes nothing.
 use mathlib.Core.Path.{refl}
 use Rattle.rules.specs.Words.{interimOf}
-use Rattle.rules.proofs.States.{interim-fits, interim-least}
+use Rattle.rules.proofs.Words.States.{interim-fits, interim-least}
 use Rattle.reading.proofs.levels.interim.Statement.{statement}
 use Rattle.reading.proofs.levels.interim.Tie as tie
 

@@ -4,7 +4,7 @@ use mathlib.Core.Path.{sym, _∙_}
 use mathlib.Core.Bool.{cond}
 use native.Mathlib.Omega.{arith}
 use borrow.Author.Needs.{needs}
-use Rattle.rules.proofs.Levels.{levels-counted}
+use Rattle.rules.proofs.Words.Levels.{levels-counted}
 use Rattle.reading.proofs.levels.level_count.Statement.{statement}
 use Rattle.reading.proofs.levels.level_count.Tie as tie
 

@@ -2,8 +2,8 @@
 -- Assumes nothing.
 use mathlib.Core.Path.{_∙_}
 use native.Mathlib.Omega.{arith}
-use Rattle.rules.proofs.States.{state-fits}
-use Rattle.rules.proofs.Levels.{third-level, earlier-level}
+use Rattle.rules.proofs.Words.States.{state-fits}
+use Rattle.rules.proofs.Words.Levels.{third-level, earlier-level}
 use Rattle.reading.proofs.levels.nth_level.Statement.{statement}
 use Rattle.reading.proofs.levels.nth_level.Tie as tie
 

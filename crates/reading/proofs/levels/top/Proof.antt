@@ -2,7 +2,7 @@
 -- Assumes nothing.
 use mathlib.Core.Path.{refl}
 use Rattle.rules.specs.Words.{topOf}
-use Rattle.rules.proofs.States.{state-fits}
+use Rattle.rules.proofs.Words.States.{state-fits}
 use Rattle.reading.proofs.levels.top.Statement.{statement}
 use Rattle.reading.proofs.levels.top.Tie as tie
 

@@ -6,7 +6,7 @@ use mathlib.Core.Bool.{not}
 use Prim.Native.Nat.{_+_, _-_, _≤_, _<_}
 use native.Mathlib.Omega.{arith}
 use Rattle.rules.specs.Words.{isTaken, lowestFree}
-use Rattle.rules.proofs.Lowest.{lowestFrom, lowest-all, lowest-here, lowest-next, lowest-over}
+use Rattle.rules.proofs.Basics.Lowest.{lowestFrom, lowest-all, lowest-here, lowest-next, lowest-over}
 use Rattle.reading.proofs.tokens.lowest_free.Statement.{statement}
 use Rattle.reading.proofs.tokens.lowest_free.Tie as tie
 

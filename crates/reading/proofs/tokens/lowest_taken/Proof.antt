@@ -5,7 +5,7 @@ use mathlib.Core.Path.{_≡_, sym, _∙_}
 use native.Mathlib.Omega.{arith}
 use borrow.Author.Needs.{needs}
 use Rattle.rules.specs.Words.{isTaken, lowestTaken}
-use Rattle.rules.proofs.Lowest.{lowestFrom, lowest-all, lowest-here, lowest-next, lowest-over}
+use Rattle.rules.proofs.Basics.Lowest.{lowestFrom, lowest-all, lowest-here, lowest-next, lowest-over}
 use Rattle.reading.proofs.tokens.lowest_taken.Statement.{statement}
 use Rattle.reading.proofs.tokens.lowest_taken.Tie as tie
 

@@ -7,7 +7,7 @@ use borrow.Author.Needs.{needs}
 use lib.ListN.{drop-of-length-le}
 use Rattle.rules.specs.Choice.{any}
 use Rattle.rules.specs.Words.{levelsInUse, exponentInUse}
-use Rattle.rules.proofs.Loops.{testsFrom, tests-end, any-next}
+use Rattle.rules.proofs.Basics.Loops.{testsFrom, tests-end, any-next}
 use Rattle.recovering.proofs.Unused.{uses, use-whole, use-same, use-other}
 use Rattle.recovering.proofs.levels.in_use.Statement.{statement}
 use Rattle.recovering.proofs.levels.in_use.Tie as tie

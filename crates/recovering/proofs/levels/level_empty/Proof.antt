@@ -8,9 +8,9 @@ use borrow.Author.Tests.{eq-eqb, ne-eqb}
 use denote.Ref.{now}
 use Rattle.rules.specs.Choice.{all, from}
 use Rattle.rules.specs.Words.{bucketsOf}
-use Rattle.rules.proofs.Headers.{sizes, next-bucket-fits}
-use Rattle.rules.proofs.Walks.{from-next, from-end}
-use Rattle.rules.proofs.Loops.{testsFrom, tests-end, all-next}
+use Rattle.rules.proofs.Words.Headers.{sizes, next-bucket-fits}
+use Rattle.rules.proofs.Basics.Walks.{from-next, from-end}
+use Rattle.rules.proofs.Basics.Loops.{testsFrom, tests-end, all-next}
 use Rattle.reading.specs.Within.{BucketWithin}
 use Rattle.recovering.specs.Found.{zeroToken}
 use Rattle.recovering.proofs.Unused.{zero-test, level-whole}

@@ -7,9 +7,9 @@ use native.Mathlib.Omega.{arith}
 use borrow.Author.Tests.{eq-eqb, ne-eqb}
 use Rattle.rules.specs.Choice.{all, from}
 use Rattle.rules.specs.Words.{allBuckets}
-use Rattle.rules.proofs.Headers.{sizes, all-buckets-fit}
-use Rattle.rules.proofs.Walks.{from-next, from-end}
-use Rattle.rules.proofs.Loops.{testsFrom, tests-end, all-next}
+use Rattle.rules.proofs.Words.Headers.{sizes, all-buckets-fit}
+use Rattle.rules.proofs.Basics.Walks.{from-next, from-end}
+use Rattle.rules.proofs.Basics.Loops.{testsFrom, tests-end, all-next}
 use Rattle.recovering.specs.Found.{tidyToken}
 use Rattle.recovering.proofs.Unused.{tidy-test, table-whole}
 use Rattle.recovering.proofs.levels.tokens_tidy.Statement.{statement}

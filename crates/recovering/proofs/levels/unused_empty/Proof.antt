@@ -8,9 +8,9 @@ use native.Mathlib.Omega.{arith}
 use borrow.Author.Tests.{not-true, not-false}
 use Rattle.rules.specs.Choice.{all, from}
 use Rattle.rules.specs.Words.{unusedBuckets}
-use Rattle.rules.proofs.Headers.{header-state, sizes}
-use Rattle.rules.proofs.Walks.{from-next, from-end}
-use Rattle.rules.proofs.Loops.{testsFrom, tests-end, all-next}
+use Rattle.rules.proofs.Words.Headers.{header-state, sizes}
+use Rattle.rules.proofs.Basics.Walks.{from-next, from-end}
+use Rattle.rules.proofs.Basics.Loops.{testsFrom, tests-end, all-next}
 use Rattle.recovering.specs.Found.{zeroToken}
 use Rattle.recovering.proofs.Unused.{levelFine, unused-whole, fine-used, fine-empty}
 use Rattle.recovering.proofs.levels.unused_empty.Statement.{statement}

@@ -5,7 +5,7 @@ use native.Mathlib.Omega.{arith}
 use borrow.Author.Tests.{not-true, not-false}
 use borrow.Author.Needs.{needs}
 use Rattle.rules.specs.Words.{targetOf}
-use Rattle.rules.proofs.Headers.{header-state, header-fits}
+use Rattle.rules.proofs.Words.Headers.{header-state, header-fits}
 use Rattle.recovering.specs.Found.{homeMeans}
 use Rattle.recovering.proofs.Word6.{no-home, word-low, word-between, word-outside, word-free, named-within, word-names}
 use Rattle.recovering.proofs.target.find_target.Statement.{statement}

@@ -6,7 +6,7 @@ use native.Mathlib.Omega.{arith}
 use borrow.Author.Needs.{needs}
 use lib.ListN.{drop-of-length-le}
 use Rattle.rules.specs.Words.{levelsInUse}
-use Rattle.rules.proofs.Along.{along, along-pass, along-hit, along-over}
+use Rattle.rules.proofs.Basics.Along.{along, along-pass, along-hit, along-over}
 use Rattle.recovering.specs.Found.{homeOf}
 use Rattle.recovering.proofs.Word6.{tried, levels-all, level-hit, level-pass}
 use Rattle.recovering.proofs.target.home_of.Statement.{statement}

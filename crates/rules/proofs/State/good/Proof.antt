@@ -1,6 +1,6 @@
 -- `rules::State::good` meets its contract: each way through it is a law of `States`.
 -- Assumes nothing.
-use Rattle.rules.proofs.States.{state-above, state-other, state-rest, state-growing}
+use Rattle.rules.proofs.Words.States.{state-above, state-other, state-rest, state-growing}
 use Rattle.rules.proofs.State.good.Statement.{statement}
 use Rattle.rules.proofs.State.good.Tie as tie
 

@@ -2,7 +2,7 @@
 -- Assumes nothing.
 use mathlib.Core.Path.{sym, _∙_}
 use borrow.Author.Needs.{needs}
-use Rattle.rules.proofs.Headers.{header-state}
+use Rattle.rules.proofs.Words.Headers.{header-state}
 use Rattle.scanning.proofs.Meeting.{item-absent, item-itself, item-copied}
 use Rattle.scanning.proofs.items.item.Statement.{statement}
 use Rattle.scanning.proofs.items.item.Tie as tie

@@ -7,8 +7,8 @@ use mathlib.Core.Logic.{⊎-elim}
 use native.Mathlib.Omega.{arith}
 use borrow.Author.Needs.{needs}
 use Rattle.rules.specs.Words.{slotsIn, slotAt, taken}
-use Rattle.rules.proofs.Walks.{slots-next, slots-end}
-use Rattle.rules.proofs.Loops.{foldFrom, fold-whole, fold-next, fold-end}
+use Rattle.rules.proofs.Basics.Walks.{slots-next, slots-end}
+use Rattle.rules.proofs.Basics.Loops.{foldFrom, fold-whole, fold-next, fold-end}
 use Rattle.scanning.specs.Scans.{slotMet}
 use Rattle.scanning.proofs.Meeting.{slot-taken, slot-free}
 use Rattle.scanning.proofs.items.scan_bucket.Statement.{statement}

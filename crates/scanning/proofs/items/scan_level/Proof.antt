@@ -7,9 +7,9 @@ use native.Mathlib.Omega.{arith}
 use denote.Ref.{now}
 use Rattle.rules.specs.Choice.{from}
 use Rattle.rules.specs.Words.{slotsOf}
-use Rattle.rules.proofs.Headers.{next-bucket-fits}
-use Rattle.rules.proofs.Walks.{from-next, from-end}
-use Rattle.rules.proofs.Loops.{foldFrom, fold-next, fold-end}
+use Rattle.rules.proofs.Words.Headers.{next-bucket-fits}
+use Rattle.rules.proofs.Basics.Walks.{from-next, from-end}
+use Rattle.rules.proofs.Basics.Loops.{foldFrom, fold-next, fold-end}
 use Rattle.reading.specs.Within.{BucketWithin}
 use Rattle.scanning.specs.Scans.{slotMet}
 use Rattle.scanning.proofs.Meeting.{levelMet, level-whole, bucket-met}

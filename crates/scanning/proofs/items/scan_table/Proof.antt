@@ -6,10 +6,10 @@ use native.Mathlib.Omega.{arith}
 use borrow.Author.Needs.{needs}
 use lib.ListN.{drop-of-length-le}
 use Rattle.rules.specs.Words.{levelsInUse, slotsOf}
-use Rattle.rules.proofs.Headers.{header-state}
-use Rattle.rules.proofs.Levels.{exponent-fits}
-use Rattle.rules.proofs.Walks.{stands-in}
-use Rattle.rules.proofs.Loops.{foldFrom, fold-next, fold-end, within}
+use Rattle.rules.proofs.Words.Headers.{header-state}
+use Rattle.rules.proofs.Words.Levels.{exponent-fits}
+use Rattle.rules.proofs.Basics.Walks.{stands-in}
+use Rattle.rules.proofs.Basics.Loops.{foldFrom, fold-next, fold-end, within}
 use Rattle.scanning.specs.Scans.{slotMet, scanOf}
 use Rattle.scanning.proofs.Meeting.{levels-whole}
 use Rattle.scanning.proofs.items.scan_table.Statement.{statement}

@@ -9,7 +9,7 @@ use lib.ListN.{drop-of-length-le}
 use Rattle.rules.specs.Choice.{any}
 use Rattle.rules.specs.Words.{levelsInUse, placeOf}
 use Rattle.rules.specs.Places.{samePlace, probes}
-use Rattle.rules.proofs.Loops.{testsFrom, tests-end, any-next}
+use Rattle.rules.proofs.Basics.Loops.{testsFrom, tests-end, any-next}
 use Rattle.scanning.proofs.Meeting.{atPlace, at-any}
 use Rattle.scanning.proofs.items.stands.Statement.{statement}
 use Rattle.scanning.proofs.items.stands.Tie as tie

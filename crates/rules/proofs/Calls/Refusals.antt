@@ -1,0 +1,186 @@
+-- "Refusal numbers": each call refuses by the first of its refusals, in document 01's order, whose reason holds, and is accepted
+-- where none does. On every table and with a list of any length.
+-- Assumes nothing.
+use Prim.Native.Nat.{ℕ, _<_}
+use mathlib.Core.Path.{_≡_, refl}
+use mathlib.Core.Bool.{Bool, true, false, not, cond}
+use mathlib.Core.List.{List, [], _∷_, _++_}
+use mathlib.Core.Logic.{inl, inr, ⊎-elim, Iff·trans}
+use mathlib.Core.Option.{Option, none, some}
+use native.Mathlib.Omega.{arith}
+use lib.ListN.{length}
+use borrow.Author.Tests.{leb-true, leb-false}
+use Rattle.rules.specs.Words.{Table, headerOf, flagOf, atRest, keyIn, word}
+use Rattle.rules.specs.Places.{lookup}
+use Rattle.rules.specs.Placing.{placing}
+use Rattle.rules.specs.Stores.{Store, placingStores, stepStores, beginStores, endStores}
+use Rattle.rules.specs.Soundness.{finding}
+use Rattle.rules.specs.Calls.{headerGood, listLong, flagClear, checked, changingTests, queryTests, recoverTests, Outcome, refused, listed, placedBy, insertIn, updateIn, deleteIn, queryIn, beginTests, beginOf, stepItem, stepIn, stepTests, stepOf, endTests, endOf, recoverOf, Call, query, insert, update, delete, begin, step, end, recover, outcome}
+use Rattle.rules.specs.NoPlace.{NoPlaceFor}
+use Rattle.rules.specs.Demands.{AtRest, Growing, Held, InterimItem, FirstInterim, NoInterim, OfNoKind, changingRefusals, refusals, FirstRefuses, RefusalsInOrder, HeaderWords, badHeader, flagNotZero}
+use Rattle.rules.specs.declared.Slot.{Slot}
+use Rattle.rules.specs.declared.Record.{Record}
+use Rattle.rules.specs.declared.Lookup.{Lookup}
+use Rattle.rules.specs.declared.Lookup.the-variants.{Stands, Absent}
+use Rattle.rules.specs.declared.Placing.{Placing}
+use Rattle.rules.specs.declared.Placing.the-variants.{Free, Move, Nowhere}
+use Rattle.rules.specs.declared.Finding.{Finding}
+use Rattle.rules.specs.declared.Finding.the-variants.{Sound, Doubled, Flagged, Neither}
+use Rattle.rules.specs.declared.Refusal.{Refusal}
+use Rattle.rules.specs.declared.Refusal.the-variants.{BadHeader, ShortList, FlagSet, KeyPresent, KeyAbsent, NoPlace, AlreadyGrowing, NotGrowing, AtCapacity, InterimTaken, InterimEmpty, NoKind}
+use Rattle.rules.proofs.Basics.Lists.{never}
+use Rattle.rules.proofs.Basics.Tests.{Tells, tells-eq}
+use Rattle.rules.proofs.Places.Placings.{some-place, no-place}
+use Rattle.rules.proofs.Tables.Interims.{step-item, no-step-item, first-interim-one, interim-empty, interim-left}
+use Rattle.rules.proofs.Tables.Sound.{header-tells}
+use Rattle.rules.proofs.Words.HeaderWords.{header-words}
+use Rattle.rules.proofs.Tables.Findings.{KindOf, finding-means}
+use Rattle.rules.proofs.Places.Lookups.{lookup-stands, lookup-absent, holder-among}
+
+-- ---- a test refuses where its reason holds
+
+-- the first of some reasons that holds refuses: `FirstRefuses` under a name that stays shut, so that the reasons are read off it
+unfoldable ByFirst : List (Type 0 × Refusal) → Outcome → Type 0
+ByFirst fs o = FirstRefuses fs o
+
+module _ (b : Bool) (r : Refusal) (fs : List (Type 0 × Refusal)) (o : Outcome) where
+  -- the reason holds exactly where the test fails
+  by-test : (F : Type 0) → (b ≡ true → F → ⊥) → (b ≡ false → F) → ByFirst fs o → ByFirst ((F, r) ∷ fs) (cond b o (refused r))
+  unfolding ByFirst
+  by-test F pass fail k = go b refl
+    where
+      go : (a : Bool) → b ≡ a → ByFirst ((F, r) ∷ fs) (cond a o (refused r))
+      go true e = inr (pass e, k)
+      go false e = inl (fail e, refl)
+
+  -- the reason is that a fact does not hold; below, that it does
+  unless : (P : Type 0) → Tells b P → ByFirst fs o → ByFirst (((P → ⊥), r) ∷ fs) (cond b o (refused r))
+  unless P t = by-test (P → ⊥) (λ e n. n (t .0 e)) (λ e p. never (t .1 p) e)
+
+  when : (P : Type 0) → Tells b P → ByFirst fs o → ByFirst ((P, r) ∷ fs) (cond (not b) o (refused r))
+  unfolding ByFirst
+  when P t k = go b refl
+    where
+      go : (a : Bool) → b ≡ a → ByFirst ((P, r) ∷ fs) (cond (not a) o (refused r))
+      go true e = inl (t .0 e, refl)
+      go false e = inr (λ p. never (t .1 p) e, k)
+
+accepted : (stores : List Store) → ByFirst [] (listed stores)
+unfolding ByFirst
+accepted stores = (stores, refl)
+
+-- ---- tests 1, 2 and 3
+
+module _ (t : Table) where
+  good-header-or : (fs : List (Type 0 × Refusal)) (o : Outcome) → ByFirst fs o → ByFirst (badHeader t ∷ fs) (cond (headerGood t) o (refused BadHeader))
+  unfolding headerGood
+  good-header-or fs o = unless (headerGood t) BadHeader fs o (HeaderWords t) (Iff·trans (header-tells (length t) (headerOf t)) (header-words t))
+
+  long-list-or : (n : ℕ) (fs : List (Type 0 × Refusal)) (o : Outcome) → ByFirst fs o → ByFirst ((n < 20, ShortList) ∷ fs) (cond (listLong n) o (refused ShortList))
+  unfolding listLong
+  long-list-or n fs o = by-test (listLong n) ShortList fs o (n < 20) (λ e l. omega (arith, leb-true 20 n e)) (λ e. leb-false 20 n e)
+
+  clear-flag-or : (fs : List (Type 0 × Refusal)) (o : Outcome) → ByFirst fs o → ByFirst (flagNotZero t ∷ fs) (cond (flagClear t) o (refused FlagSet))
+  unfolding flagClear flagOf
+  clear-flag-or fs o = unless (flagClear t) FlagSet fs o (word t 5 ≡ 0) (tells-eq _ _)
+
+  changing-or : (n : ℕ) (fs : List (Type 0 × Refusal)) (o : Outcome) → ByFirst fs o → ByFirst (changingRefusals t n ++ fs) (checked refused (changingTests t n) o)
+  unfolding changingTests
+  changing-or n fs o k = good-header-or _ _ (long-list-or n _ _ (clear-flag-or fs o k))
+
+  -- ---- what each call finds
+
+  -- the key stands in a probed bucket exactly where the lookup finds it
+  held : (key : ℕ) (x : Slot) (n : ℕ) → lookup t (headerOf t) key ≡ Stands x n → Held t key
+  held key x n e =
+      let s = lookup-stands t key x n e .0 in
+      (s .place, x, holder-among t key x s, s .here, s .holding)
+
+  not-held : (key n : ℕ) → lookup t (headerOf t) key ≡ Absent n → Held t key → ⊥
+  not-held key n e (p, x, i, j, y) = never y (lookup-absent t (headerOf t) key n e .1 p i x j)
+
+  -- query, update and delete: "key absent"
+  absent-refuses : (key : ℕ) (f : Lookup → Outcome) → ((x : Slot) (n : ℕ) → (stores : List Store) × (f (Stands x n) ≡ listed stores)) → ((n : ℕ) → f (Absent n) ≡ refused KeyAbsent)
+      → ByFirst (((Held t key → ⊥), KeyAbsent) ∷ []) (f (lookup t (headerOf t) key))
+  unfolding ByFirst
+  absent-refuses key f a b = go (lookup t (headerOf t) key) refl
+    where
+      go : (o : Lookup) → lookup t (headerOf t) key ≡ o → ByFirst (((Held t key → ⊥), KeyAbsent) ∷ []) (f o)
+      go (Stands x n) e = inr (λ d. d (held key x n e), a x n)
+      go (Absent n) e = inl (not-held key n e, b n)
+
+  -- "no place": insert and growth step
+  placed-refuses : (key : ℕ) (stores : Placing → List Store)
+      → ByFirst ((NoPlaceFor t (headerOf t) key, NoPlace) ∷ []) (placedBy (placing t (headerOf t) key) (stores (placing t (headerOf t) key)))
+  unfolding ByFirst
+  placed-refuses key stores = go (placing t (headerOf t) key) refl
+    where
+      go : (p : Placing) → placing t (headerOf t) key ≡ p → ByFirst ((NoPlaceFor t (headerOf t) key, NoPlace) ∷ []) (placedBy p (stores p))
+      go (Free x) e = inr (some-place t (headerOf t) key (Free x) tt e, (_, refl))
+      go (Move from to) e = inr (some-place t (headerOf t) key (Move from to) tt e, (_, refl))
+      go Nowhere e = inl (no-place t (headerOf t) key .0 e, refl)
+
+  insert-refuses : (key : ℕ) (r : Record) → ByFirst ((Held t key, KeyPresent) ∷ (NoPlaceFor t (headerOf t) key, NoPlace) ∷ []) (insertIn t (headerOf t) (lookup t (headerOf t) key) key r)
+  unfolding ByFirst
+  insert-refuses key r = go (lookup t (headerOf t) key) refl
+    where
+      go : (o : Lookup) → lookup t (headerOf t) key ≡ o → ByFirst ((Held t key, KeyPresent) ∷ (NoPlaceFor t (headerOf t) key, NoPlace) ∷ []) (insertIn t (headerOf t) o key r)
+      go (Stands x n) e = inl (held key x n e, refl)
+      go (Absent n) e = inr (not-held key n e, placed-refuses key (λ p. placingStores t (headerOf t) p key r))
+
+  rest-tells : Tells (atRest (headerOf t .state)) (AtRest t)
+  unfolding atRest
+  rest-tells = tells-eq _ _
+
+  begin-refuses : ByFirst ((Growing t, AlreadyGrowing) ∷ (headerOf t .state .k ≡ headerOf t .c, AtCapacity) ∷ []) (beginOf (headerOf t))
+  unfolding beginOf beginTests
+  begin-refuses = unless _ AlreadyGrowing _ _ (AtRest t) rest-tells (when _ AtCapacity _ _ _ (tells-eq _ _) (accepted (beginStores (headerOf t .state))))
+
+  -- not growing, and else what follows
+  growing-or : (fs : List (Type 0 × Refusal)) (o : Outcome) → ByFirst fs o → ByFirst ((AtRest t, NotGrowing) ∷ fs) (checked refused (stepTests (headerOf t)) o)
+  unfolding stepTests
+  growing-or fs o = when (atRest (headerOf t .state)) NotGrowing fs o (AtRest t) rest-tells
+
+  item-refuses : ByFirst ((NoInterim t, InterimEmpty) ∷ (((x : Slot) × FirstInterim t x × NoPlaceFor t (headerOf t) (keyIn t x)), NoPlace) ∷ []) (stepIn t (headerOf t) (stepItem t (headerOf t)))
+  unfolding ByFirst
+  item-refuses = go (stepItem t (headerOf t)) refl
+    where
+      go : (o : Option Slot) → stepItem t (headerOf t) ≡ o
+          → ByFirst ((NoInterim t, InterimEmpty) ∷ (((x : Slot) × FirstInterim t x × NoPlaceFor t (headerOf t) (keyIn t x)), NoPlace) ∷ []) (stepIn t (headerOf t) o)
+      go none e = inl (no-step-item t e, refl)
+      go (some x) e =
+          let first = step-item t x e in
+          inr (λ n. n x (first .item), ⊎-elim (λ r. inl ((x, first, r .0), r .1)) (λ r. inr (λ y. r .0 (rw (first-interim-one t x (y .0) first (y .1)) (y .2)), r .1)) (placed-refuses (keyIn t x) (stepStores t (headerOf t) x)))
+
+  step-refuses : ByFirst ((AtRest t, NotGrowing) ∷ (NoInterim t, InterimEmpty) ∷ (((x : Slot) × FirstInterim t x × NoPlaceFor t (headerOf t) (keyIn t x)), NoPlace) ∷ []) (stepOf t (headerOf t))
+  unfolding stepOf
+  step-refuses = growing-or _ _ item-refuses
+
+  end-refuses : ByFirst ((AtRest t, NotGrowing) ∷ (((x : Slot) × InterimItem t x), InterimTaken) ∷ []) (endOf t (headerOf t))
+  unfolding endOf endTests
+  end-refuses = when _ NotGrowing _ _ (AtRest t) rest-tells (by-test _ InterimTaken _ _ _ (λ e u. interim-empty t .0 e (u .0) (u .1)) (interim-left t) (accepted (endStores (headerOf t .state))))
+
+  recover-refuses : ByFirst ((OfNoKind t, NoKind) ∷ []) (recoverOf t (headerOf t) (finding t))
+  unfolding ByFirst
+  recover-refuses = go (finding t) (finding-means t)
+    where
+      go : (f : Finding) → KindOf t f → ByFirst ((OfNoKind t, NoKind) ∷ []) (recoverOf t (headerOf t) f)
+      go Sound k = inr (λ n. n .unsound k, (_, refl))
+      go (Doubled x y) k = inr (λ n. n .undoubled x y k, (_, refl))
+      go (Flagged x) k = inr (λ n. n .unflagged x k, (_, refl))
+      go Neither k = inl (k, refl)
+
+by-first : (t : Table) (n : ℕ) (q : Call) → ByFirst (refusals t n q) (outcome t n q)
+unfolding outcome queryTests recoverTests
+by-first t n (query key) = good-header-or t _ _ (clear-flag-or t _ _ (absent-refuses t key queryIn (λ x m. (_, refl)) (λ m. refl)))
+by-first t n (insert key r) = changing-or t n _ _ (insert-refuses t key r)
+by-first t n (update key r) = changing-or t n _ _ (absent-refuses t key (λ o. updateIn t (headerOf t) o key r) (λ x m. (_, refl)) (λ m. refl))
+by-first t n (delete key) = changing-or t n _ _ (absent-refuses t key (deleteIn t (headerOf t)) (λ x m. (_, refl)) (λ m. refl))
+by-first t n begin = changing-or t n _ _ (begin-refuses t)
+by-first t n step = changing-or t n _ _ (step-refuses t)
+by-first t n end = changing-or t n _ _ (end-refuses t)
+by-first t n recover = good-header-or t _ _ (long-list-or t n _ _ (recover-refuses t))
+
+pub refusalsInOrder : RefusalsInOrder
+unfolding ByFirst
+refusalsInOrder t n q = by-first t n q

@@ -1,0 +1,4 @@
+-- What one whole growth costs.
+pub mod InterimBits
+pub mod InterimKept
+pub mod GrowthCost
