@@ -7,7 +7,7 @@ use mathlib.Core.Path.{_≡_, refl}
 use mathlib.Core.List.{List, [], _∷_, _++_, map, flatMap}
 use lib.ListN.{length, replicate}
 use Rattle.words.specs.Product.{productOf, hashOf}
-use Rattle.rules.specs.Words.{wordsFor, stateOf, stateWord, atRest, headerOf, flagOf, stateGood, odd, capacityTests, headerTests, topOf, bottomOf, interimOf, levelsInUse, slotAt, slotsIn, placeAt, placeOf, tokenWord, keyWord, functionWord, placeWord, keyIn, recordIn, tokenOf, tokenNumber, isTaken, show, taken, bucketsOf, allBuckets, sizeInUse, unusedBuckets, slotsOf, slotsInUse, meant, meantOf, hide}
+use Rattle.rules.specs.Words.{wordsFor, stateOf, stateWord, atRest, headerOf, flagOf, stateGood, odd, capacityTests, headerTests, topOf, bottomOf, interimOf, levelsInUse, slotAt, slotsIn, placeAt, placeOf, tokenWord, keyWord, functionWord, placeWord, keyIn, recordIn, tokenOf, tokenNumber, isTaken, show, taken, bucketsOf, allBuckets, sizeInUse, unusedBuckets, slotsOf, slotsInUse, takenOf, meant, meantOf, hide}
 use Rattle.rules.specs.Places.{hashesOf, firstPlace, secondPlace, samePlace, placesIn, probes, placesOf, holds, hitIn, lookup}
 use Rattle.rules.specs.Placing.{takenIn, freeSlot, fewer, emptier, roomIn, placing}
 use Rattle.rules.specs.Stores.{putStores, placingStores, written, clearStores, updateStores, beginStores, endStores, stepStores}
@@ -110,5 +110,5 @@ cases =
 
 -- the definitions compute what document 01 writes, on used words
 pub cases-computed : map (λ (x : List ℕ × String). outputTo (replicate 100 7) (x .0)) cases ≡ map (λ (x : List ℕ × String). bytes (x .1)) cases
-unfolding productOf hashOf flatMap wordsFor stateOf stateWord atRest headerOf flagOf stateGood odd capacityTests headerTests topOf bottomOf interimOf levelsInUse bucketsOf allBuckets sizeInUse unusedBuckets slotAt slotsIn placeOf placeAt slotsOf slotsInUse tokenWord keyWord functionWord placeWord keyIn recordIn tokenOf tokenNumber isTaken show hide meant taken meantOf hashesOf firstPlace secondPlace samePlace placesIn probes holds hitIn lookup takenIn freeSlot fewer emptier roomIn placing putStores clearStores placingStores updateStores beginStores endStores stepStores written takenSlots tokensTidy unusedEmpty placesOf inPlace orderlyTests sameKey twins sameRecord target finding headerGood listLong flagClear changingTests queryTests recoverTests beginTests beginOf interimSlots interimItems stepItem stepTests stepOf endTests endOf outcome changeResult queryResult createTests created createResult makeTests makeResult decimalOf nameOf opOf lineOf digitsIn decimalText readingOf endingOf answerTo turnOf finishOf answersTo textOf outputTo
+unfolding productOf hashOf flatMap wordsFor stateOf stateWord atRest headerOf flagOf stateGood odd capacityTests headerTests topOf bottomOf interimOf levelsInUse bucketsOf allBuckets sizeInUse unusedBuckets slotAt slotsIn placeOf placeAt slotsOf slotsInUse tokenWord keyWord functionWord placeWord keyIn recordIn tokenOf tokenNumber isTaken show hide takenOf meant taken meantOf hashesOf firstPlace secondPlace samePlace placesIn probes holds hitIn lookup takenIn freeSlot fewer emptier roomIn placing putStores clearStores placingStores updateStores beginStores endStores stepStores written takenSlots tokensTidy unusedEmpty placesOf inPlace orderlyTests sameKey twins sameRecord target finding headerGood listLong flagClear changingTests queryTests recoverTests beginTests beginOf interimSlots interimItems stepItem stepTests stepOf endTests endOf outcome changeResult queryResult createTests created createResult makeTests makeResult decimalOf nameOf opOf lineOf digitsIn decimalText readingOf endingOf answerTo turnOf finishOf answersTo textOf outputTo
 cases-computed = refl
