@@ -19,7 +19,6 @@ use Rattle.rules.specs.declared.Place.{Place}
 use Rattle.rules.specs.declared.Slot.{Slot}
 use Rattle.rules.specs.declared.Placing.the-variants.{Free}
 use Rattle.rules.proofs.Basics.Lists.{firstOf-map, firstOf-given}
-use Rattle.rules.proofs.Words.FreeSlots.{taken-in}
 use Rattle.reading.specs.Levels.{placeIn}
 use Rattle.rules.proofs.Basics.Lowest.{lowest-some, lowest-none}
 use Rattle.placing.specs.Buckets.{itemIn, itemsIn, firstFree}
@@ -92,7 +91,8 @@ module _ (t : Table) (h : Header) (p : Place) {word s : ℕ} {items : List (List
 
 module _ (t : Table) (h : Header) (f s : Place) {v w m n : ℕ} (a : v ≡ tokenOf t (f .bucket)) (b : m ≡ takenOf h v) (c : w ≡ tokenOf t (s .bucket)) (d : n ≡ takenOf h w) where
   counted : (r : Place) {z k : ℕ} → z ≡ tokenOf t (r .bucket) → k ≡ takenOf h z → takenIn t h r ≡ k
-  counted r e g = taken-in t h r ∙ rw (← e, ← g)
+  unfolding takenIn
+  counted r e g = rw (← e, ← g)
 
   pub second-emptier : n < m → s ≡ emptier t h f s
   unfolding emptier fewer

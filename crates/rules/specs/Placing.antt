@@ -4,10 +4,10 @@ use Prim.Native.Nat.{ℕ}
 use mathlib.Core.Bool.{Bool, not, cond}
 use mathlib.Core.List.{List, _++_, map, flatMap}
 use mathlib.Core.Option.{Option, Option·map, Option·getD}
-use lib.ListN.{length, take}
+use lib.ListN.{take}
 use lib.Dec.{eqb, ltb}
 use Rattle.rules.specs.Choice.{given, orElse, select, firstOf}
-use Rattle.rules.specs.Words.{Table, topOf, bottomOf, slotsIn, keyIn, taken}
+use Rattle.rules.specs.Words.{Table, topOf, bottomOf, slotsIn, keyIn, tokenOf, takenOf, taken}
 use Rattle.rules.specs.Places.{hashesOf, firstPlace, secondPlace, placesIn}
 use Rattle.rules.specs.declared.Header.{Header}
 use Rattle.rules.specs.declared.Level.{Level}
@@ -19,7 +19,7 @@ use Rattle.rules.specs.declared.Placing.the-variants.{Free, Move, Nowher
 
 -- how many slots of a bucket are taken, and its "lowest free slot"
 unfoldable pub takenIn : Table → Header → Place → ℕ
-takenIn t h p = length (select (taken t h) (slotsIn p))
+takenIn t h p = takenOf h (tokenOf t (p .bucket))
 
 unfoldable pub freeSlot : Table → Header → Place → Option Slot
 freeSlot t h p = firstOf (λ (x : Slot). given (not (taken t h x)) x) (slotsIn p)

@@ -110,5 +110,5 @@ cases =
 
 -- the definitions compute what document 01 writes, on used words
 pub cases-computed : map (λ (x : List ℕ × String). outputTo (replicate 100 7) (x .0)) cases ≡ map (λ (x : List ℕ × String). bytes (x .1)) cases
-unfolding productOf hashOf flatMap wordsFor stateOf stateWord atRest headerOf flagOf stateGood odd capacityTests headerTests topOf bottomOf interimOf levelsInUse bucketsOf allBuckets exponentInUse unusedBuckets slotAt slotsIn placeOf placeAt slotsOf slotsInUse tokenWord keyWord functionWord placeWord keyIn recordIn tokenOf tokenNumber isTaken show hide meant taken meantOf hashesOf firstPlace secondPlace samePlace placesIn probes holds hitIn lookup takenIn freeSlot fewer emptier roomIn placing putStores clearStores placingStores updateStores beginStores endStores stepStores written takenSlots tokensTidy unusedEmpty placesOf inPlace orderlyTests sameKey twins sameRecord target finding headerGood listLong flagClear changingTests queryTests recoverTests beginTests beginOf interimSlots interimItems stepItem stepTests stepOf endTests endOf outcome changeResult queryResult createTests created createResult makeTests makeResult decimalOf lineOf digitsIn decimalText readingOf endingOf answerTo tableAfter turnOf finishOf answersTo textOf outputTo
+unfolding productOf hashOf flatMap wordsFor stateOf stateWord atRest headerOf flagOf stateGood odd capacityTests headerTests topOf bottomOf interimOf levelsInUse bucketsOf allBuckets exponentInUse unusedBuckets slotAt slotsIn placeOf placeAt slotsOf slotsInUse tokenWord keyWord functionWord placeWord keyIn recordIn tokenOf tokenNumber isTaken show hide takenOf meant taken meantOf hashesOf firstPlace secondPlace samePlace placesIn probes holds hitIn lookup takenIn freeSlot fewer emptier roomIn placing putStores clearStores placingStores updateStores beginStores endStores stepStores written takenSlots tokensTidy unusedEmpty placesOf inPlace orderlyTests sameKey twins sameRecord target finding headerGood listLong flagClear changingTests queryTests recoverTests beginTests beginOf interimSlots interimItems stepItem stepTests stepOf endTests endOf outcome changeResult queryResult createTests created createResult makeTests makeResult decimalOf lineOf digitsIn decimalText readingOf endingOf answerTo tableAfter turnOf finishOf answersTo textOf outputTo
 cases-computed = refl

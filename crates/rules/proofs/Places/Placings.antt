@@ -10,7 +10,7 @@ use mathlib.Core.Option.{Option, none, some, Option·map, Option·getD}
 use native.Mathlib.Omega.{arith}
 use borrow.Author.Tests.{ltb-true, ltb-false}
 use Rattle.rules.specs.Choice.{orElse, firstOf}
-use Rattle.rules.specs.Words.{Table, top, bottom, topOf, bottomOf, levelsInUse, placeOf, slotsIn, keyIn, taken}
+use Rattle.rules.specs.Words.{Table, top, bottom, topOf, bottomOf, levelsInUse, slotAt, slotsIn, placeOf, keyIn, tokenOf, isTaken, slots, takenOf, taken}
 use Rattle.rules.specs.Places.{hashesOf, firstPlace, secondPlace, probes, placesOf}
 use Rattle.rules.specs.Placing.{takenIn, freeSlot, fewer, emptier, roomIn, Candidate, candidates, moveOf, placing}
 use Rattle.rules.specs.NoPlace.{AtPlace, CandidateSlot, MayGo, PermittedMove, NoPlaceFor}
@@ -21,7 +21,7 @@ use Rattle.rules.specs.declared.Place.{Place}
 use Rattle.rules.specs.declared.Slot.{Slot}
 use Rattle.rules.specs.declared.Placing.{Placing}
 use Rattle.rules.specs.declared.Placing.the-variants.{Free, Move, Nowhere}
-use Rattle.rules.proofs.Basics.Lists.{never, not-some, firstOf-some, firstOf-none, select-most, select-whole, select-all, in-flatMap}
+use Rattle.rules.proofs.Basics.Lists.{never, not-some, firstOf-some, firstOf-none, select-most, select-whole, select-all, map-in, in-map, in-flatMap}
 use Rattle.rules.proofs.Words.FreeSlots.{all-taken}
 use Rattle.rules.proofs.Words.SlotsInUse.{slot-number, slots-of-place}
 use Rattle.rules.proofs.Places.Chosen.{Chosen, free-chosen}
@@ -48,16 +48,16 @@ pub record MoveFor (t : Table) (h : Header) (key : ℕ) (from to : Slot) : Type 
 
 module _ (t : Table) (h : Header) where
   taken-most : (p : Place) → takenIn t h p ≤ 4
-  unfolding takenIn slotsIn
-  taken-most p = select-most (taken t h) (slotsIn p)
+  unfolding takenIn takenOf
+  taken-most p = select-most (isTaken h (tokenOf t (p .bucket))) slots
 
   full-of-count : (p : Place) → takenIn t h p ≡ 4 → Full t h p
-  unfolding takenIn slotsIn
-  full-of-count p e = select-whole (taken t h) (slotsIn p) e
+  unfolding takenIn takenOf slotsIn slotAt taken
+  full-of-count p e s i = let r = map-in (slotAt p) slots s i in rw (r .2) (select-whole (isTaken h (tokenOf t (p .bucket))) slots e (r .0) (r .1))
 
   count-of-full : (p : Place) → Full t h p → takenIn t h p ≡ 4
-  unfolding takenIn slotsIn
-  count-of-full p f = select-all (taken t h) (slotsIn p) f
+  unfolding takenIn takenOf slotsIn slotAt taken
+  count-of-full p f = select-all (isTaken h (tokenOf t (p .bucket))) slots (λ z i. f (slotAt p z) (in-map (slotAt p) i))
 
   -- no room in a level: both places are full
   no-room : (x : Hashes) (l : Level) → roomIn t h x l ≡ none → Full t h (firstPlace x l) × Full t h (secondPlace x l)

@@ -2,7 +2,7 @@
 -- none every slot is taken. And how many are taken.
 -- Assumes nothing.
 use Prim.Native.Nat.{ℕ, _+_, _<_}
-use mathlib.Core.Path.{_≡_, sym, ap, _∙_}
+use mathlib.Core.Path.{_≡_, ap, _∙_}
 use mathlib.Core.Bool.{Bool, true, false, not}
 use mathlib.Core.List.{[], _∷_, _++_, List·Memᴰ as In, List·Memᴰ·cases-cons, List·Memᴰ·append-cases}
 use mathlib.Core.Logic.{_⊎_, inl, inr}
@@ -10,8 +10,8 @@ use mathlib.Core.Option.{none, some}
 use native.Mathlib.Omega.{arith}
 use borrow.Author.Tests.{not-true, not-false}
 use Rattle.rules.specs.Choice.{given, firstOf}
-use Rattle.rules.specs.Words.{Table, slotAt, slotsIn, placeOf, tokenOf, isTaken, takenOf, taken}
-use Rattle.rules.specs.Placing.{takenIn, freeSlot}
+use Rattle.rules.specs.Words.{Table, slotAt, slotsIn, placeOf, isTaken, takenOf, taken}
+use Rattle.rules.specs.Placing.{freeSlot}
 use Rattle.rules.specs.declared.Header.{Header}
 use Rattle.rules.specs.declared.Place.{Place}
 use Rattle.rules.specs.declared.Slot.{Slot}
@@ -84,11 +84,6 @@ module _ (t : Table) (h : Header) (p : Place) where
         free = not-true (taken t h s) (f .passes);
         lower = λ y i l. not-false (taken t h y) (f .lower y i l);
       }
-
-  -- as many slots are taken as the bucket's token word says
-  pub taken-in : takenIn t h p ≡ takenOf h (tokenOf t (p .bucket))
-  unfolding takenIn slotsIn slotAt taken
-  taken-in = rw (select-length, select-length, select-length, select-length) (sym (taken-sum h (tokenOf t (p .bucket))))
 
   pub all-taken : freeSlot t h p ≡ none → (s : Slot) → In s (slotsIn p) → taken t h s ≡ true
   unfolding freeSlot
