@@ -68,10 +68,10 @@ pub fn take_byte(run: Run, room: &mut [u64], line: &mut [u8; LINE], byte: u8) ->
     if byte == b'\n' {
         return take_newline(run, room, line);
     }
-    let replay = run.replay;
-    let held = hold(line, run.held, byte);
+    let mut next = run;
+    next.held = hold(line, run.held, byte);
     Taken {
-        run: Run { replay, held },
+        run: next,
         answer: Answer::Nothing,
     }
 }

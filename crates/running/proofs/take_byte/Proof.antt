@@ -18,7 +18,7 @@ hold-requires : tie.Need-hold-requires
 hold-requires c κs = search needs
 
 returns-2 : tie.Need-returns-2
-returns-2 c = byte-held (c .before .before .before .before .before .args .run) _ _ _ (c .before .before .before .if1 .left) (c .hold .ensures)
+returns-2 c = byte-held (c .before .before .before .before .args .run) _ _ _ (c .before .before .if1 .left) (c .hold .ensures)
 
 pub take-byte-spec : {M : Type 1} → statement M
 take-byte-spec =
