@@ -1,15 +1,15 @@
 // One line of the input, carried out on the lent words.
 use crate::lines::Line;
 use crate::lines::parsed;
+use printing::UNWRITTEN;
+use printing::change;
+use printing::placing;
+use printing::query;
+use printing::say;
+use printing::verdict;
+use printing::words;
 use rules::Change;
 use rules::Record;
-use telling::UNWRITTEN;
-use telling::change;
-use telling::placing;
-use telling::query;
-use telling::say;
-use telling::verdict;
-use telling::words;
 
 // How many words of the room and of the list's room the calls are lent.
 pub struct Lent {

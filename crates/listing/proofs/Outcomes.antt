@@ -38,18 +38,18 @@ did-as e d = rw (← e) d
 -- ---- through the gate
 
 module _ (q : Call) (t : Table) (l : List ℕ) where
-  changed : {r : Change} {m : List ℕ} → Did (outcome t (length l) q) l r m → Changed q t l r t m
+  did-changed : {r : Change} {m : List ℕ} → Did (outcome t (length l) q) l r m → Changed q t l r t m
   unfolding changeResult
-  changed d = record { answer = rw (d .answer); table = refl; list = d .list }
+  did-changed d = record { answer = rw (d .answer); table = refl; list = d .list }
 
   module _ {g : Gate} (e : g ≡ gateOf t (testsOf t (length l) q)) where
     pub changed-shut : {r : Refusal} → g ≡ Shut r → Changed q t l (Refused r) t l
     unfolding outcome
-    changed-shut {r} s = changed (did-as (gate-shut t (testsOf t (length l) q) e refused (actOf t (headerOf t) q) s) (did-refuse r l))
+    changed-shut {r} s = did-changed (did-as (gate-shut t (testsOf t (length l) q) e refused (actOf t (headerOf t) q) s) (did-refuse r l))
 
     pub changed-open : {h : Header} {r : Change} {m : List ℕ} → g ≡ Open h → h ≡ headerOf t → Did (actOf t h q) l r m → Changed q t l r t m
     unfolding outcome
-    changed-open s same d = changed (did-as (ap (λ (z : Header). actOf t z q) same ∙ gate-open t (testsOf t (length l) q) e refused (actOf t (headerOf t) q) s) d)
+    changed-open s same d = did-changed (did-as (ap (λ (z : Header). actOf t z q) same ∙ gate-open t (testsOf t (length l) q) e refused (actOf t (headerOf t) q) s) d)
 
 -- an open gate of a changing call, or of recovery, was handed a list of 20 words or more
 module _ (t : Table) (n : ℕ) {g : Gate} {h : Header} where

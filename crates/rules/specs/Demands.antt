@@ -229,13 +229,13 @@ CreatedIsEmpty =
     × HasMap u (λ (key : ℕ). none)
 
 -- what a call makes of a plain map: plus the key, changed at the key, minus the key, or the same
-abbrev pub changed : PlainMap → ℕ → Option Record → PlainMap
-changed m key v = λ (k : ℕ). cond (eqb k key) v (m k)
+abbrev pub mapWith : PlainMap → ℕ → Option Record → PlainMap
+mapWith m key v = λ (k : ℕ). cond (eqb k key) v (m k)
 
 abbrev pub mapAfter : Call → PlainMap → PlainMap
-mapAfter (insert key r) m = changed m key (some r)
-mapAfter (update key r) m = changed m key (some r)
-mapAfter (delete key) m = changed m key none
+mapAfter (insert key r) m = mapWith m key (some r)
+mapAfter (update key r) m = mapWith m key (some r)
+mapAfter (delete key) m = mapWith m key none
 mapAfter (query key) m = m
 mapAfter begin m = m
 mapAfter step m = m

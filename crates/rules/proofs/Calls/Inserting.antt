@@ -11,7 +11,7 @@ use Rattle.rules.specs.Placing.{placing}
 use Rattle.rules.specs.Stores.{putStores, moveStores, placingStores, made}
 use Rattle.rules.specs.Soundness.{PlainMap}
 use Rattle.rules.specs.Calls.{insertIn, placedBy, outcome}
-use Rattle.rules.specs.Demands.{Given, changed, InsertBy, InsertAnswers}
+use Rattle.rules.specs.Demands.{Given, mapWith, InsertBy, InsertAnswers}
 use Rattle.rules.specs.declared.Slot.{Slot}
 use Rattle.rules.specs.declared.Record.{Record}
 use Rattle.rules.specs.declared.Placing.{Placing}
@@ -26,20 +26,20 @@ use Rattle.rules.proofs.Carrying.ItemMoved.{AfterMove, move-whole}
 
 module _ (t : Table) (m : PlainMap) (whole : SoundMap t m) where
   -- a free slot for a key that the map does not have
-  free-becomes : (key : ℕ) (r : Record) → m key ≡ none → (x : Slot) → FreeFor t (headerOf t) key x → Becomes t (made t (placingStores t (headerOf t) (Free x) key r)) (changed m key (some r))
+  free-becomes : (key : ℕ) (r : Record) → m key ≡ none → (x : Slot) → FreeFor t (headerOf t) key x → Becomes t (made t (placingStores t (headerOf t) (Free x) key r)) (mapWith m key (some r))
   unfolding placingStores
   free-becomes key r absent x f = put-sound t m whole x (among-used (headerOf t) key x (f .slot) (f .among)) (f .free) key r (f .among) absent
 
   -- a move, and its old slot for the key
   freed-slot : (u : Table) (from to : Slot) → AfterMove t u m from to → InUse (headerOf t .state) from → (key : ℕ) (r : Record) → m key ≡ none → In (placeOf from) (placesOf (headerOf t) key)
-      → Becomes t (made u (putStores (headerOf t) (hide (headerOf t) (tokenOf t (from .bucket)) (from .slot)) from key r)) (changed m key (some r))
+      → Becomes t (made u (putStores (headerOf t) (hide (headerOf t) (tokenOf t (from .bucket)) (from .slot)) from key r)) (mapWith m key (some r))
   freed-slot u from to v used key r absent place =
       let b = put-sound u m (v .whole) from (rw (v .header) used) (v .free) key r (rw (v .header) place) absent in
       let e : made u (putStores (headerOf u) (tokenOf u (from .bucket)) from key r) ≡ made u (putStores (headerOf t) (hide (headerOf t) (tokenOf t (from .bucket)) (from .slot)) from key r) = rw (v .header, v .token) in
       record { whole = rw e at (b .whole); header = rw (← e) (b .header ∙ v .header) }
 
   move-becomes : (key : ℕ) (r : Record) → m key ≡ none → (from to : Slot) → MoveFor t (headerOf t) key from to
-      → Becomes t (made t (placingStores t (headerOf t) (Move from to) key r)) (changed m key (some r))
+      → Becomes t (made t (placingStores t (headerOf t) (Move from to) key r)) (mapWith m key (some r))
   unfolding placingStores
   move-becomes key r absent from to f =
       let h = headerOf t in

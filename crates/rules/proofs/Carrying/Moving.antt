@@ -10,7 +10,7 @@ use lib.Dec.{eqb}
 use borrow.Author.Tests.{eq-eqb, ne-eqb, eqb-true, eqb-false}
 use Rattle.rules.specs.Words.{Table, GoodState, headerOf, keyIn, recordIn}
 use Rattle.rules.specs.Soundness.{TakenSlot, PlainMap, HasMap}
-use Rattle.rules.specs.Demands.{changed}
+use Rattle.rules.specs.Demands.{mapWith}
 use Rattle.rules.specs.declared.Slot.{Slot}
 use Rattle.rules.specs.declared.Record.{Record}
 use Rattle.rules.proofs.Basics.Lists.{not-some, some-one}
@@ -19,14 +19,14 @@ use Rattle.rules.proofs.Carrying.Carried.{Carry, Carried, Alone, carrie
 -- ---- a map changed at one key
 
 module _ (m : PlainMap) (key : ℕ) (v : Option Record) where
-  changed-here : changed m key v key ≡ v
-  changed-here = rw (eq-eqb key key refl)
+  with-here : mapWith m key v key ≡ v
+  with-here = rw (eq-eqb key key refl)
 
-  changed-other : (k : ℕ) → (k ≡ key → ⊥) → changed m key v k ≡ m k
-  changed-other k n = rw (ne-eqb k key n)
+  with-other : (k : ℕ) → (k ≡ key → ⊥) → mapWith m key v k ≡ m k
+  with-other k n = rw (ne-eqb k key n)
 
-  changed-has : (k : ℕ) (r : Record) → changed m key v k ≡ some r → ((k ≡ key) × (v ≡ some r)) ⊎ ((k ≡ key → ⊥) × (m k ≡ some r))
-  changed-has k r e = go (eqb k key) refl e
+  with-has : (k : ℕ) (r : Record) → mapWith m key v k ≡ some r → ((k ≡ key) × (v ≡ some r)) ⊎ ((k ≡ key → ⊥) × (m k ≡ some r))
+  with-has k r e = go (eqb k key) refl e
     where
       go : (b : Bool) → eqb k key ≡ b → cond b v (m k) ≡ some r → ((k ≡ key) × (v ≡ some r)) ⊎ ((k ≡ key → ⊥) × (m k ≡ some r))
       go true q e = inl (eqb-true k key q, e)
@@ -65,27 +65,27 @@ module _ (t u : Table) (c : ℕ) (good : GoodState c (headerOf u .state)) (m : P
         carried-alone t u Gone (Only x) carried c good (λ y z a b f g e. alone y z a b e) (λ y z e f. e ∙ sym f)
         (λ z y n a g e. left y a g (sym e ∙ ap (keyIn u) n))
 
-    pub set-map : HasMap u (changed m (keyIn u x) (some (recordIn u x)))
+    pub set-map : HasMap u (mapWith m (keyIn u x) (some (recordIn u x)))
     set-map =
         carried-map t u Gone (Only x) carried m _ has
-        (λ z a n. rw n (changed-here m (keyIn u x) (some (recordIn u x))))
-        (λ y a g. changed-other m (keyIn u x) (some (recordIn u x)) (keyIn t y) (left y a g))
+        (λ z a n. rw n (with-here m (keyIn u x) (some (recordIn u x))))
+        (λ y a g. with-other m (keyIn u x) (some (recordIn u x)) (keyIn t y) (left y a g))
         (λ key r e. ⊎-elim (λ (h : (key ≡ keyIn u x) × (some (recordIn u x) ≡ some r)). inl (x, here, sym (h .0), some-one (h .1)))
         (λ (h : (key ≡ keyIn u x → ⊥) × (m key ≡ some r)). inr (h .1, λ y a k g. h .0 (sym k ∙ gone y a g)))
-        (changed-has m (keyIn u x) (some (recordIn u x)) key r e))
+        (with-has m (keyIn u x) (some (recordIn u x)) key r e))
 
   -- slot x is gone, and no other has its key: delete
   module _ (x : Slot) (carried : Carried t u (Only x) Nothing) (alone : Alone t) (there : TakenSlot t x) where
     pub cleared-alone : Alone u
     cleared-alone = carried-alone t u (Only x) Nothing carried c good (λ y z a b f g e. alone y z a b e) (λ y z n. absurd n) (λ y z n. absurd n)
 
-    pub cleared-map : HasMap u (changed m (keyIn t x) none)
+    pub cleared-map : HasMap u (mapWith m (keyIn t x) none)
     cleared-map =
         carried-map t u (Only x) Nothing carried m _ has (λ z a n. absurd n)
-        (λ y a g. changed-other m (keyIn t x) none (keyIn t y) (λ e. g (alone y x a there e)))
+        (λ y a g. with-other m (keyIn t x) none (keyIn t y) (λ e. g (alone y x a there e)))
         (λ key r e. ⊎-elim (λ (h : (key ≡ keyIn t x) × (none ≡ some r)). not-some (h .1))
         (λ (h : (key ≡ keyIn t x → ⊥) × (m key ≡ some r)). inr (h .1, λ y a k g. h .0 (sym k ∙ ap (keyIn t) g)))
-        (changed-has m (keyIn t x) none key r e))
+        (with-has m (keyIn t x) none key r e))
 
   -- slot x is new, with a key and record that the map has: the map stays
   pub copied-map : (x : Slot) → Carried t u Nothing (Only x) → m (keyIn u x) ≡ some (recordIn u x) → HasMap u m

@@ -13,7 +13,7 @@ use Rattle.rules.specs.Words.{Table, GoodState, headerOf, InUse, placeOf
 use Rattle.rules.specs.Places.{placesOf}
 use Rattle.rules.specs.Stores.{putStores, clearStores, logStores, redoStores, made}
 use Rattle.rules.specs.Soundness.{TakenSlot, OrderlyTable, SoundTable, PlainMap, HasMap}
-use Rattle.rules.specs.Demands.{changed}
+use Rattle.rules.specs.Demands.{mapWith}
 use Rattle.rules.specs.declared.Place.{Place}
 use Rattle.rules.specs.declared.Slot.{Slot}
 use Rattle.rules.specs.declared.Record.{Record}
@@ -78,7 +78,7 @@ module _ (t : Table) (m : PlainMap) (whole : SoundMap t m) where
         written-orderly 0 t put x _ key r orderly here put-writes (show-follows (headerOf t) _ _ _ (x .slot) key (here .slot)) Nothing (Only x) put-carries
         (placed-here 0 t put x _ key r orderly here put-writes among)
 
-    pub put-sound : m key ≡ none → Becomes t put (changed m key (some r))
+    pub put-sound : m key ≡ none → Becomes t put (mapWith m key (some r))
     put-sound absent =
         let left : (y : Slot) → TakenSlot t y → (Nothing y → ⊥) → keyIn t y ≡ keyIn put x → ⊥ = λ y a g e. map-misses t m (whole .map) key absent y a (e ∙ put-writes .key) in
         let good = good-after 0 t put x _ key r orderly here put-writes in
@@ -154,7 +154,7 @@ module _ (t : Table) (o : OrderlyTable 0 t) (x : Slot) (there : TakenSlot t x) w
 
   -- with its map
   module _ (m : PlainMap) (has : HasMap t m) where
-    pub clear-sound : Alone t → Becomes t cleared (changed m (keyIn t x) none)
+    pub clear-sound : Alone t → Becomes t cleared (mapWith m (keyIn t x) none)
     clear-sound alone = record {
       whole = record {
         sound = record { orderly = clear-orderly; alone = cleared-alone t cleared (headerOf t .c) good-cleared m has x clear-carries alone there };
@@ -201,7 +201,7 @@ module _ (t : Table) (m : PlainMap) (whole : SoundMap t m) (x : Slot) (there : T
   replaced : (u : Table) (z : Slot) (v : ℕ) → InUse (headerOf t .state) z → SlotWritten t u z v (keyIn t x) r
       → Follows (headerOf t) (tokenOf t (z .bucket)) v (keysOf t (z .bucket)) (keysOf u (z .bucket)) (z .slot) (keyIn t x)
       → isTaken (headerOf t) v (z .slot) ≡ true
-      → In (placeOf z) (placesOf (headerOf t) (keyIn t x)) → Carried t u (Only x) (Only z) → Becomes t u (changed m (keyIn t x) (some r))
+      → In (placeOf z) (placesOf (headerOf t) (keyIn t x)) → Carried t u (Only x) (Only z) → Becomes t u (mapWith m (keyIn t x) (some r))
   replaced u z v here writes follows bit among carried =
       let o = whole .sound .orderly in
       let good = good-after 0 t u z v (keyIn t x) r o here writes in
@@ -227,7 +227,7 @@ module _ (t : Table) (m : PlainMap) (whole : SoundMap t m) (x : Slot) (there : T
   among-places = placed-in 0 t (whole .sound .orderly) x there
 
   -- "words 6, 7, 8; flag 1; function, place in the slot; flag 0"
-  pub log-sound : Becomes t (made t (logStores x r ++ redoStores x r)) (changed m (keyIn t x) (some r))
+  pub log-sound : Becomes t (made t (logStores x r ++ redoStores x r)) (mapWith m (keyIn t x) (some r))
   unfolding taken keysOf keyIn keyWord
   log-sound =
       let o = whole .sound .orderly in
@@ -238,7 +238,7 @@ module _ (t : Table) (m : PlainMap) (whole : SoundMap t m) (x : Slot) (there : T
 
   -- "three words to its lowest free slot; one token store that sets it and clears the old"
   pub beside-sound : (z : Slot) → placeOf z ≡ placeOf x → z .slot < 4 → taken t (headerOf t) z ≡ false
-      → Becomes t (made t (putStores (headerOf t) (hide (headerOf t) (tokenOf t (x .bucket)) (x .slot)) z (keyIn t x) r)) (changed m (keyIn t x) (some r))
+      → Becomes t (made t (putStores (headerOf t) (hide (headerOf t) (tokenOf t (x .bucket)) (x .slot)) z (keyIn t x) r)) (mapWith m (keyIn t x) (some r))
   beside-sound z place low free =
       let h = headerOf t in
       let o = whole .sound .orderly in

@@ -13,7 +13,7 @@ use Rattle.rules.specs.Words.{Table, headerOf, InUse, flagOf, loggedOf, 
 use Rattle.rules.specs.Places.{placesOf}
 use Rattle.rules.specs.Stores.{Store, putStores, clearStores, moveStores, logStores, redoStores, made}
 use Rattle.rules.specs.Soundness.{TakenSlot, PlainMap, FlaggedTable}
-use Rattle.rules.specs.Demands.{changed}
+use Rattle.rules.specs.Demands.{mapWith}
 use Rattle.rules.specs.declared.Header.{Header}
 use Rattle.rules.specs.declared.Slot.{Slot}
 use Rattle.rules.specs.declared.Record.{Record}
@@ -115,17 +115,17 @@ module _ (t : Table) (m : PlainMap) (whole : SoundMap t m) (x : Slot) (item : Ta
       record-parts (made-left t logged 7 (r .function) (omega (arith, within)) (inr (inl (refl, refl, (omega arith, (omega arith, tt))))))
       (made-left t logged 8 (r .place) (omega (arith, within)) (inr (inr (inl (refl, refl, (omega arith, tt))))))
 
-  redoing : RedoMap (made t logged) (changed m (keyIn t x) (some r)) x
+  redoing : RedoMap (made t logged) (mapWith m (keyIn t x) (some r)) x
   unfolding logged
   redoing = record { flagged = flag-set; brings = rw log-words (log-sound t m whole x item r .whole) }
 
   -- "words 6, 7, 8; flag 1; function, place in the slot; flag 0": the log is not seen, and then it can be made again
-  pub log-cuts : (P : Table → Type 0) → ((u : Table) → SoundMap u m → P u) → ((u : Table) → Mends u (changed m (keyIn t x) (some r)) → P u)
+  pub log-cuts : (P : Table → Type 0) → ((u : Table) → SoundMap u m → P u) → ((u : Table) → Mends u (mapWith m (keyIn t x) (some r)) → P u)
       → EveryCut P t (logStores x r ++ redoStores x r)
   unfolding logged
   log-cuts P before after =
       let blank : (xs : List Store) → Each (Hidden x) xs → Each Log xs → P (made t xs) = λ xs e f. before (made t xs) (blank-sound t m whole x (item .used) xs e (λ q. log-item xs f)) in
-      let rest = cuts-weaken (λ (u : Table). Mends u (changed m (keyIn t x) (some r))) P after (made t logged) (redoStores x (loggedOf (made t logged))) (redo-cuts (made t logged) _ x redoing) in
+      let rest = cuts-weaken (λ (u : Table). Mends u (mapWith m (keyIn t x) (some r))) P after (made t logged) (redoStores x (loggedOf (made t logged))) (redo-cuts (made t logged) _ x redoing) in
       let again : EveryCut P (made t logged) (redoStores x r) = rw log-words at rest in (
         before t whole,
         (

@@ -14,7 +14,7 @@ use Rattle.rules.specs.Placing.{freeSlot, placing}
 use Rattle.rules.specs.Stores.{Store, putStores, clearStores, moveStores, placingStores, updateWith, updateStores, stepStores, made}
 use Rattle.rules.specs.Soundness.{TakenSlot, PlainMap}
 use Rattle.rules.specs.Calls.{Outcome, refused, listed, placedBy, insertIn, updateIn, stepItem, stepIn, stepTests, stepOf, Call, query, insert, update, delete, begin, step, end, recover, outcome}
-use Rattle.rules.specs.Demands.{AtRest, Given, Gives, changed, mapAfter, InterimItem, NoInterim, FirstInterim, InsertBy, ChangeBy, StepBy}
+use Rattle.rules.specs.Demands.{AtRest, Given, Gives, mapWith, mapAfter, InterimItem, NoInterim, FirstInterim, InsertBy, ChangeBy, StepBy}
 use Rattle.rules.specs.declared.State.{State}
 use Rattle.rules.specs.declared.Slot.{Slot}
 use Rattle.rules.specs.declared.Record.{Record}
@@ -110,10 +110,10 @@ given-whole t o m s xs e g =
     rw same (record { sound = g .sound; map = g .map })
 
 module _ (t : Table) (m : PlainMap) (n : ℕ) (given : Given t m n) where
-  insert-whole : (key : ℕ) (r : Record) (xs : List Store) → outcome t n (insert key r) ≡ listed xs → SoundMap (made t xs) (changed m key (some r))
+  insert-whole : (key : ℕ) (r : Record) (xs : List Store) → outcome t n (insert key r) ≡ listed xs → SoundMap (made t xs) (mapWith m key (some r))
   insert-whole key r xs e = go (m key) (insertAnswers t m n given key r)
     where
-      go : (v : Option Record) → InsertBy t m key r v (outcome t n (insert key r)) → SoundMap (made t xs) (changed m key (some r))
+      go : (v : Option Record) → InsertBy t m key r v (outcome t n (insert key r)) → SoundMap (made t xs) (mapWith m key (some r))
       go (some v) k = never-listed (sym k ∙ e)
       go none (inl k) = never-listed (sym (k .1) ∙ e)
       go none (inr k) = given-whole t _ _ _ xs e (k .1)
@@ -178,12 +178,12 @@ module _ (t : Table) (m : PlainMap) (n : ℕ) (given : Given t m n) where
       known (some v) q = never-listed (rw (lookup-known t m (given .sound) (given .map) key v q .answer) at e)
       known none q = by-placing (placing t (headerOf t) key) refl (rw (lookup-unknown t m (given .sound) (given .map) key q .1) at e)
 
-  update-cuts : (key : ℕ) (r : Record) (xs : List Store) → updateIn t (headerOf t) (lookup t (headerOf t) key) key r ≡ listed xs → SoundMap (made t xs) (changed m key (some r)) → EveryCut (Either m (changed m key (some r))) t xs
+  update-cuts : (key : ℕ) (r : Record) (xs : List Store) → updateIn t (headerOf t) (lookup t (headerOf t) key) key r ≡ listed xs → SoundMap (made t xs) (mapWith m key (some r)) → EveryCut (Either m (mapWith m key (some r))) t xs
   unfolding updateStores
   update-cuts key r xs e last = known (m key) refl
     where
       after : PlainMap
-      after = changed m key (some r)
+      after = mapWith m key (some r)
 
       -- the slot with the key, and a free slot of its bucket or none
       there : (x : Slot) → TakenSlot t x → keyIn t x ≡ key → (o : Option Slot) → freeSlot t (headerOf t) (placeOf x) ≡ o → listed (updateWith t (headerOf t) x o key r) ≡ listed xs → EveryCut (Either m after) t xs

@@ -1,11 +1,11 @@
--- `telling::stores` is safe and ends: the measure is what is left of the list.
+-- `printing::stores` is safe and ends: the measure is what is left of the list.
 -- Assumes nothing.
 use Prim.Native.Nat.{_-_}
 use mathlib.Core.Path.{_≡_}
 use lib.ListN.{length}
 use borrow.Author.Needs.{needs}
-use Rattle.telling.proofs.stores.Statement.{statement}
-use Rattle.telling.proofs.stores.Tie as tie
+use Rattle.printing.proofs.stores.Statement.{statement}
+use Rattle.printing.proofs.stores.Tie as tie
 
 abbrev Inv-loop : tie.InvT-loop
 Inv-loop list count i₀ i-end i = i-end ≡ length list

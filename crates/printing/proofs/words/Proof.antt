@@ -1,9 +1,9 @@
--- `telling::words` is safe and ends: the measure is the number of words left.
+-- `printing::words` is safe and ends: the measure is the number of words left.
 -- Assumes nothing.
 use Prim.Native.Nat.{_-_}
 use borrow.Author.Needs.{needs}
-use Rattle.telling.proofs.words.Statement.{statement}
-use Rattle.telling.proofs.words.Tie as tie
+use Rattle.printing.proofs.words.Statement.{statement}
+use Rattle.printing.proofs.words.Tie as tie
 
 abbrev Inv-loop : tie.InvT-loop
 Inv-loop w from to i₀ i = Unit {0}
