@@ -39,11 +39,12 @@ module _ (filled line : List ℕ) where
       module _ (there : i < length line) where
         pub start-other : (getD line i 0 ≡ getD filled i 0 → ⊥) → startFrom filled line i ≡ Not
         unfolding startFrom
-        start-other n = rw (drop-cons filled i 0 more, ne-eqb _ _ text, drop-cons line i 0 there, ne-eqb _ _ (λ (e : getD filled i 0 ≡ getD line i 0). n (sym e)))
+        start-other n = rw (drop-cons filled i 0 more, ne-eqb _ _ text, drop-cons line i 0 there, ne-eqb _ _ (λ e. n (sym e)))
 
         pub start-next : getD line i 0 ≡ getD filled i 0 → startFrom filled line i ≡ startFrom filled line (i + 1)
         unfolding startFrom
         start-next e =
             let rest = unfilled (drop (suc i) filled) in
             let count : i + suc (length rest) ≡ suc i + length rest = omega arith in
-            rw (add-one, drop-cons filled i 0 more, ne-eqb _ _ text, drop-cons line i 0 there, eq-eqb _ _ (sym e)) (ap (startFound (begins rest (drop (suc i) line))) count)
+            rw (add-one, drop-cons filled i 0 more, ne-eqb _ _ text, drop-cons line i 0 there, eq-eqb _ _ (sym e))
+            (ap (startFound (begins rest (drop (suc i) line))) count)

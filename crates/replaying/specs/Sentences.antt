@@ -114,4 +114,5 @@ TableMade = (room : List ℕ) (p : Replay) (next : Script) (c k mul1 mul2 : ℕ)
 -- "Program cap is at most 8; a larger one gives `made=13`." "and no event line is read": nothing more is due
 abbrev pub TableNotMade : Type 0
 TableNotMade = (room : List ℕ) (p : Replay) (next : Script) (c k mul1 mul2 : ℕ) → (8 < c) ⊎ ((c ≤ 8) × Verdicts room c k mul1 mul2 13)
-    → (askedOf room p next (askTable c k mul1 mul2) .answer ≡ Created (Denied BadCreation)) × (askedOf room p next (askTable c k mul1 mul2) .replay .script .due ≡ noMore)
+    → (askedOf room p next (askTable c k mul1 mul2) .answer ≡ Created (Denied BadCreation))
+    × (askedOf room p next (askTable c k mul1 mul2) .replay .script .due ≡ noMore)

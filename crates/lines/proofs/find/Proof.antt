@@ -49,7 +49,9 @@ returns : tie.Need-returns Inv-loop μ-loop
 returns c =
     let s = c .before .before .before in
     let e = s .before .before in
-    sym (e .before .loop .inv .2 ∙ find-hit _ _ _ _ (length (now (e .before .before .before .before .args .texts)) / 10 - (e .before .loop .row + 1)) (omega arith) _ (s .starts .ensures) (c .before .start .given .1))
+    let a = e .before .before .before .before .args in
+    sym (e .before .loop .inv .2
+    ∙ find-hit _ _ _ _ (length (now (a .texts)) / 10 - (e .before .loop .row + 1)) (omega arith) _ (s .starts .ensures) (c .before .start .given .1))
 
 enum-told : tie.Need-enum-told Inv-loop μ-loop
 enum-told c = search needs
