@@ -7,7 +7,7 @@ use mathlib.Core.Path.{_≡_, refl}
 use mathlib.Core.List.{List, [], _∷_, _++_, map, flatMap}
 use lib.ListN.{length, replicate}
 use Rattle.words.specs.Product.{productOf, hashOf}
-use Rattle.rules.specs.Words.{wordsFor, stateOf, stateWord, atRest, headerOf, flagOf, stateGood, odd, capacityTests, headerTests, topOf, bottomOf, interimOf, levelsInUse, slotAt, slotsIn, placeAt, placeOf, tokenWord, keyWord, functionWord, placeWord, keyIn, recordIn, tokenOf, tokenNumber, isTaken, show, taken, bucketsOf, allBuckets, exponentInUse, unusedBuckets, slotsOf, slotsInUse, meant, meantOf, hide}
+use Rattle.rules.specs.Words.{wordsFor, stateOf, stateWord, atRest, headerOf, flagOf, stateGood, odd, capacityTests, headerTests, topOf, bottomOf, interimOf, levelsInUse, slotAt, slotsIn, placeAt, placeOf, tokenWord, keyWord, functionWord, placeWord, keyIn, recordIn, tokenOf, tokenNumber, isTaken, show, taken, bucketsOf, allBuckets, exponentInUse, unusedBuckets, slotsOf, slotsInUse, meant, meantOf, hide, takenOf}
 use Rattle.rules.specs.Places.{hashesOf, firstPlace, secondPlace, samePlace, placesIn, probes, placesOf, holds, hitIn, lookup}
 use Rattle.rules.specs.Placing.{takenIn, freeSlot, fewer, emptier, roomIn, placing}
 use Rattle.rules.specs.Stores.{putStores, placingStores, written, clearStores, updateStores, beginStores, endStores, stepStores}
