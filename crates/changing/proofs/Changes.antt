@@ -72,8 +72,10 @@ module _ (t : Table) (h : Header) (key : ℕ) (r : Record) {p : Placing} (q : p 
 
 -- ---- an update's stores
 
-module _ (t : Table) (h : Header) (l : List ℕ) (x : Slot) (key : ℕ) (r : Record) (p : Placing) (o : optional p ≡ Option·map Free (freeSlot t h (placeOf x))) where
-  pub renew-free : {y : Slot} {w v n : ℕ} {m : List ℕ} → p ≡ Free y → w ≡ tokenOf t (x .bucket) → v ≡ hide h w (x .slot) → (n ≡ 0 + 4) × (m ≡ listedAt l 0 (putStores h v y key r))
+module _ (t : Table) (h : Header) (l : List ℕ) (x : Slot) (key : ℕ) (r : Record) (p : Placing)
+    (o : optional p ≡ Option·map Free (freeSlot t h (placeOf x))) where
+  pub renew-free : {y : Slot} {w v n : ℕ} {m : List ℕ} → p ≡ Free y → w ≡ tokenOf t (x .bucket) → v ≡ hide h w (x .slot)
+      → (n ≡ 0 + 4) × (m ≡ listedAt l 0 (putStores h v y key r))
       → Run n l m (updateStores t h x key r) × (n ≤ 7)
   unfolding updateStores putStores
   renew-free {y} e f g s = rw (is-free e (freeSlot t h (placeOf x)) o, ← f, ← g) (s, omega (arith, s .0))

@@ -18,7 +18,8 @@ use rules::Record;
 ghost use mathlib.Core.Path.{_≡_};
 ghost use mathlib.Core.List.{[], _∷_};
 ghost use Rattle.rules.specs.Answers.{changeMeans};
-ghost use Rattle.rules.specs.declared.Call.the-variants.{Insert as insertCall, Update as updateCall, Delete as deleteCall, Begin as beginCall, Step as stepCall, End as endCall, Recover as recoverCall};
+ghost use Rattle.rules.specs.declared.Call.the-variants.{Insert as insertCall, Update as updateCall, Delete as deleteCall, Begin as beginCall};
+ghost use Rattle.rules.specs.declared.Call.the-variants.{Step as stepCall, End as endCall, Recover as recoverCall};
 ghost use Rattle.querying.specs.Promises.{QueriedBy};
 ghost use Rattle.making.specs.Promises.{CreatedBy, MadeBy};
 ghost use Rattle.numbering.specs.Told.{told, toldWith};
@@ -74,7 +75,8 @@ pub extern "C" fn ragansils_insert(
     list: &mut [u64],
     stores: &mut u64,
 ) -> u64
-    ensures { λ r. ⌜ Reported (insertCall key (record { function = function; place = place })) (now (table .entry)) (now (list .entry)) r (now (stores .exit)) (now (table .exit)) (now (list .exit)) ⌝ }
+    ensures { λ r. ⌜ Reported (insertCall key (record { function = function; place = place })) (now (table .entry)) (now (list .entry)) r
+        (now (stores .exit)) (now (table .exit)) (now (list .exit)) ⌝ }
 {
     report(insert(table, list, key, Record { function, place }), stores)
 }
@@ -88,7 +90,8 @@ pub extern "C" fn ragansils_update(
     list: &mut [u64],
     stores: &mut u64,
 ) -> u64
-    ensures { λ r. ⌜ Reported (updateCall key (record { function = function; place = place })) (now (table .entry)) (now (list .entry)) r (now (stores .exit)) (now (table .exit)) (now (list .exit)) ⌝ }
+    ensures { λ r. ⌜ Reported (updateCall key (record { function = function; place = place })) (now (table .entry)) (now (list .entry)) r
+        (now (stores .exit)) (now (table .exit)) (now (list .exit)) ⌝ }
 {
     report(update(table, list, key, Record { function, place }), stores)
 }

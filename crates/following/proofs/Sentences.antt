@@ -24,8 +24,12 @@ use Rattle.following.specs.declared.Asked.{Asked}
 use Rattle.following.specs.declared.Asked.the-variants.{Nothing as askNothing, Table as askTable, Event as askEvent, Bad as askEnd}
 use Rattle.following.specs.declared.Reading.{Reading}
 use Rattle.following.specs.declared.Ending.the-variants.{Bad as Torn}
-use Rattle.following.specs.Scripts.{start, nextLine, onward, waits, stopsAt, stops, numbersIn, numberRead, nameNumber, eventBegun, mayBeCut, expected, readingOf, endedAt, endingOf}
-use Rattle.following.specs.Sentences.{headerNames, namesOf, namesAfter, numbered, eventLines, callLines, cutLines, Changing, asking, readAll, lineFrom, EventDue, Asks, BadAfter, EndsBad, NotNamed, NoEvent, NoChange, HeaderRead, EventsRead, CallsNamed, CutEventsRead, CutLineElseBad, HeaderInOrder, NumbersInOrder, CutNumbersInOrder, EventElseBad, StopsForGood}
+use Rattle.following.specs.Scripts.{start, nextLine, onward, waits, stopsAt, stops, numbersIn, numberRead, nameNumber, eventBegun, mayBeCut}
+use Rattle.following.specs.Scripts.{expected, readingOf, endedAt, endingOf}
+use Rattle.following.specs.Sentences.{headerNames, namesOf, namesAfter, numbered, eventLines, callLines, cutLines, Changing, asking, readAll}
+use Rattle.following.specs.Sentences.{lineFrom, EventDue, Asks, BadAfter, EndsBad, NotNamed, NoEvent, NoChange, HeaderRead, EventsRead}
+use Rattle.following.specs.Sentences.{CallsNamed, CutEventsRead, CutLineElseBad, HeaderInOrder, NumbersInOrder, CutNumbersInOrder, EventElseBad}
+use Rattle.following.specs.Sentences.{StopsForGood}
 
 -- ---- a line in place of a number
 
@@ -181,7 +185,8 @@ module _ (s : Script) (q : Call) (b : Begins s q) (keyed : eqb (numbersIn q) 0 �
     unfolding readingOf keyDue
     fn-waits e = op-waits (waits-as _ (Number Key k ∷ []) e (rw more) (rw more) (rw more (omega arith)))
 
-    at-waits : (f : ℕ) {name : Name} {later others : List Name} → At ∷ others ≡ name ∷ later → Waits s (Event q ∷ Number Key k ∷ Number Fn f ∷ []) name (lineFrom s 4)
+    at-waits : (f : ℕ) {name : Name} {later others : List Name} → At ∷ others ≡ name ∷ later
+        → Waits s (Event q ∷ Number Key k ∷ Number Fn f ∷ []) name (lineFrom s 4)
     unfolding readingOf keyDue
     at-waits f e = op-waits (waits-as _ (Number Key k ∷ Number Fn f ∷ []) e (rw more) (rw more) (rw more (omega arith)))
 

@@ -14,7 +14,10 @@ ghost use mathlib.Core.Path.{_≡_};
 ghost use mathlib.Core.Bool.{cond};
 ghost use lib.Dec.{eqb};
 ghost use Rattle.following.specs.declared.Due.the-variants.{Number as aNumber, Event as anEvent};
-ghost use Rattle.following.specs.Scripts.{start as startOf, nextLine, onward as onwardOf, waits as waitsOf, asks as asksOf, stopsAt as stopsAtOf, stops as stopsOf, nameNumber, numbersIn, filled as filledOf, keyRead, numberRead, eventBegun, mayBeCut, eventRead, cutRead, expected, readingOf, noEventLine, atEvent, endingOf};
+ghost use Rattle.following.specs.Scripts.{start as startOf, nextLine, onward as onwardOf, waits as waitsOf, asks as asksOf};
+ghost use Rattle.following.specs.Scripts.{stopsAt as stopsAtOf, stops as stopsOf, nameNumber, numbersIn, filled as filledOf, keyRead};
+ghost use Rattle.following.specs.Scripts.{numberRead, eventBegun, mayBeCut, eventRead, cutRead, expected, readingOf, noEventLine, atEvent};
+ghost use Rattle.following.specs.Scripts.{endingOf};
 
 // "`cap`, `top` (the first k), `mul1`, `mul2`, then events"
 pub fn start() -> Script

@@ -7,7 +7,8 @@ use mathlib.Core.List.{List, [], _∷_, map, flatMap, head?, append-nil}
 use mathlib.Core.Option.{Option, none, some, Option·map}
 use lib.ListN.{drop}
 use Rattle.rules.specs.Choice.{given, orElse, select, firstOf}
-use Rattle.rules.specs.Words.{Table, atRest, sizeOf, topOf, bottomOf, interimOf, levelsInUse, bucketsOf, slotAt, slotsIn, placeAt, slotsOf, tokenOf, isTaken, slots, lowestTaken, taken}
+use Rattle.rules.specs.Words.{Table, atRest, sizeOf, topOf, bottomOf, interimOf, levelsInUse, bucketsOf, slotAt, slotsIn, placeAt, slotsOf, tokenOf}
+use Rattle.rules.specs.Words.{isTaken, slots, lowestTaken, taken}
 use Rattle.rules.specs.Calls.{interimSlots, interimItems, stepItem}
 use Rattle.rules.specs.declared.State.{State}
 use Rattle.rules.specs.declared.Header.{Header}
@@ -25,7 +26,8 @@ head-first : {A : Type 0} (p : A → Bool) (l : List A) → head? (select p l) �
 head-first p [] = refl
 head-first p (x ∷ l) = go (p x) (head-first p l)
   where
-    go : (b : Bool) → head? (select p l) ≡ firstOf (λ y. given (p y) y) l → head? (cond b (x ∷ select p l) (select p l)) ≡ orElse (given b x) (firstOf (λ y. given (p y) y) l)
+    go : (b : Bool) → head? (select p l) ≡ firstOf (λ y. given (p y) y) l
+        → head? (cond b (x ∷ select p l) (select p l)) ≡ orElse (given b x) (firstOf (λ y. given (p y) y) l)
     go true k = refl
     go false k = k
 
@@ -69,7 +71,8 @@ module _ (t : Table) (h : Header) where
     item-none l = bucket-item ∙ ap (Option·map (slotAt (placeAt (interimOf (h .state)) j))) (lowest-none (isTaken h w) s v l)
 
   -- the level's i-th bucket, of m
-  module _ (m i : ℕ) {l : Level} (e : l ≡ interimOf (h .state)) (q : m ≡ sizeOf l) (r : i < m) {w s : ℕ} (u : w ≡ tokenOf t (m - 1 + i)) (v : s ≡ lowestTaken h w) where
+  module _ (m i : ℕ) {l : Level} (e : l ≡ interimOf (h .state)) (q : m ≡ sizeOf l) (r : i < m) {w s : ℕ} (u : w ≡ tokenOf t (m - 1 + i))
+      (v : s ≡ lowestTaken h w) where
     bucket-next : drop i (bucketsOf (sizeOf (interimOf (h .state)))) ≡ (m - 1 + i) ∷ drop (i + 1) (bucketsOf (sizeOf (interimOf (h .state))))
     unfolding bucketsOf
     bucket-next = rw (← e, ← q) (from-next (m - 1) m i r)
@@ -84,4 +87,5 @@ module _ (t : Table) (h : Header) where
 
   pub items-over : (m i : ℕ) {l : Level} → l ≡ interimOf (h .state) → m ≡ sizeOf l → m ≤ i → itemFrom i ≡ none
   unfolding itemFrom bucketsOf
-  items-over m i e q l = along-over itemIn (bucketsOf (sizeOf (interimOf (h .state)))) i (from-end (sizeOf (interimOf (h .state)) - 1) (sizeOf (interimOf (h .state))) i (rw (← e, ← q) l))
+  items-over m i e q l = along-over itemIn (bucketsOf (sizeOf (interimOf (h .state)))) i
+      (from-end (sizeOf (interimOf (h .state)) - 1) (sizeOf (interimOf (h .state))) i (rw (← e, ← q) l))

@@ -39,7 +39,8 @@ module _ (h : Header) where
   unfolding beginOf beginTests
   begin-full e f = rw (e, eq-eqb _ _ f)
 
-  pub begin-listed : {s : State} {w : ℕ} → atRest (h .state) ≡ true → (h .state .k ≡ h .c → ⊥) → s ≡ begunOf (h .state) → w ≡ stateWord s → listed ((4, w) ∷ []) ≡ beginOf h
+  pub begin-listed : {s : State} {w : ℕ} → atRest (h .state) ≡ true → (h .state .k ≡ h .c → ⊥) → s ≡ begunOf (h .state) → w ≡ stateWord s
+      → listed ((4, w) ∷ []) ≡ beginOf h
   unfolding beginOf beginTests beginStores
   begin-listed e f g q = rw (e, ne-eqb _ _ f, q, g)
 

@@ -73,10 +73,12 @@ module _ (t : Table) (h : Header) where
 
   -- ---- what was done
 
-  pub did-step-refuse : {r : Refusal} {s : Stepped} {o : Outcome} (l : List ℕ) → refused r ≡ o → (s .change ≡ Refused r) × (s .placing ≡ Nowhere) → DidStep t h o l s l
+  pub did-step-refuse : {r : Refusal} {s : Stepped} {o : Outcome} (l : List ℕ) → refused r ≡ o → (s .change ≡ Refused r) × (s .placing ≡ Nowhere)
+      → DidStep t h o l s l
   did-step-refuse l e a = rw (← e) (record { answer = λ i. record { change = a .0 i; placing = a .1 i }; list = refl })
 
-  pub did-step : (x : Slot) {key n₁ n₂ w : ℕ} (l : List ℕ) {l₁ l₂ : List ℕ} {p : Placing} {r : Record} {o : Outcome} → stepItem t h ≡ some x → key ≡ keyIn t x → r ≡ recordIn t x → p ≡ placing t h key → w ≡ tokenOf t (x .bucket) → 20 ≤ length l
+  pub did-step : (x : Slot) {key n₁ n₂ w : ℕ} (l : List ℕ) {l₁ l₂ : List ℕ} {p : Placing} {r : Record} {o : Outcome} → stepItem t h ≡ some x
+      → key ≡ keyIn t x → r ≡ recordIn t x → p ≡ placing t h key → w ≡ tokenOf t (x .bucket) → 20 ≤ length l
       → Run n₁ l l₁ (placingStores t h p key r) × (n₁ ≤ 9) → (n₂ ≡ n₁ + 1) × (l₂ ≡ listedAt l₁ n₁ (clearStores h w x))
       → listed (stepStores t h x p) ≡ o → DidStep t h o l (record { change = Listed n₂; placing = p }) l₂
   unfolding stepStores clearStores
@@ -90,7 +92,8 @@ module _ (t : Table) (h : Header) where
       rw (← e)
       (record {
         answer = λ j. record { change = Listed ((count ∙ ap length same) j); placing = found j };
-        list = then l 0 first (clearStores h w x) (s₁ .0 .1) (s₁ .0 .0 ∙ sym (zero-add (length first))) (s₂ .1) ∙ front l stores few ∙ ap (λ z. written z l) same;
+        list = then l 0 first (clearStores h w x) (s₁ .0 .1) (s₁ .0 .0 ∙ sym (zero-add (length first))) (s₂ .1) ∙ front l stores few
+            ∙ ap (λ z. written z l) same;
       })
 
 -- ---- through the gate
@@ -108,4 +111,5 @@ module _ (t : Table) (l : List ℕ) where
     pub step-open : {h : Header} {s : Stepped} {m : List ℕ} → g ≡ Open h → h ≡ headerOf t → DidStep t h (stepOf t h) l s m → StepTaken t l s t m
     unfolding outcome
     step-open {s = s} {m = m} q same d =
-        whole (subst (λ (o : Outcome). DidStep t (headerOf t) o l s m) (gate-open t (changingTests t (length l)) e refused (stepOf t (headerOf t)) q) (rw same at d))
+        whole (subst (λ (o : Outcome). DidStep t (headerOf t) o l s m) (gate-open t (changingTests t (length l)) e refused (stepOf t (headerOf t)) q)
+        (rw same at d))

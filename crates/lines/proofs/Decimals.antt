@@ -50,7 +50,8 @@ module _ (d : ℕ) where
   digits-last [] a b = rw b
   digits-last (e ∷ ds) a b = go (isDigit e) a (λ (t : all (map isDigit ds) ≡ true). digits-last ds t b)
     where
-      go : (c : Bool) → all (c ∷ map isDigit ds) ≡ true → (all (map isDigit ds) ≡ true → all (map isDigit (ds ++ (d ∷ []))) ≡ true) → all (c ∷ map isDigit (ds ++ (d ∷ []))) ≡ true
+      go : (c : Bool) → all (c ∷ map isDigit ds) ≡ true → (all (map isDigit ds) ≡ true → all (map isDigit (ds ++ (d ∷ []))) ≡ true)
+          → all (c ∷ map isDigit (ds ++ (d ∷ []))) ≡ true
       go true t r = r t
       go false t r = t
 
@@ -137,5 +138,8 @@ pub decimal-spelt : (ds : List ℕ) (v : ℕ) → decimalOf ds ≡ some v → (d
 unfolding decimalOf
 decimal-spelt ds v e =
     let tests = noLeadingZero ds ∷ all (map isDigit ds) ∷ ltb (valueFrom 0 ds) (2 ^ 64) ∷ [] in
-    let g = given-some (all tests) (valueFrom 0 ds) v e in
-    (sym (decimal-only ds (all-yes tests (g .0) 0) (all-yes tests (g .0) 1)) ∙ ap decimalText (g .1), rw (g .1) at (ltb-true (valueFrom 0 ds) (2 ^ 64) (all-yes tests (g .0) 2)))
+    let g = given-some (all tests) (valueFrom 0 ds) v e in (
+      sym (decimal-only ds (all-yes tests (g .0) 0) (all-yes tests (g .0) 1))
+          ∙ ap decimalText (g .1),
+      rw (g .1) at (ltb-true (valueFrom 0 ds) (2 ^ 64) (all-yes tests (g .0) 2)),
+    )

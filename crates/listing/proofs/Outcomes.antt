@@ -49,7 +49,8 @@ module _ (q : Call) (t : Table) (l : List ℕ) where
 
     pub changed-open : {h : Header} {r : Change} {m : List ℕ} → g ≡ Open h → h ≡ headerOf t → Did (actOf t h q) l r m → Changed q t l r t m
     unfolding outcome
-    changed-open s same d = did-changed (did-as (ap (λ (z : Header). actOf t z q) same ∙ gate-open t (testsOf t (length l) q) e refused (actOf t (headerOf t) q) s) d)
+    changed-open s same d = did-changed
+        (did-as (ap (λ (z : Header). actOf t z q) same ∙ gate-open t (testsOf t (length l) q) e refused (actOf t (headerOf t) q) s) d)
 
 -- an open gate of a changing call, or of recovery, was handed a list of 20 words or more
 module _ (t : Table) (n : ℕ) {g : Gate} {h : Header} where
@@ -63,8 +64,10 @@ module _ (t : Table) (n : ℕ) {g : Gate} {h : Header} where
 
 -- ---- no second answer, no second table, no second list
 
-pub changed-one : (q : Call) (t : Table) (l : List ℕ) (r s : Change) (u v : Table) (m n : List ℕ) → Changed q t l r u m → Changed q t l s v n → (r ≡ s) × (u ≡ v) × (m ≡ n)
+pub changed-one : (q : Call) (t : Table) (l : List ℕ) (r s : Change) (u v : Table) (m n : List ℕ) → Changed q t l r u m → Changed q t l s v n
+    → (r ≡ s) × (u ≡ v) × (m ≡ n)
 changed-one q t l r s u v m n a b = (change-one r s (a .answer ∙ sym (b .answer)), a .table ∙ sym (b .table), a .list ∙ sym (b .list))
 
-pub step-taken-one : (t : Table) (l : List ℕ) (r s : Stepped) (u v : Table) (m n : List ℕ) → StepTaken t l r u m → StepTaken t l s v n → (r ≡ s) × (u ≡ v) × (m ≡ n)
+pub step-taken-one : (t : Table) (l : List ℕ) (r s : Stepped) (u v : Table) (m n : List ℕ) → StepTaken t l r u m → StepTaken t l s v n
+    → (r ≡ s) × (u ≡ v) × (m ≡ n)
 step-taken-one t l r s u v m n a b = (stepped-one r s (a .answer ∙ sym (b .answer)), a .table ∙ sym (b .table), a .list ∙ sym (b .list))

@@ -66,7 +66,8 @@ placed-listed t Nowhere x xs k = absurd k
 -- ---- the stores
 
 module _ (t : Table) (h : Header) (l : List ℕ) where
-  pub move-run : (from to : Slot) {tok key tok₂ : ℕ} {r : Record} {l₁ l₂ : List ℕ} {n₁ n₂ : ℕ} → tok ≡ tokenOf t (to .bucket) → key ≡ keyIn t from → r ≡ recordIn t from → tok₂ ≡ tokenOf t (from .bucket)
+  pub move-run : (from to : Slot) {tok key tok₂ : ℕ} {r : Record} {l₁ l₂ : List ℕ} {n₁ n₂ : ℕ} → tok ≡ tokenOf t (to .bucket) → key ≡ keyIn t from
+      → r ≡ recordIn t from → tok₂ ≡ tokenOf t (from .bucket)
       → (n₁ ≡ 0 + 4) × (l₁ ≡ listedAt l 0 (putStores h tok to key r)) → (n₂ ≡ n₁ + 1) × (l₂ ≡ listedAt l₁ n₁ (clearStores h tok₂ from))
       → (n₂ ≡ 5) × (l₂ ≡ listedAt l 0 (moveStores t h from to))
   unfolding moveStores putStores
@@ -74,7 +75,8 @@ module _ (t : Table) (h : Header) (l : List ℕ) where
       (omega (arith, s₁ .0, s₂ .0), then l 0 (putStores h _ to _ _) (clearStores h _ from) (s₁ .1) (s₁ .0) (s₂ .1) ∙ ap (listedAt l 0) (rw (a, b, c, d)))
 
   module _ (p : Placing) (x : Slot) (key : ℕ) (r : Record) {word : ℕ} (w : word ≡ tokenOf t (x .bucket)) where
-    pub free-run : {l₁ : List ℕ} {n₁ : ℕ} → p ≡ Free x → (n₁ ≡ 0 + 4) × (l₁ ≡ listedAt l 0 (putStores h word x key r)) → Run n₁ l l₁ (placingStores t h p key r) × (n₁ ≤ 9)
+    pub free-run : {l₁ : List ℕ} {n₁ : ℕ} → p ≡ Free x → (n₁ ≡ 0 + 4) × (l₁ ≡ listedAt l 0 (putStores h word x key r))
+        → Run n₁ l l₁ (placingStores t h p key r) × (n₁ ≤ 9)
     unfolding placingStores putStores
     free-run e s = rw (e, ← w) ((s .0, s .1), omega (arith, s .0))
 

@@ -29,7 +29,8 @@ pub one-pair : (l : List ℕ) (n index word : ℕ) → set (set l (2 * n) index)
 unfolding listedAt
 one-pair l n index word = let e : 2 * n + 1 ≡ suc (2 * n) = omega arith in rw e
 
-pub then : (l : List ℕ) (n : ℕ) (xs ys : List Store) {m : ℕ} {l₁ l₂ : List ℕ} → l₁ ≡ listedAt l n xs → m ≡ n + length xs → l₂ ≡ listedAt l₁ m ys → l₂ ≡ listedAt l n (xs ++ ys)
+pub then : (l : List ℕ) (n : ℕ) (xs ys : List Store) {m : ℕ} {l₁ l₂ : List ℕ} → l₁ ≡ listedAt l n xs → m ≡ n + length xs → l₂ ≡ listedAt l₁ m ys
+    → l₂ ≡ listedAt l n (xs ++ ys)
 unfolding listedAt
 then l n xs ys e p f =
     let q : 2 * (n + length xs) ≡ 2 * n + length (flat xs) = omega (arith, flat-length xs) in
@@ -45,7 +46,8 @@ front l xs h =
 -- ---- three and four stores in a row
 
 module _ (l : List ℕ) (n : ℕ) (a b c : Store) {l₁ l₂ l₃ : List ℕ} {n₁ n₂ n₃ : ℕ}
-    (s₁ : (n₁ ≡ n + 1) × (l₁ ≡ listedAt l n (a ∷ []))) (s₂ : (n₂ ≡ n₁ + 1) × (l₂ ≡ listedAt l₁ n₁ (b ∷ []))) (s₃ : (n₃ ≡ n₂ + 1) × (l₃ ≡ listedAt l₂ n₂ (c ∷ []))) where
+    (s₁ : (n₁ ≡ n + 1) × (l₁ ≡ listedAt l n (a ∷ []))) (s₂ : (n₂ ≡ n₁ + 1) × (l₂ ≡ listedAt l₁ n₁ (b ∷ [])))
+    (s₃ : (n₃ ≡ n₂ + 1) × (l₃ ≡ listedAt l₂ n₂ (c ∷ []))) where
   two : l₂ ≡ listedAt l n (a ∷ b ∷ [])
   two = then l n (a ∷ []) (b ∷ []) (s₁ .1) (s₁ .0) (s₂ .1)
 

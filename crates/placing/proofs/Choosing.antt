@@ -78,7 +78,8 @@ module _ (t : Table) (h : Header) (p : Place) where
 
 -- ---- the free slot of a place, and of a level
 
-module _ (t : Table) (h : Header) (p : Place) {word s : ℕ} {items : List (List ℕ)} (w : word ≡ tokenOf t (p .bucket)) (b : items ≡ itemsIn t p) (e : s ≡ firstFree h word items) where
+module _ (t : Table) (h : Header) (p : Place) {word s : ℕ} {items : List (List ℕ)} (w : word ≡ tokenOf t (p .bucket)) (b : items ≡ itemsIn t p)
+    (e : s ≡ firstFree h word items) where
   number : s ≡ lowestFree h word
   unfolding itemsIn slotsIn
   number = e ∙ sym (first-record h word items (ap length b))
@@ -89,7 +90,8 @@ module _ (t : Table) (h : Header) (p : Place) {word s : ℕ} {items : List (List
   pub place-free : {x : Slot} → s ≤ 4 → (s ≡ 4 → ⊥) → x ≡ slotAt p s → some (Free x) ≡ Option·map Free (freeSlot t h p)
   place-free l n g = rw (free-in t h p, ← w, one-free h word number (omega arith), g)
 
-module _ (t : Table) (h : Header) (f s : Place) {v w m n : ℕ} (a : v ≡ tokenOf t (f .bucket)) (b : m ≡ takenOf h v) (c : w ≡ tokenOf t (s .bucket)) (d : n ≡ takenOf h w) where
+module _ (t : Table) (h : Header) (f s : Place) {v w m n : ℕ} (a : v ≡ tokenOf t (f .bucket)) (b : m ≡ takenOf h v) (c : w ≡ tokenOf t (s .bucket))
+    (d : n ≡ takenOf h w) where
   counted : (r : Place) {z k : ℕ} → z ≡ tokenOf t (r .bucket) → k ≡ takenOf h z → takenIn t h r ≡ k
   unfolding takenIn
   counted r e g = rw (← e, ← g)
@@ -102,6 +104,7 @@ module _ (t : Table) (h : Header) (f s : Place) {v w m n : ℕ} (a : v ≡ token
   unfolding emptier fewer
   first-emptier g = rw (counted s c d, counted f a b, le-ltb _ _ g)
 
-pub room-chosen : (t : Table) (h : Header) (x : Hashes) (l : Level) {f s r : Place} → f ≡ placeIn l (x .first) → s ≡ placeIn l (x .second) → r ≡ emptier t h f s → freeSlot t h r ≡ roomIn t h x l
+pub room-chosen : (t : Table) (h : Header) (x : Hashes) (l : Level) {f s r : Place} → f ≡ placeIn l (x .first) → s ≡ placeIn l (x .second)
+    → r ≡ emptier t h f s → freeSlot t h r ≡ roomIn t h x l
 unfolding roomIn firstPlace secondPlace
 room-chosen t h x l p q e = rw (e, p, q)

@@ -85,7 +85,8 @@ module _ (t : Table) (h : Header) (x : Hashes) {upper lower : Level} (u : upper 
   below = placesIn x lower
 
   -- "those of the key's top places ..; those of its bottom places ..; those of its bottom places again .."
-  three : firstOf (moveOf t h) (candidates t h x) ≡ orElse (orElse (placesMove t h alongTop above) (placesMove t h alongBottom below)) (placesMove t h upward below)
+  three : firstOf (moveOf t h) (candidates t h x) ≡ orElse (orElse (placesMove t h alongTop above) (placesMove t h alongBottom below))
+      (placesMove t h upward below)
   unfolding candidates goalsOf
   three =
       let a = itemsOf t h above (goalsOf alongTop) in

@@ -71,7 +71,8 @@ fn move_to(t: &[u64], h: Header, from: Slot, goals: [Place; 2], n: usize) -> Pla
 // One item: where it stands, and its key.
 fn move_item(t: &[u64], h: Header, from: Slot, key: u64, way: Way) -> Placing
     requires { ⌜ LevelWithin (now t) (way .level) × SlotWithin (now t) from ⌝ }
-    ensures { λ r. ⌜ (optional r ≡ moveOf (now (t .entry)) h (record { item = from; goals = goalsOf way (hashesOf h key) from })) × PlacingWithin (now (t .entry)) r ⌝ }
+    ensures { λ r. ⌜ (optional r ≡ moveOf (now (t .entry)) h (record { item = from; goals = goalsOf way (hashesOf h key) from }))
+        × PlacingWithin (now (t .entry)) r ⌝ }
 {
     let goals = goals_of(hashes(h, key), from, way);
     let list = goals.list;

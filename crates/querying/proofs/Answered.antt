@@ -45,7 +45,9 @@ module _ (t : Table) (key : ℕ) where
   unfolding queryResult queryTests probeCount
   counted = go (headerGood t) (flagClear t)
     where
-      go : (b d : Bool) → countOf (queryMeans (cond b (cond d (queryAt t (lookup t (headerOf t) key)) (Unknown FlagSet 0)) (Unknown BadHeader 0))) ≡ cond b (cond d (position (hitIn t (headerOf t) key) (placesOf (headerOf t) key)) 0) 0
+      go : (b d : Bool) → countOf
+          (queryMeans (cond b (cond d (queryAt t (lookup t (headerOf t) key)) (Unknown FlagSet 0)) (Unknown BadHeader 0))) ≡ cond b
+          (cond d (position (hitIn t (headerOf t) key) (placesOf (headerOf t) key)) 0) 0
       go true true = at-position
       go true false = refl
       go false d = refl

@@ -38,7 +38,8 @@ module _ (t : Table) (h : Header) (key : ℕ) where
   seek-within [] n w = tt
   seek-within (p ∷ ps) n w = go (hitIn t h key p) refl (seek-within ps (n + 1) (λ q i. w q (there i)))
     where
-      go : (o : Option Slot) → hitIn t h key p ≡ o → Standing t (seek (hitIn t h key) (n + 1) ps) → Standing t (standsOr o (n + 1) (seek (hitIn t h key) (n + 1) ps))
+      go : (o : Option Slot) → hitIn t h key p ≡ o → Standing t (seek (hitIn t h key) (n + 1) ps)
+          → Standing t (standsOr o (n + 1) (seek (hitIn t h key) (n + 1) ps))
       go (some x) e k = hit-within p x (w p (here refl)) e
       go none e k = k
 
@@ -51,7 +52,8 @@ pub seek-position : (hit : Place → Option Slot) (ps : List Place) (n : ℕ) �
 seek-position hit [] n = omega arith
 seek-position hit (p ∷ ps) n = go (hit p) (seek-position hit ps (n + 1))
   where
-    go : (o : Option Slot) → looked (seek hit (n + 1) ps) ≡ (n + 1) + position hit ps → looked (standsOr o (n + 1) (seek hit (n + 1) ps)) ≡ n + hereOr o (position hit ps)
+    go : (o : Option Slot) → looked (seek hit (n + 1) ps) ≡ (n + 1) + position hit ps
+        → looked (standsOr o (n + 1) (seek hit (n + 1) ps)) ≡ n + hereOr o (position hit ps)
     go (some x) e = refl
     go none e = omega arith
 

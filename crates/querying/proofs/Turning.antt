@@ -47,7 +47,8 @@ module _ (x : Hashes) where
   seek-levels hit (l ∷ ls) n = go (samePlace (firstPlace x l) (secondPlace x l)) (seek-levels hit ls)
     where
       go : (b : Bool) → ((m : ℕ) → seek hit m (flatMap (placesIn x) ls) ≡ seekTurns hit m (flatMap turnsIn ls))
-          → seek hit n (firstPlace x l ∷ (cond b [] (secondPlace x l ∷ []) ++ flatMap (placesIn x) ls)) ≡ seekTurns hit n ((firstPlace x l, true) ∷ (secondPlace x l, not b) ∷ flatMap turnsIn ls)
+          → seek hit n (firstPlace x l ∷ (cond b [] (secondPlace x l ∷ []) ++ flatMap (placesIn x) ls)) ≡ seekTurns hit n
+          ((firstPlace x l, true) ∷ (secondPlace x l, not b) ∷ flatMap turnsIn ls)
       go true k = ap (standsOr (hit (firstPlace x l)) (n + 1)) (k (n + 1))
       go false k = ap (λ z. standsOr (hit (firstPlace x l)) (n + 1) (standsOr (hit (secondPlace x l)) (n + 1 + 1) z)) (k (n + 1 + 1))
 
@@ -61,7 +62,8 @@ module _ (x : Hashes) where
         rw (e, f)
 
     -- the place before, in the levels that are left
-    last-on : (l : Level) (ls : List Level) (i last : ℕ) → last ≡ placeOfTurn d (l ∷ ls) x (suc i) .bucket → (i ≡ 0 → ⊥) → last ≡ placeOfTurn d ls x (i - 1) .bucket
+    last-on : (l : Level) (ls : List Level) (i last : ℕ) → last ≡ placeOfTurn d (l ∷ ls) x (suc i) .bucket → (i ≡ 0 → ⊥)
+        → last ≡ placeOfTurn d ls x (i - 1) .bucket
     last-on l ls zero last e n = absurd (n refl)
     last-on l ls (suc i) last e n = let k : suc i - 1 ≡ i = omega arith in rw k (e ∙ ap (λ (p : Place). p .bucket) (turn-on l ls i))
 
@@ -101,7 +103,8 @@ module _ (t : Table) (h : Header) (key : ℕ) (s : State) (x : Hashes) where
   unfolding inTurns
   turns-over i n l = rw (turns-end x (levelsInUse s) i l)
 
-  module _ (i n last : ℕ) (l : i < 2 * length (levelsInUse s)) (k : (i ≡ 0 → ⊥) → last ≡ nthPlace s x (i - 1) .bucket) {p : Place} (q : p ≡ nthPlace s x i) where
+  module _ (i n last : ℕ) (l : i < 2 * length (levelsInUse s)) (k : (i ≡ 0 → ⊥)
+      → last ≡ nthPlace s x (i - 1) .bucket) {p : Place} (q : p ≡ nthPlace s x i) where
     turn : drop i (flatMap (turnsIn x) (levelsInUse s)) ≡ (p, fresh i (p .bucket) last) ∷ drop (i + 1) (flatMap (turnsIn x) (levelsInUse s))
     unfolding nthPlace
     turn = rw q (turn-next x (topOf s) (levelsInUse s) i last l k)
@@ -133,7 +136,8 @@ pub last-next : (s : State) (x : Hashes) (i : ℕ) {p : Place} → p ≡ nthPlac
 last-next s x i q e = let k : i + 1 - 1 ≡ i = omega arith in rw (k, q)
 
 -- a place of a turn lies in the table
-pub turn-within : (size : ℕ) (h : Header) → GoodHeader size h → (x : Hashes) (i : ℕ) → i < 2 * length (levelsInUse (h .state)) → 9 + 13 * nthPlace (h .state) x i .bucket + 13 ≤ size
+pub turn-within : (size : ℕ) (h : Header) → GoodHeader size h → (x : Hashes) (i : ℕ) → i < 2 * length (levelsInUse (h .state))
+    → 9 + 13 * nthPlace (h .state) x i .bucket + 13 ≤ size
 unfolding nthPlace placeOfTurn placeAt
 turn-within size h g x i l =
     let ls = levelsInUse (h .state) in

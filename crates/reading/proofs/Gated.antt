@@ -22,7 +22,8 @@ module _ {A : Type 0} (refuse : Refusal → A) (a : A) (g : Header) where
   opened h [] e = refl
   opened h (x ∷ ts) e = go (x .0) e (opened h ts)
     where
-      go : (b : Bool) → cond b (checked Shut ts (Open g)) (Shut (x .1)) ≡ Open h → (checked Shut ts (Open g) ≡ Open h → checked refuse ts a ≡ a) → cond b (checked refuse ts a) (refuse (x .1)) ≡ a
+      go : (b : Bool) → cond b (checked Shut ts (Open g)) (Shut (x .1)) ≡ Open h → (checked Shut ts (Open g) ≡ Open h → checked refuse ts a ≡ a)
+          → cond b (checked refuse ts a) (refuse (x .1)) ≡ a
       go true e k = k e
       go false e k = absurd (let z : _≡_ {A = ℕ} 0 1 = cc in omega arith)
 
@@ -30,7 +31,8 @@ module _ {A : Type 0} (refuse : Refusal → A) (a : A) (g : Header) where
   closed r [] e = absurd (let z : _≡_ {A = ℕ} 0 1 = cc in omega arith)
   closed r (x ∷ ts) e = go (x .0) e (closed r ts)
     where
-      go : (b : Bool) → cond b (checked Shut ts (Open g)) (Shut (x .1)) ≡ Shut r → (checked Shut ts (Open g) ≡ Shut r → checked refuse ts a ≡ refuse r) → cond b (checked refuse ts a) (refuse (x .1)) ≡ refuse r
+      go : (b : Bool) → cond b (checked Shut ts (Open g)) (Shut (x .1)) ≡ Shut r
+          → (checked Shut ts (Open g) ≡ Shut r → checked refuse ts a ≡ refuse r) → cond b (checked refuse ts a) (refuse (x .1)) ≡ refuse r
       go true e k = k e
       go false e k = let q : x .1 ≡ r = cc in ap refuse q
 
@@ -50,7 +52,8 @@ passed : (g h : Header) (ts : List (Bool × Refusal)) → checked Shut ts (Open 
 passed g h [] e x i = absurd (List·Memᴰ·not-nil i)
 passed g h (y ∷ ts) e x i = go (y .0) refl e (λ f j. passed g h ts f x j)
   where
-    go : (b : Bool) → y .0 ≡ b → cond b (checked Shut ts (Open g)) (Shut (y .1)) ≡ Open h → (checked Shut ts (Open g) ≡ Open h → In x ts → x .0 ≡ true) → x .0 ≡ true
+    go : (b : Bool) → y .0 ≡ b → cond b (checked Shut ts (Open g)) (Shut (y .1)) ≡ Open h
+        → (checked Shut ts (Open g) ≡ Open h → In x ts → x .0 ≡ true) → x .0 ≡ true
     go true q e k = ⊎-elim (λ (j : x ≡ y). rw j q) (λ (j : In x ts). k e j) (List·Memᴰ·cases-cons i)
     go false q e k = absurd (let z : _≡_ {A = ℕ} 0 1 = cc in omega arith)
 
@@ -60,7 +63,8 @@ gate-passed t ts e q = passed (headerOf t) _ ts (sym e ∙ q)
 
 -- ---- a gate with one test more
 
-also-checked : (b : Bool) (x : Refusal) (h : Header) (ts : List (Bool × Refusal)) → also b x (checked Shut ts (Open h)) ≡ checked Shut (ts ++ ((b, x) ∷ [])) (Open h)
+also-checked : (b : Bool) (x : Refusal) (h : Header) (ts : List (Bool × Refusal))
+    → also b x (checked Shut ts (Open h)) ≡ checked Shut (ts ++ ((b, x) ∷ [])) (Open h)
 also-checked b x h [] = refl
 also-checked b x h (y ∷ ts) = go (y .0) (also-checked b x h ts)
   where
@@ -69,7 +73,8 @@ also-checked b x h (y ∷ ts) = go (y .0) (also-checked b x h ts)
     go true k = k
     go false k = refl
 
-pub also-more : (t : Table) (ts : List (Bool × Refusal)) (b : Bool) (x : Refusal) {g r : Gate} → g ≡ gateOf t ts → (r ≡ also b x g) × Ready t r → (r ≡ gateOf t (ts ++ ((b, x) ∷ []))) × Ready t r
+pub also-more : (t : Table) (ts : List (Bool × Refusal)) (b : Bool) (x : Refusal) {g r : Gate} → g ≡ gateOf t ts → (r ≡ also b x g) × Ready t r
+    → (r ≡ gateOf t (ts ++ ((b, x) ∷ []))) × Ready t r
 unfolding gateOf
 also-more t ts b x e a = (a .0 ∙ ap (also b x) e ∙ also-checked b x (headerOf t) ts, a .1)
 

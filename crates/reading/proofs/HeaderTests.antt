@@ -37,7 +37,8 @@ module _ (size : ℕ) (h : Header) where
   unfolding headerTests odd
   even2 e = all-no (headerTests size h) 4 (ne-eqb _ _ e)
 
-  pub by-state : 1 ≤ h .c → h .c ≤ 20 → size ≡ wordsFor (h .c) → h .form ≡ 1 → h .mul1 % 2 ≡ 1 → h .mul2 % 2 ≡ 1 → stateGood (h .c) (h .state) ≡ all (headerTests size h)
+  pub by-state : 1 ≤ h .c → h .c ≤ 20 → size ≡ wordsFor (h .c) → h .form ≡ 1 → h .mul1 % 2 ≡ 1 → h .mul2 % 2 ≡ 1
+      → stateGood (h .c) (h .state) ≡ all (headerTests size h)
   unfolding headerTests capacityTests odd
   by-state a b l f m n = rw (le-leb _ _ a, le-leb _ _ b, eq-eqb _ _ l, eq-eqb _ _ f, eq-eqb _ _ m, eq-eqb _ _ n, and-true)
 

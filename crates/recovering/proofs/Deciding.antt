@@ -14,7 +14,8 @@ use types.Run.{OneOf}
 use borrow.Author.Tests.{eq-eqb, ne-eqb}
 use Rattle.rules.specs.Choice.{all}
 use Rattle.rules.specs.Words.{Table, headerOf, GoodHeader, flagOf, allBuckets, unusedBuckets, recordIn}
-use Rattle.rules.specs.Soundness.{takenSlots, TakenSlot, tokensTidy, unusedEmpty, inPlace, orderlyTests, twins, sameRecord, whenStill, target, whenFlagged, finding}
+use Rattle.rules.specs.Soundness.{takenSlots, TakenSlot, tokensTidy, unusedEmpty, inPlace, orderlyTests, twins, sameRecord, whenStill, target}
+use Rattle.rules.specs.Soundness.{whenFlagged, finding}
 use Rattle.rules.specs.Answers.{FindingTells}
 use Rattle.rules.specs.declared.Header.{Header}
 use Rattle.rules.specs.declared.Slot.{Slot}
@@ -158,7 +159,8 @@ module _ (t : Table) {h : Header} (own : h ≡ headerOf t) where
   unfolding finding
   find-misflagged n m = (finding-tells (rw (misflagged 0 n, misflagged 1 m)), tt)
 
-  module _ (g : GoodHeader (length t) h) (tidy : all (map (tidyToken t h) (allBuckets h)) ≡ true) (unused : all (map (zeroToken t) (unusedBuckets h)) ≡ true) where
+  module _ (g : GoodHeader (length t) h) (tidy : all (map (tidyToken t h) (allBuckets h)) ≡ true)
+      (unused : all (map (zeroToken t) (unusedBuckets h)) ≡ true) where
     good : GoodHeader (length t) (headerOf t)
     good = rw own at g
 
@@ -184,7 +186,8 @@ module _ (t : Table) {h : Header} (own : h ≡ headerOf t) where
         other = misflagged 0 (λ (z : flagOf t ≡ 0). omega arith)
 
         go : (b : Bool) → all (map (inPlace t) (takenSlots t)) ≡ b → flaggedOf (target t) (scanOf t (headerOf t)) ≡ finding t
-        go true p = rw (other, orderly 1 e, p, scan-placed t good p) (sym (flagged-alike (target t) (twins t) (copies t) (linear t good p) ∙ flagged-scanned (target t) (copies t)))
+        go true p = rw (other, orderly 1 e, p, scan-placed t good p)
+            (sym (flagged-alike (target t) (twins t) (copies t) (linear t good p) ∙ flagged-scanned (target t) (copies t)))
         go false p = rw (other, orderly 1 e, p, scan-misplaced t good p) (flagged-spoilt (target t))
 
     pub find-still : {scan : Scan} {r : Finding} → scan ≡ scanOf t h → flagOf t ≡ 0 → r ≡ stillOf t scan → Answer t r

@@ -17,7 +17,8 @@ use Rattle.recovering.specs.Found.{tidyToken, zeroToken}
 
 -- ---- the words
 
-pub tidy-test : (t : Table) (h : Header) (j : ℕ) {word should : ℕ} → word ≡ tokenOf t j → should ≡ meant h word (keysOf t j) → tidyToken t h (0 + j) ≡ eqb word should
+pub tidy-test : (t : Table) (h : Header) (j : ℕ) {word should : ℕ} → word ≡ tokenOf t j → should ≡ meant h word (keysOf t j)
+    → tidyToken t h (0 + j) ≡ eqb word should
 unfolding tidyToken meantOf
 tidy-test t h j w d = rw (zero-add, ← w, ← d)
 
@@ -27,11 +28,13 @@ zero-test t j w = rw (← w)
 
 -- ---- the buckets of the table, and of a level
 
-pub table-whole : (t : Table) (h : Header) {size : ℕ} → size ≡ 2 ^ (h .c + 1) → all (map (tidyToken t h) (allBuckets h)) ≡ testsFrom all (tidyToken t h) (from 0 (size - 1)) 0
+pub table-whole : (t : Table) (h : Header) {size : ℕ} → size ≡ 2 ^ (h .c + 1)
+    → all (map (tidyToken t h) (allBuckets h)) ≡ testsFrom all (tidyToken t h) (from 0 (size - 1)) 0
 unfolding allBuckets
 table-whole t h e = rw e (tests-whole _ _ _)
 
-pub level-whole : (t : Table) (e : ℕ) {size : ℕ} → size ≡ 2 ^ e → all (map (zeroToken t) (bucketsOf (2 ^ e))) ≡ testsFrom all (zeroToken t) (from (size - 1) size) 0
+pub level-whole : (t : Table) (e : ℕ) {size : ℕ} → size ≡ 2 ^ e
+    → all (map (zeroToken t) (bucketsOf (2 ^ e))) ≡ testsFrom all (zeroToken t) (from (size - 1) size) 0
 unfolding bucketsOf
 level-whole t e q = rw q (tests-whole _ _ _)
 

@@ -116,7 +116,8 @@ module _ (t : Table) where
         let slot : (targetOf t - 9) % 13 / 3 ≡ x .slot = omega arith in
         never (u .shown) (rw (own, k .1, slot) at f)))
 
-    module _ (g : GoodHeader (length t) h) (q : (targetOf t - 9) % 13 % 3 ≡ 1) {level : Level} (e : homeOf (h .state) ((targetOf t - 9) / 13) ≡ some level) where
+    module _ (g : GoodHeader (length t) h) (q : (targetOf t - 9) % 13 % 3 ≡ 1) {level : Level}
+        (e : homeOf (h .state) ((targetOf t - 9) / 13) ≡ some level) where
       abbrev named : Slot
       named = record { level = level .name; bucket = (targetOf t - 9) / 13; slot = (targetOf t - 9) % 13 / 3 }
 
@@ -131,4 +132,5 @@ module _ (t : Table) where
       pub word-names : 9 ≤ targetOf t → isTaken h (tokenOf t ((targetOf t - 9) / 13)) ((targetOf t - 9) % 13 / 3) ≡ true → some named ≡ target t
       unfolding taken
       word-names l f =
-          sym (target-found t (rw own at g) named (in-taken t named (record { used = rw own at named-in-use; shown = rw own at f })) (key-word-whole (targetOf t) (level .name) l q))
+          sym (target-found t (rw own at g) named (in-taken t named (record { used = rw own at named-in-use; shown = rw own at f }))
+          (key-word-whole (targetOf t) (level .name) l q))

@@ -28,7 +28,8 @@ use Rattle.following.specs.declared.Script.{Script}
 use Rattle.following.specs.declared.Asked.the-variants.{Table as askTable}
 use Rattle.replaying.specs.Events.{lent, queried, either, keptUnder, changeAnswer, answerTo, tableAfter}
 use Rattle.replaying.specs.Replays.{Turned, tableOf, created, askedOf, finished, finishOf}
-use Rattle.replaying.specs.Sentences.{Tells, listAfter, Answered, ChangesAnswered, NothingAnswered, BadAnswered, EndAnswered, LetsMake, CutChangesAnswered, QueriesAnswered, Verdicts, TableMade, TableNotMade}
+use Rattle.replaying.specs.Sentences.{Tells, listAfter, Answered, ChangesAnswered, NothingAnswered, BadAnswered, EndAnswered, LetsMake}
+use Rattle.replaying.specs.Sentences.{CutChangesAnswered, QueriesAnswered, Verdicts, TableMade, TableNotMade}
 use Rattle.replaying.specs.declared.Answer.{Answer}
 use Rattle.replaying.specs.declared.Answer.the-variants.{Created, Changed, Kept, Found}
 use Rattle.replaying.specs.declared.Replay.{Replay}
@@ -50,7 +51,8 @@ no-query Step c = refl
 no-query End c = refl
 no-query Recover c = refl
 
-module _ (room : List ℕ) (p : Replay) (next : Script) (q : Call) (changing : Changing q) (r : Change) {number stores : ℕ} (tells : Tells room p q r number stores) where
+module _ (room : List ℕ) (p : Replay) (next : Script) (q : Call) (changing : Changing q) (r : Change) {number stores : ℕ}
+    (tells : Tells room p q r number stores) where
   told-stores : reported r ≡ stores
   told-stores = reported-value r ∙ ap (λ (m : Meaning). getD (m .values) 0 0) (tells .means)
 
@@ -77,7 +79,8 @@ lets-min n stores made l = ⊎-elim (λ h. omega (arith, h)) (λ h. omega (arith
 pub cutChangesAnswered : CutChangesAnswered
 cutChangesAnswered room p next q changing r n line number stores made tells lets =
     let kept = lets-min n stores made lets in
-    answered room p next q changing r tells (cutAfter n line) (ap (λ (x : ℕ). Kept r (min n x)) (told-stores room p next q changing r tells) ∙ ap (Kept r) kept) kept
+    answered room p next q changing r tells (cutAfter n line) (ap (λ (x : ℕ). Kept r (min n x)) (told-stores room p next q changing r tells)
+    ∙ ap (Kept r) kept) kept
 
 -- ---- lines that ask for nothing, bad lines, and the end
 
@@ -128,7 +131,8 @@ tableNotMade room p next c k mul1 mul2 h = ⊎-elim large denied h
     large l = (rw (lt-leb c 8 l), rw (lt-leb c 8 l))
 
     denied : (c ≤ 8) × Verdicts room c k mul1 mul2 13
-        → (askedOf room p next (askTable c k mul1 mul2) .answer ≡ Created (Denied BadCreation)) × (askedOf room p next (askTable c k mul1 mul2) .replay .script .due ≡ noMore)
+        → (askedOf room p next (askTable c k mul1 mul2) .answer ≡ Created (Denied BadCreation))
+        × (askedOf room p next (askTable c k mul1 mul2) .replay .script .due ≡ noMore)
     denied d =
         let same = answered-by room p next c k mul1 mul2 (d .0) (Denied BadCreation) (d .1) in
         (ap (λ (t : Turned). t .answer) same, ap (λ (t : Turned). t .replay .script .due) same)

@@ -41,7 +41,8 @@ module _ (p : Replay) (next : Script) (room : List ℕ) {r : Turn} where
 
 -- in the lent words
 module _ (p : Replay) (next : Script) (room : List ℕ) {r : Turn} {n : ℕ} (lent : n ≡ min (p .words) (length room)) where
-  pub event-taken : {x : Answer} {u : Table} (q : Call) (under : Cut) → EventDone q under (take n room) x u → (r .replay ≡ counted p next) × (r .answer ≡ x) → TurnIs (askedOf room p next (askEvent q under)) r (u ++ drop n room)
+  pub event-taken : {x : Answer} {u : Table} (q : Call) (under : Cut) → EventDone q under (take n room) x u
+      → (r .replay ≡ counted p next) × (r .answer ≡ x) → TurnIs (askedOf room p next (askEvent q under)) r (u ++ drop n room)
   event-taken {x} {u} q under d c =
       let table : take n room ≡ take (p .words) room = ap (λ (k : ℕ). take k room) lent ∙ take-least (p .words) room in
       let rest : drop n room ≡ drop (p .words) room = ap (λ (k : ℕ). drop k room) lent ∙ drop-least (p .words) room in
@@ -62,7 +63,8 @@ finish-as p torn e q f = f ∙ ap (finished p) q
 -- ---- the table
 
 module _ (p : Replay) (next : Script) (room : List ℕ) (c k mul1 mul2 : ℕ) where
-  pub too-large : {r : Turn} → 8 < c → (r .replay ≡ stopped p next) × (r .answer ≡ CreatedAs (Denied BadCreation)) → TurnIs (askedOf room p next (askTable c k mul1 mul2)) r room
+  pub too-large : {r : Turn} → 8 < c → (r .replay ≡ stopped p next) × (r .answer ≡ CreatedAs (Denied BadCreation))
+      → TurnIs (askedOf room p next (askTable c k mul1 mul2)) r room
   too-large l e = rw (lt-leb c 8 l) (record { replay = e .0; answer = e .1; room = refl })
 
   module _ {n : ℕ} (lent : n ≡ min (wordsFor c) (length room)) (small : c ≤ 8) (v : Verdict) (u : Table) (made : Created (take n room) c k mul1 mul2 v u) where
@@ -80,8 +82,10 @@ module _ (p : Replay) (next : Script) (room : List ℕ) (c k mul1 mul2 : ℕ) wh
     rest : drop n room ≡ drop (wordsFor c) room
     rest = ap (λ (j : ℕ). drop j room) lent ∙ drop-least (wordsFor c) room
 
-    pub table-taken : {r : Turn} → v ≡ Done → (r .replay ≡ record { script = next; words = wordsFor c; events = p .events }) → r .answer ≡ CreatedAs Done → TurnIs (askedOf room p next (askTable c k mul1 mul2)) r (u ++ drop n room)
+    pub table-taken : {r : Turn} → v ≡ Done → (r .replay ≡ record { script = next; words = wordsFor c; events = p .events })
+        → r .answer ≡ CreatedAs Done → TurnIs (askedOf room p next (askTable c k mul1 mul2)) r (u ++ drop n room)
     table-taken d a b = rw (asked-table, d) (record { replay = a; answer = b; room = rw rest })
 
-    pub table-denied : {r : Turn} {e : Refusal} → v ≡ Denied e → (r .replay ≡ stopped p next) × (r .answer ≡ CreatedAs (Denied e)) → TurnIs (askedOf room p next (askTable c k mul1 mul2)) r (u ++ drop n room)
+    pub table-denied : {r : Turn} {e : Refusal} → v ≡ Denied e → (r .replay ≡ stopped p next) × (r .answer ≡ CreatedAs (Denied e))
+        → TurnIs (askedOf room p next (askTable c k mul1 mul2)) r (u ++ drop n room)
     table-denied d a = rw (asked-table, d) (record { replay = a .0; answer = a .1; room = rw rest })

@@ -25,9 +25,11 @@ use Rattle.rules.specs.declared.Placing.the-variants.{Free, Move, Nowher
 use Rattle.rules.specs.declared.Finding.{Finding}
 use Rattle.rules.specs.declared.Finding.the-variants.{Sound, Doubled, Flagged, Neither}
 use Rattle.rules.specs.declared.Refusal.{Refusal}
-use Rattle.rules.specs.declared.Refusal.the-variants.{BadHeader, ShortList, FlagSet, KeyPresent, KeyAbsent, NoPlace, AlreadyGrowing, NotGrowing, AtCapacity, InterimTaken, InterimEmpty, NoKind}
+use Rattle.rules.specs.declared.Refusal.the-variants.{BadHeader, ShortList, FlagSet, KeyPresent, KeyAbsent, NoPlace, AlreadyGrowing, NotGrowing}
+use Rattle.rules.specs.declared.Refusal.the-variants.{AtCapacity, InterimTaken, InterimEmpty, NoKind}
 pub use Rattle.rules.specs.declared.Call.{Call}
-pub use Rattle.rules.specs.declared.Call.the-variants.{Query as query, Insert as insert, Update as update, Delete as delete, Begin as begin, Step as step, End as end, Recover as recover}
+pub use Rattle.rules.specs.declared.Call.the-variants.{Query as query, Insert as insert, Update as update, Delete as delete, Begin as begin}
+pub use Rattle.rules.specs.declared.Call.the-variants.{Step as step, End as end, Recover as recover}
 
 -- ---- tests 1, 2 and 3
 

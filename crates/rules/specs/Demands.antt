@@ -12,7 +12,8 @@ use mathlib.Core.Option.{Option, none, some}
 use lib.ListN.{length, take, drop}
 use lib.Dec.{eqb}
 use Rattle.rules.specs.Choice.{all}
-use Rattle.rules.specs.Words.{Table, word, headerOf, GoodHeader, flagOf, loggedOf, top, bottom, interim, slotsIn, placeOf, keyIn, recordIn, tokenOf, show, hide}
+use Rattle.rules.specs.Words.{Table, word, headerOf, GoodHeader, flagOf, loggedOf, top, bottom, interim, slotsIn, placeOf, keyIn, recordIn}
+use Rattle.rules.specs.Words.{tokenOf, show, hide}
 use Rattle.rules.specs.Places.{holds, placesOf}
 use Rattle.rules.specs.Placing.{freeSlot, placing}
 use Rattle.rules.specs.Stores.{Store, clearStores, redoStores, made}
@@ -32,7 +33,8 @@ use Rattle.rules.specs.declared.Placing.the-variants.{Free, Move, Nowher
 use Rattle.rules.specs.declared.Finding.{Finding}
 use Rattle.rules.specs.declared.Finding.the-variants.{Sound, Doubled, Flagged, Neither}
 use Rattle.rules.specs.declared.Refusal.{Refusal}
-use Rattle.rules.specs.declared.Refusal.the-variants.{BadHeader, ShortList, FlagSet, KeyPresent, KeyAbsent, NoPlace, AlreadyGrowing, NotGrowing, AtCapacity, InterimTaken, InterimEmpty, NoKind}
+use Rattle.rules.specs.declared.Refusal.the-variants.{BadHeader, ShortList, FlagSet, KeyPresent, KeyAbsent, NoPlace, AlreadyGrowing, NotGrowing}
+use Rattle.rules.specs.declared.Refusal.the-variants.{AtCapacity, InterimTaken, InterimEmpty, NoKind}
 use Rattle.rules.specs.declared.Change.{Change}
 use Rattle.rules.specs.declared.Change.the-variants.{Listed}
 use Rattle.rules.specs.declared.Query.{Query}
@@ -284,7 +286,8 @@ ChangeBy t m (some v) o = Gives t o m (headerOf t .state)
 ChangeBy t m none o = o ≡ refused KeyAbsent
 
 abbrev pub UpdateAnswers : Type 0
-UpdateAnswers = (t : Table) (m : PlainMap) (n : ℕ) → Given t m n → (key : ℕ) (r : Record) → ChangeBy t (mapAfter (update key r) m) (m key) (outcome t n (update key r))
+UpdateAnswers = (t : Table) (m : PlainMap) (n : ℕ) → Given t m n → (key : ℕ) (r : Record)
+    → ChangeBy t (mapAfter (update key r) m) (m key) (outcome t n (update key r))
 
 abbrev pub DeleteAnswers : Type 0
 DeleteAnswers = (t : Table) (m : PlainMap) (n : ℕ) → Given t m n → (key : ℕ) → ChangeBy t (mapAfter (delete key) m) (m key) (outcome t n (delete key))

@@ -2,7 +2,11 @@
 -- which says it in full. One law proves them all: `mission`, in proofs/Mission.
 -- That the code does what the rules say is promised call by call, in the `ensures` of each.
 -- Assumes nothing.
-use Rattle.rules.specs.Demands.{ChangeAnswers, CreateAnswers, MakeAnswers, RefusalsInOrder, StepIsACall, QueryIsACall, StoresInside, TokenStoresLow, SoundnessIsTested, MapExists, CreatedIsEmpty, QueryAnswers, InsertAnswers, UpdateAnswers, DeleteAnswers, BeginAnswers, StepAnswers, EndAnswers, RecoverAnswers, StoresAsWritten, StoreNumbers, MakeTakesTheList, CutsAreSafe, RecoveryMayBeCut, RecoveryAccepts, GrowthBound, QueryCounts, ProbesAreFew, ProbesAreDistinct}
+use Rattle.rules.specs.Demands.{ChangeAnswers, CreateAnswers, MakeAnswers, RefusalsInOrder, StepIsACall, QueryIsACall, StoresInside}
+use Rattle.rules.specs.Demands.{TokenStoresLow, SoundnessIsTested, MapExists, CreatedIsEmpty, QueryAnswers, InsertAnswers, UpdateAnswers}
+use Rattle.rules.specs.Demands.{DeleteAnswers, BeginAnswers, StepAnswers, EndAnswers, RecoverAnswers, StoresAsWritten, StoreNumbers}
+use Rattle.rules.specs.Demands.{MakeTakesTheList, CutsAreSafe, RecoveryMayBeCut, RecoveryAccepts, GrowthBound, QueryCounts, ProbesAreFew}
+use Rattle.rules.specs.Demands.{ProbesAreDistinct}
 
 pub record Demand1 : Type 0 where
   -- "Any words, keys and lengths may be handed in. Every call ends, stays within its buffers and checks its own input."

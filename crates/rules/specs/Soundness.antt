@@ -10,7 +10,8 @@ use mathlib.Core.Option.{Option, none, some}
 use lib.ListN.{length}
 use lib.Dec.{eqb}
 use Rattle.rules.specs.Choice.{all, any, given, select, empty, firstOf}
-use Rattle.rules.specs.Words.{Table, word, headerOf, headerTests, GoodHeader, flagOf, targetOf, levelsInUse, InLevel, allBuckets, unusedBuckets, slotsInUse, InUse, placeOf, keyWord, keyIn, recordIn, tokenOf, taken, meantOf}
+use Rattle.rules.specs.Words.{Table, word, headerOf, headerTests, GoodHeader, flagOf, targetOf, levelsInUse, InLevel, allBuckets, unusedBuckets}
+use Rattle.rules.specs.Words.{slotsInUse, InUse, placeOf, keyWord, keyIn, recordIn, tokenOf, taken, meantOf}
 use Rattle.rules.specs.Places.{samePlace, placesOf}
 use Rattle.rules.specs.declared.Level.{Level}
 use Rattle.rules.specs.declared.Place.{Place}

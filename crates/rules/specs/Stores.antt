@@ -6,7 +6,8 @@ use Prim.Native.Nat.{ℕ, zero, suc, _+_, _*_}
 use mathlib.Core.List.{List, [], _∷_, _++_}
 use mathlib.Core.Option.{Option, none, some}
 use lib.ListN.{length, drop, set}
-use Rattle.rules.specs.Words.{Table, stateWord, wordOfState, wordOfFlag, wordOfTarget, wordOfFunction, wordOfPlace, placeOf, keyWord, functionWord, placeWord, keyIn, recordIn, tokenWord, tokenOf, show, hide}
+use Rattle.rules.specs.Words.{Table, stateWord, wordOfState, wordOfFlag, wordOfTarget, wordOfFunction, wordOfPlace, placeOf, keyWord}
+use Rattle.rules.specs.Words.{functionWord, placeWord, keyIn, recordIn, tokenWord, tokenOf, show, hide}
 use Rattle.rules.specs.Placing.{freeSlot}
 use Rattle.rules.specs.declared.State.{State}
 use Rattle.rules.specs.declared.Header.{Header}

@@ -12,7 +12,8 @@ use Rattle.running.specs.declared.Taken.{Taken}
 pub ready-one : (r s : Run) → r ≡ ready → s ≡ ready → r ≡ s
 ready-one r s a b = a ∙ sym b
 
-pub taken-one : (x : After) (r s : Taken) (u v l m : List ℕ) → TakenIs x r u l → TakenIs x s v m → (r .run ≡ s .run) × (r .answer ≡ s .answer) × (u ≡ v) × (l ≡ m)
+pub taken-one : (x : After) (r s : Taken) (u v l m : List ℕ) → TakenIs x r u l → TakenIs x s v m
+    → (r .run ≡ s .run) × (r .answer ≡ s .answer) × (u ≡ v) × (l ≡ m)
 taken-one x r s u v l m a b = (a .taken ∙ sym (b .taken), a .answer ∙ sym (b .answer), a .words ∙ sym (b .words), a .bytes ∙ sym (b .bytes))
 
 pub end-one : (run : Run) (r s : Answer) → r ≡ endOf run → s ≡ endOf run → r ≡ s

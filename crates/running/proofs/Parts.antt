@@ -20,7 +20,8 @@ use Rattle.replaying.specs.Replays.{Turned, askedOf, turnOf, finished, finishOf
 use Rattle.replaying.specs.declared.Answer.{Answer}
 use Rattle.replaying.specs.declared.Answer.the-variants.{Nothing}
 use Rattle.replaying.specs.declared.Replay.{Replay}
-use Rattle.running.specs.Runs.{heldAfter, After, byteTaken, overAt, known, endOf, fed, silent, spoken, KnownIsAll, UnknownIsNotAll, Stand, afterByte, afterBytes, answersIn, PartsAreFed}
+use Rattle.running.specs.Runs.{heldAfter, After, byteTaken, overAt, known, endOf, fed, silent, spoken, KnownIsAll, UnknownIsNotAll, Stand}
+use Rattle.running.specs.Runs.{afterByte, afterBytes, answersIn, PartsAreFed}
 
 -- ---- parts
 
@@ -67,7 +68,8 @@ known-silent : (p : Replay) → p .script .due ≡ noMore → (held : ℕ) (room
 unfolding byteTaken endOf
 known-silent p d held room line [] = rw (end-silent p d room (ltb 0 held))
 known-silent p d held room line (b ∷ bs) =
-    go (eqb b 10) (turnOf room p (lineOf (take held line))) (turn-stays p d room (lineOf (take held line))) (known-silent p d 0 room line bs) (known-silent p d _ room _ bs)
+    go (eqb b 10) (turnOf room p (lineOf (take held line))) (turn-stays p d room (lineOf (take held line))) (known-silent p d 0 room line bs)
+    (known-silent p d _ room _ bs)
   where
     next : Bool → Turned → After
     next c t =

@@ -52,7 +52,8 @@ pub record Holds (read line : List ℕ) (held : ℕ) : Type 0 where
   pub count : held ≡ min (length read) lineRoom
   pub bytes : take held line ≡ take lineRoom read
 
-holds-more : (read line : List ℕ) (held byte : ℕ) → Holds read line held → Holds (read ++ (byte ∷ [])) (heldAfter line held byte .1) (heldAfter line held byte .0)
+holds-more : (read line : List ℕ) (held byte : ℕ) → Holds read line held
+    → Holds (read ++ (byte ∷ [])) (heldAfter line held byte .1) (heldAfter line held byte .0)
 holds-more read line held byte h = go (decLe lineRoom held)
   where
     more : length (read ++ (byte ∷ [])) ≡ length read + 1
@@ -94,11 +95,13 @@ spoken-next : (a : Answer) (x y : List Answer) → spoken x ≡ spoken y → spo
 spoken-next a x y e = ap (λ (z : List Answer). cond (silent a) z (a ∷ z)) e
 
 fed-lines : (bs : List ℕ) (p : Replay) (held : ℕ) (room line read : List ℕ) → Holds read line held
-    → spoken (fed (record { replay = p; held = held }) room line bs) ≡ spoken (answers room p (map lineOf (prefixed read (split bs) .0)) (prefixed read (split bs) .1))
+    → spoken (fed (record { replay = p; held = held }) room line bs) ≡ spoken
+    (answers room p (map lineOf (prefixed read (split bs) .0)) (prefixed read (split bs) .1))
 unfolding endOf byteTaken
 fed-lines [] p held room line read h = rw (held-some read line held h)
 fed-lines (b ∷ bs) p held room line read h =
-    go (eqb b 10) (λ q room₂. fed-lines bs q 0 room₂ line [] (holds-nothing line (h .long))) (fed-lines bs p _ room _ (read ++ (b ∷ [])) (holds-more read line held b h))
+    go (eqb b 10) (λ q room₂. fed-lines bs q 0 room₂ line [] (holds-nothing line (h .long)))
+    (fed-lines bs p _ room _ (read ++ (b ∷ [])) (holds-more read line held b h))
   where
     t : Turned
     t = turnOf room p (lineOf (take held line))
@@ -112,9 +115,13 @@ fed-lines (b ∷ bs) p held room line read h =
     lines d = cond d ([] ∷ split bs .0, split bs .1) (joined b (split bs))
 
     go : (d : Bool)
-        → ((q : Replay) (room₂ : List ℕ) → spoken (fed (record { replay = q; held = 0 }) room₂ line bs) ≡ spoken (answers room₂ q (map lineOf (prefixed [] (split bs) .0)) (prefixed [] (split bs) .1)))
-        → spoken (fed (record { replay = p; held = heldAfter line held b .0 }) room (heldAfter line held b .1) bs) ≡ spoken (answers room p (map lineOf (prefixed (read ++ (b ∷ [])) (split bs) .0)) (prefixed (read ++ (b ∷ [])) (split bs) .1))
-        → spoken (next d .answer ∷ fed (next d .run) (next d .room) (next d .line) bs) ≡ spoken (answers room p (map lineOf (prefixed read (lines d) .0)) (prefixed read (lines d) .1))
+        → ((q : Replay) (room₂ : List ℕ)
+        → spoken (fed (record { replay = q; held = 0 }) room₂ line bs) ≡ spoken
+        (answers room₂ q (map lineOf (prefixed [] (split bs) .0)) (prefixed [] (split bs) .1)))
+        → spoken (fed (record { replay = p; held = heldAfter line held b .0 }) room (heldAfter line held b .1) bs) ≡ spoken
+        (answers room p (map lineOf (prefixed (read ++ (b ∷ [])) (split bs) .0)) (prefixed (read ++ (b ∷ [])) (split bs) .1))
+        → spoken (next d .answer ∷ fed (next d .run) (next d .room) (next d .line) bs) ≡ spoken
+        (answers room p (map lineOf (prefixed read (lines d) .0)) (prefixed read (lines d) .1))
     go true ended more =
         let said : turnOf room p (lineOf (read ++ [])) ≡ t = rw (append-nil read, ← (said-line read line held h)) in
         let rest = rw (prefixed-nothing (split bs)) at (ended (t .replay) (t .room)) in

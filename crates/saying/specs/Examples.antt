@@ -28,7 +28,10 @@ table =
     ∷ (Created (Denied BadCreation), "made=13\nevents=0\n")
     ∷ (Kept (Listed 7) 5, "answer=0\nstores=7\nkept=5\n")
     ∷ (Bad 100, "bad=100\n")
-    ∷ (Found (Known (record { function = 18446744073709551615; place = 9999999999999999999 }) 10000000000000000000), "answer=0\nfn=18446744073709551615\nat=9999999999999999999\nprobes=10000000000000000000\n")
+    ∷ (
+      Found (Known (record { function = 18446744073709551615; place = 9999999999999999999 }) 10000000000000000000),
+      "answer=0\nfn=18446744073709551615\nat=9999999999999999999\nprobes=10000000000000000000\n",
+    )
     ∷ []
 
 -- the definitions compute what document 01 writes

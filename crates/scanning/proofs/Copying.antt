@@ -25,7 +25,8 @@ use Rattle.rules.proofs.Basics.Tests.{Tells, tells-lt, tells-eq, tells-and, tel
 use Rattle.scanning.proofs.Alike.{Alike, Two, alike-parts}
 use Rattle.rules.proofs.Words.FreeSlots.{slot-place}
 use Rattle.rules.proofs.Places.PlacesInUse.{same-place-tells, slot-by-bucket, in-place}
-use Rattle.rules.proofs.Tables.Twins.{before-once, before-apart, taken-in, in-taken, taken-apart, taken-compare, Twins, twins-ordered, twins-apart, same-or-twins}
+use Rattle.rules.proofs.Tables.Twins.{before-once, before-apart, taken-in, in-taken, taken-apart, taken-compare, Twins, twins-ordered, twins-apart}
+use Rattle.rules.proofs.Tables.Twins.{same-or-twins}
 use Rattle.rules.proofs.Places.Lookups.{stands-one, lookup-stands, lookup-sees, holder-among, holder-taken}
 
 -- ---- the order of slots as a test
@@ -167,7 +168,9 @@ module _ (t : Table) where
     copy-listed x y u e d = in-flatMap (copiesOf t (headerOf t)) (in-taken t x u) (rw (e .1) (go (sameSlot x y) refl))
       where
         go : (b : Bool) → sameSlot x y ≡ b → In (inOrder x y) (cond b [] (inOrder x y ∷ []))
-        go true q = let r = same-tells x y .0 q in absurd (d (slot-by-bucket (headerOf t .state) c good x y (u .used) (ends-taken x y e .0 .used) (r .0) (r .1)))
+        go true q =
+            let r = same-tells x y .0 q in
+            absurd (d (slot-by-bucket (headerOf t .state) c good x y (u .used) (ends-taken x y e .0 .used) (r .0) (r .1)))
         go false q = here refl
 
     -- each pair of the rules is found, or there are two copies anyway: of more than two slots with one key each but one is a copy of
@@ -190,7 +193,8 @@ module _ (t : Table) where
 
         compare : (x y : Slot) → TakenSlot t x → TakenSlot t y → (x ≡ y) ⊎ (x ≡ y → ⊥)
         compare x y u v =
-            ⊎-elim inl (λ (o : Before x y ⊎ Before y x). inr (⊎-elim (λ (p : Before x y). before-apart x y p) (λ (p : Before y x) (e : x ≡ y). before-apart y x p (sym e)) o))
+            ⊎-elim inl (λ (o : Before x y ⊎ Before y x). inr
+            (⊎-elim (λ (p : Before x y). before-apart x y p) (λ (p : Before y x) (e : x ≡ y). before-apart y x p (sym e)) o))
             (taken-compare t x y u v)
 
         second : (a ≡ z → ⊥) → (b ≡ z) ⊎ (b ≡ z → ⊥) → In {A = Slot × Slot} (a, b) (copies t) ⊎ Two (copies t)

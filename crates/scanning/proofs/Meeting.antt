@@ -78,8 +78,10 @@ module _ (x : Slot) (y : Hashes) where
     at-either = go (samePlace (firstPlace y l) (secondPlace y l)) refl
       where
         go : (b : Bool) → eqb (firstPlace y l .bucket) (secondPlace y l .bucket) ≡ b
-            → any (map (samePlace (placeOf x)) (firstPlace y l ∷ cond b [] (secondPlace y l ∷ []))) ≡ (samePlace (placeOf x) (firstPlace y l) || samePlace (placeOf x) (secondPlace y l))
-        go true e = rw (eqb-true (firstPlace y l .bucket) (secondPlace y l .bucket) e) (or-false (eqb (x .bucket) (secondPlace y l .bucket)) ∙ sym (or-self (eqb (x .bucket) (secondPlace y l .bucket))))
+            → any (map (samePlace (placeOf x)) (firstPlace y l ∷ cond b [] (secondPlace y l ∷ []))) ≡ (samePlace (placeOf x)
+            (firstPlace y l) || samePlace (placeOf x) (secondPlace y l))
+        go true e = rw (eqb-true (firstPlace y l .bucket) (secondPlace y l .bucket) e) (or-false (eqb (x .bucket) (secondPlace y l .bucket))
+            ∙ sym (or-self (eqb (x .bucket) (secondPlace y l .bucket))))
         go false e = ap (λ (b : Bool). samePlace (placeOf x) (firstPlace y l) || b) (or-false (samePlace (placeOf x) (secondPlace y l)))
 
     module _ {f : Place} (p : f ≡ placeIn l (y .first)) where
@@ -138,7 +140,8 @@ module _ (t : Table) (h : Header) (l : Level) (found : Scan) {size : ℕ} (power
       ∙ foldl-map (placeAt l) (within (slotMet t h) slotsIn) (from (sizeOf l - 1) (sizeOf l)) found
       ∙ fold-whole (levelMet t h l) found (from (sizeOf l - 1) (sizeOf l)))
 
-pub bucket-met : (t : Table) (h : Header) (l : Level) (found : Scan) (p : Place) → p .level ≡ l .name → foldl (slotMet t h) found (slotsIn p) ≡ levelMet t h l found (p .bucket)
+pub bucket-met : (t : Table) (h : Header) (l : Level) (found : Scan) (p : Place) → p .level ≡ l .name
+    → foldl (slotMet t h) found (slotsIn p) ≡ levelMet t h l found (p .bucket)
 unfolding levelMet placeAt
 bucket-met t h l found p q = rw (← q)
 

@@ -97,7 +97,8 @@ module _ (t : Table) (g : GoodHeader (length t) (headerOf t)) where
   items-misplaced found [] e = never refl e
   items-misplaced found (x ∷ xs) e = go (inPlace t x) refl e (λ z. items-misplaced z xs)
     where
-      go : (b : Bool) → inPlace t x ≡ b → (b && all (map (inPlace t) xs)) ≡ false → ((z : Scan) → all (map (inPlace t) xs) ≡ false → foldl (itemMet t (headerOf t)) z xs ≡ Spoilt)
+      go : (b : Bool) → inPlace t x ≡ b → (b && all (map (inPlace t) xs)) ≡ false
+          → ((z : Scan) → all (map (inPlace t) xs) ≡ false → foldl (itemMet t (headerOf t)) z xs ≡ Spoilt)
           → foldl (itemMet t (headerOf t)) found (x ∷ xs) ≡ Spoilt
       go true q e k = k (itemMet t (headerOf t) found x) e
       go false q e k = after xs (item-out found x q) ∙ items-spoilt xs

@@ -13,7 +13,8 @@ use Rattle.rules.specs.declared.Lookup.the-variants.{Stands, Absent}
 
 -- "by top, bottom, interim, then bucket and slot ascending", as a test
 unfoldable pub isBefore : Slot → Slot → Bool
-isBefore x y = ltb (x .level) (y .level) || (eqb (x .level) (y .level) && (ltb (x .bucket) (y .bucket) || (eqb (x .bucket) (y .bucket) && ltb (x .slot) (y .slot))))
+isBefore x y = ltb (x .level)
+    (y .level) || (eqb (x .level) (y .level) && (ltb (x .bucket) (y .bucket) || (eqb (x .bucket) (y .bucket) && ltb (x .slot) (y .slot))))
 
 -- two slots in that order
 unfoldable pub inOrder : Slot → Slot → Slot × Slot

@@ -24,7 +24,8 @@ use Rattle.saying.specs.Texts.{textOf}
 use Rattle.saying.specs.Writing.{Put}
 use Rattle.saying.proofs.Puts.{put-length, put-text}
 use Rattle.script.specs.Outputs.{outputTo}
-use Rattle.script.specs.Parts.{begun, textIn, joined, pauses, texts, PartsWritten, KnownPartsWritten, TookSome, TookPart, RoomFor, WentOn, ReadSome, Behind, Ran}
+use Rattle.script.specs.Parts.{begun, textIn, joined, pauses, texts, PartsWritten, KnownPartsWritten, TookSome, TookPart, RoomFor, WentOn}
+use Rattle.script.specs.Parts.{ReadSome, Behind, Ran}
 use Rattle.script.specs.declared.Took.{Took}
 use Rattle.script.specs.declared.Part.{Part}
 use Rattle.script.specs.declared.Turn.{Turn}
@@ -202,12 +203,19 @@ some-taken u rest {r} {v} out t k more room = go (r .taken) (t .stand) (t .front
         let none : r .waiting ≡ 0 = sym (length-take-le (r .waiting) out (t .fits)) ∙ ap length (f ∙ text-none u) in
         let full : cond (known (u .run)) true (ltb (length out - r .waiting) 128)
         ≡ true = ap (λ (x : Stand). pauses (x .run) (length out - r .waiting)) (sym here) ∙ p more in
-        absurd (omega (arith, ltb-true (length out - r .waiting) 128 (ap (λ (b : Bool). cond b true (ltb (length out - r .waiting) 128)) (sym k) ∙ full), none, room))
+        absurd (omega (
+          arith,
+          ltb-true (length out - r .waiting) 128 (ap (λ (b : Bool). cond b true (ltb (length out - r .waiting) 128)) (sym k)
+              ∙ full),
+          none,
+          room,
+        ))
 
 pub part-begun : (s : Stand) → s ≡ afterBytes s []
 part-begun s = sym (after-none s)
 
-module _ {s : Stand} {part : List ℕ} {run : Run} {room line : List ℕ} {taken : ℕ} (within : taken ≤ length part) (stand : record { run = run; room = room; line = line } ≡ afterBytes s (take taken part)) where
+module _ {s : Stand} {part : List ℕ} {run : Run} {room line : List ℕ} {taken : ℕ} (within : taken ≤ length part)
+    (stand : record { run = run; room = room; line = line } ≡ afterBytes s (take taken part)) where
   pub part-unwritten : TookPart s part (record { run = run; taken = taken; written = false }) (record { run = run; room = room; line = line })
   part-unwritten = record { within = within; stand = stand; all = λ e. absurd (true-false (sym e)) }
 
@@ -297,7 +305,13 @@ record Onward (s : Stand) (r : Turn) (u : Stand) : Type 0 where
 
 went-onward : {s : Stand} (part : List ℕ) {r : Turn} {u : Stand} → known (s .run) ≡ false → WentOn s part r u → Onward s r u
 went-onward {s} part {r} {u} k w =
-    record { part = take (w .taken) part; stand = w .stand; rightly = λ e. absurd (w .other .0 e); some = λ e. go (w .taken) (w .within) (w .stand) (w .all e) (w .some e) }
+    record {
+      part = take (w .taken) part;
+      stand = w .stand;
+      rightly = λ e. absurd (w .other .0 e);
+      some =
+          λ e. go (w .taken) (w .within) (w .stand) (w .all e) (w .some e);
+    }
   where
     -- where nothing is taken the run stands as before, and its answer is not known
     go : (n : ℕ) → n ≤ length part → u ≡ afterBytes s (take n part) → (known (u .run) ≡ false → n ≡ length part) → 0 < length part → 0 < length (take n part)

@@ -7,11 +7,15 @@ use mathlib.Core.Path.{_≡_, refl}
 use mathlib.Core.List.{List, [], _∷_, _++_, map, flatMap}
 use lib.ListN.{length, replicate}
 use Rattle.words.specs.Product.{productOf, hashOf}
-use Rattle.rules.specs.Words.{wordsFor, stateOf, stateWord, atRest, headerOf, flagOf, stateGood, odd, capacityTests, headerTests, topOf, bottomOf, interimOf, levelsInUse, slotAt, slotsIn, placeAt, placeOf, tokenWord, keyWord, functionWord, placeWord, keyIn, recordIn, tokenOf, tokenNumber, isTaken, show, taken, bucketsOf, allBuckets, exponentInUse, unusedBuckets, slotsOf, slotsInUse, meant, meantOf, hide, takenOf}
+use Rattle.rules.specs.Words.{wordsFor, stateOf, stateWord, atRest, headerOf, flagOf, stateGood, odd, capacityTests, headerTests, topOf, bottomOf}
+use Rattle.rules.specs.Words.{interimOf, levelsInUse, slotAt, slotsIn, placeAt, placeOf, tokenWord, keyWord, functionWord, placeWord, keyIn, recordIn}
+use Rattle.rules.specs.Words.{tokenOf, tokenNumber, isTaken, show, taken, bucketsOf, allBuckets, exponentInUse, unusedBuckets, slotsOf, slotsInUse}
+use Rattle.rules.specs.Words.{meant, meantOf, hide, takenOf}
 use Rattle.rules.specs.Places.{hashesOf, firstPlace, secondPlace, samePlace, placesIn, probes, placesOf, holds, hitIn, lookup}
 use Rattle.rules.specs.Placing.{takenIn, freeSlot, fewer, emptier, roomIn, placing}
 use Rattle.rules.specs.Stores.{putStores, placingStores, written, clearStores, updateStores, beginStores, endStores, stepStores}
-use Rattle.rules.specs.Calls.{headerGood, listLong, flagClear, changingTests, queryTests, endTests, endOf, outcome, recoverTests, beginTests, beginOf, interimSlots, interimItems, stepItem, stepTests, stepOf}
+use Rattle.rules.specs.Calls.{headerGood, listLong, flagClear, changingTests, queryTests, endTests, endOf, outcome, recoverTests, beginTests, beginOf}
+use Rattle.rules.specs.Calls.{interimSlots, interimItems, stepItem, stepTests, stepOf}
 use Rattle.rules.specs.Results.{changeResult, queryResult, createTests, created, createResult, makeTests, makeResult}
 use Rattle.rules.specs.Soundness.{takenSlots, tokensTidy, unusedEmpty, inPlace, orderlyTests, sameKey, twins, sameRecord, target, finding}
 use Rattle.lines.specs.Lines.{bytes, decimalOf, lineOf}
@@ -110,5 +114,12 @@ cases =
 
 -- the definitions compute what document 01 writes, on used words
 pub cases-computed : map (λ (x : List ℕ × String). outputTo (replicate 100 7) (x .0)) cases ≡ map (λ (x : List ℕ × String). bytes (x .1)) cases
-unfolding productOf hashOf flatMap wordsFor stateOf stateWord atRest headerOf flagOf stateGood odd capacityTests headerTests topOf bottomOf interimOf levelsInUse bucketsOf allBuckets exponentInUse unusedBuckets slotAt slotsIn placeOf placeAt slotsOf slotsInUse tokenWord keyWord functionWord placeWord keyIn recordIn tokenOf tokenNumber isTaken show hide takenOf meant taken meantOf hashesOf firstPlace secondPlace samePlace placesIn probes holds hitIn lookup takenIn freeSlot fewer emptier roomIn placing putStores clearStores placingStores updateStores beginStores endStores stepStores written takenSlots tokensTidy unusedEmpty placesOf inPlace orderlyTests sameKey twins sameRecord target finding headerGood listLong flagClear changingTests queryTests recoverTests beginTests beginOf interimSlots interimItems stepItem stepTests stepOf endTests endOf outcome changeResult queryResult createTests created createResult makeTests makeResult decimalOf lineOf digitsIn decimalText readingOf endingOf answerTo tableAfter turnOf finishOf answersTo textOf outputTo
+unfolding productOf hashOf flatMap wordsFor stateOf stateWord atRest headerOf flagOf stateGood odd capacityTests headerTests topOf bottomOf interimOf
+    levelsInUse bucketsOf allBuckets exponentInUse unusedBuckets slotAt slotsIn placeOf placeAt slotsOf slotsInUse tokenWord keyWord functionWord
+    placeWord keyIn recordIn tokenOf tokenNumber isTaken show hide takenOf meant taken meantOf hashesOf firstPlace secondPlace samePlace placesIn
+    probes holds hitIn lookup takenIn freeSlot fewer emptier roomIn placing putStores clearStores placingStores updateStores beginStores endStores
+    stepStores written takenSlots tokensTidy unusedEmpty placesOf inPlace orderlyTests sameKey twins sameRecord target finding headerGood listLong
+    flagClear changingTests queryTests recoverTests beginTests beginOf interimSlots interimItems stepItem stepTests stepOf endTests endOf outcome
+    changeResult queryResult createTests created createResult makeTests makeResult decimalOf lineOf digitsIn decimalText readingOf endingOf answerTo
+    tableAfter turnOf finishOf answersTo textOf outputTo
 cases-computed = refl

@@ -2,7 +2,8 @@
 -- Assumes nothing.
 use mathlib.Core.Path.{_≡_, refl, sym, _∙_, subst⁻¹}
 use Prim.Native.Nat.{ℕ, _+_, _*_, _/_, _%_, _^_, _<_}
-use native.Mathlib.Nat.{le-of-lt, lt-of-le-of-lt, mul-le-mul-left, mul-lt-mul-of-pos-right, add-assoc, add-comm, add-left-comm, mul-assoc, mul-comm, mul-left-comm, mul-add, add-mul, div-add-mod'}
+use native.Mathlib.Nat.{le-of-lt, lt-of-le-of-lt, mul-le-mul-left, mul-lt-mul-of-pos-right, add-assoc, add-comm, add-left-comm, mul-assoc, mul-comm}
+use native.Mathlib.Nat.{mul-left-comm, mul-add, add-mul, div-add-mod'}
 use native.Mathlib.Omega.{arith}
 use lib.Pow.{pow-pos, pow-add}
 

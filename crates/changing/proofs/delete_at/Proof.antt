@@ -28,7 +28,12 @@ token-requires : tie.Need-token-requires
 token-requires c κs = within (c .before .before) .0
 
 clear-requires : tie.Need-clear-requires
-clear-requires c κs = let f = c .before .before .before in let w = within f in let s = f .before .before .before .before .before in let m = table-small _ _ (s .pre .1) in omega (arith, s .pre .0, m, w .0, w .1)
+clear-requires c κs =
+    let f = c .before .before .before in
+    let w = within f in
+    let s = f .before .before .before .before .before in
+    let m = table-small _ _ (s .pre .1) in
+    omega (arith, s .pre .0, m, w .0, w .1)
 
 returns : tie.Need-returns
 returns c = let d = c .before .before in did-as (delete-absent _ _ _ (d .lookup .ensures .0) (is-absent _ (c .before .match .keys1) .1)) (did-refuse _ _)

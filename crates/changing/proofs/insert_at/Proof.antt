@@ -19,7 +19,9 @@ enum-told-2 : tie.Need-enum-told-2
 enum-told-2 c = search needs
 
 returns : tie.Need-returns
-returns c = let d = c .before .before in did-as (insert-present _ _ _ (d .lookup-by .ensures .0) _ (is-standing _ (c .before .match .keys2) .2)) (did-refuse _ _)
+returns c =
+    let d = c .before .before in
+    did-as (insert-present _ _ _ (d .lookup-by .ensures .0) _ (is-standing _ (c .before .match .keys2) .2)) (did-refuse _ _)
 
 insert-absent-requires : tie.Need-insert-absent-requires
 insert-absent-requires c κs = let g = c .before .before .before .before in let s = g .before .before .before in (s .pre .0, s .pre .1, g .hashes .ensures)

@@ -43,7 +43,11 @@ hide-requires : tie.Need-hide-requires
 hide-requires c κs = search needs
 
 put-requires : tie.Need-put-requires
-put-requires c κs = let f = c .before .before .before .before in let w = within f in let s = f .before .before .before .before .before in omega (arith, s .pre .0, s .pre .1, w .0, w .1)
+put-requires c κs =
+    let f = c .before .before .before .before in
+    let w = within f in
+    let s = f .before .before .before .before .before in
+    omega (arith, s .pre .0, s .pre .1, w .0, w .1)
 
 same-length-2 : tie.Need-same-length-2
 same-length-2 c = search needs
@@ -53,7 +57,8 @@ unfolding placeOf
 returns-2 c =
     let u = c .before .before in
     let m = u .before .before .before .before .before in
-    renew-free _ _ _ _ _ _ _ (m .before .before .free-slot .ensures .0) (m .free .given .1) (u .before .before .token .ensures) (u .before .hide .ensures) (u .put .ensures)
+    renew-free _ _ _ _ _ _ _ (m .before .before .free-slot .ensures .0) (m .free .given .1) (u .before .before .token .ensures)
+    (u .before .hide .ensures) (u .put .ensures)
 
 pub renewed-spec : {M : Type 1} → statement M
 renewed-spec =

@@ -31,7 +31,9 @@ enum-told-2 : tie.Need-enum-told-2
 enum-told-2 c = search needs
 
 returns-2 : tie.Need-returns-2
-returns-2 c = let d = c .before .before in did-as (end-taken _ _ (d .first-item .ensures .0) (growing (d .before)) (is-there _ (c .before .match .keys2) .1)) (did-refuse _ _)
+returns-2 c =
+    let d = c .before .before in
+    did-as (end-taken _ _ (d .first-item .ensures .0) (growing (d .before)) (is-there _ (c .before .match .keys2) .1)) (did-refuse _ _)
 
 ended-requires : tie.Need-ended-requires
 ended-requires c κs = search needs

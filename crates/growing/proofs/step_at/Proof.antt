@@ -38,7 +38,8 @@ returns-2 : tie.Need-returns-2
 returns-2 c =
     let m = c .before .before in
     let f = m .before in
-    did-step-refuse _ _ _ (step-empty _ _ (growing (f .before)) (item-none _ (sym (f .first-item .ensures .0) ∙ is-empty _ (m .match .keys2)))) (c .unplaced2 .ensures)
+    did-step-refuse _ _ _ (step-empty _ _ (growing (f .before)) (item-none _ (sym (f .first-item .ensures .0) ∙ is-empty _ (m .match .keys2))))
+    (c .unplaced2 .ensures)
 
 step-item-requires : tie.Need-step-item-requires
 step-item-requires c κs =

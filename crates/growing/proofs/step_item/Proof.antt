@@ -53,7 +53,10 @@ record-at-requires : tie.Need-record-at-requires
 record-at-requires c κs = search needs
 
 list-placing-requires : tie.Need-list-placing-requires
-list-placing-requires c κs = let m = c .before .before in let s = m .before .before .before .before .before .before in (omega arith, table-small _ _ (s .pre .1), taken m .1)
+list-placing-requires c κs =
+    let m = c .before .before in
+    let s = m .before .before .before .before .before .before in
+    (omega arith, table-small _ _ (s .pre .1), taken m .1)
 
 token-requires : tie.Need-token-requires
 token-requires c κs = search needs
@@ -79,7 +82,8 @@ returns-2 c =
     let s = k .before .before .before in
     let z = taken m in
     let q = z .0 ∙ placing-told-by (p .interim-placing .ensures .0) in
-    did-step _ _ _ _ (s .pre .3) (k .key-at .ensures) (r .record-at .ensures) q (u .before .token .ensures) (s .pre .0) (d .list-placing .ensures) (u .clear .ensures) (step-listed _ _ _ (k .key-at .ensures) _ q _ (z .1))
+    did-step _ _ _ _ (s .pre .3) (k .key-at .ensures) (r .record-at .ensures) q (u .before .token .ensures) (s .pre .0) (d .list-placing .ensures)
+    (u .clear .ensures) (step-listed _ _ _ (k .key-at .ensures) _ q _ (z .1))
 
 pub step-item-spec : {M : Type 1} → statement M
 step-item-spec =

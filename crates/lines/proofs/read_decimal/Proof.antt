@@ -31,7 +31,8 @@ returns-3 c =
     let d = c .before .before .before in
     let a = d .before .before .args in
     let line = now (a .line) in
-    let e : decimalOf (drop (a .at) line) ≡ digitsFrom 0 (drop (a .at) line) = ⊎-elim (λ w. one-digit line _ (d .if1 .left) (w .1 .left)) (λ w. no-zero-before line _ (d .if1 .left) (w .left)) (c .before .if2 .came) in
+    let e : decimalOf (drop (a .at) line) ≡ digitsFrom 0 (drop (a .at) line) =
+    ⊎-elim (λ w. one-digit line _ (d .if1 .left) (w .1 .left)) (λ w. no-zero-before line _ (d .if1 .left) (w .left)) (c .before .if2 .came) in
     c .read-digits .ensures ∙ sym (ap decimalFound e)
 
 pub read-decimal-spec : {M : Type 1} → statement M

@@ -31,7 +31,8 @@ returns c =
     let s = c .before .before in
     let p = s .before .before .before .before .before in
     let k = p .before .before in
-    move-run _ _ _ _ _ (k .token .ensures) (k .before .before .key-at .ensures) (k .before .record-at .ensures) (s .before .token2 .ensures) (p .put .ensures) (s .clear .ensures)
+    move-run _ _ _ _ _ (k .token .ensures) (k .before .before .key-at .ensures) (k .before .record-at .ensures) (s .before .token2 .ensures)
+    (p .put .ensures) (s .clear .ensures)
 
 pub moved-spec : {M : Type 1} → statement M
 moved-spec =

@@ -14,7 +14,8 @@ use Rattle.making.proofs.store_all.Statement.{statement}
 use Rattle.making.proofs.store_all.Tie as tie
 
 abbrev Inv-loop : tie.InvT-loop
-Inv-loop t₀ list count i₀ t i = (length t ≡ length t₀) × (inside (length t₀) (rest count list i) ≡ true) × (made t₀ (pairs count list) ≡ made t (rest count list i))
+Inv-loop t₀ list count i₀ t i =
+    (length t ≡ length t₀) × (inside (length t₀) (rest count list i) ≡ true) × (made t₀ (pairs count list) ≡ made t (rest count list i))
 
 abbrev μ-loop : tie.MeasureT-loop
 μ-loop t₀ list count i₀ t i = count - i

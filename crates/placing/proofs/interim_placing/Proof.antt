@@ -22,8 +22,11 @@ enum-told c = search needs
 returns : tie.Need-returns
 returns c =
     let p = c .before .room in
-    let u = c .before .before in
-    (placing-tells (by-top _ _ _ (u .before .before .pre .1) (u .top .ensures .0) (p .result) (p .ensures .0) (somewhere (p .result) (c .match .keys2))), p .ensures .1)
+    let u = c .before .before in (
+      placing-tells (by-top _ _ _ (u .before .before .pre .1) (u .top .ensures .0) (p .result) (p .ensures .0)
+          (somewhere (p .result) (c .match .keys2))),
+      p .ensures .1,
+    )
 
 bottom-requires : tie.Need-bottom-requires
 bottom-requires c κs = header-state _ _ (c .before .before .before .before .before .pre .0)
@@ -43,8 +46,11 @@ returns-2 c =
     let d = v .before .before in
     let p = d .before .room in
     let u = d .before .before in
-    let n = not-free (p .result) (inr (d .match .keys1)) _ (p .ensures .0) in
-    (placing-tells (by-bottom _ _ _ (u .before .before .pre .1) (u .top .ensures .0) n (v .bottom .ensures .0) (q .result) (q .ensures .0) (somewhere (q .result) (c .match2 .keys2))), q .ensures .1)
+    let n = not-free (p .result) (inr (d .match .keys1)) _ (p .ensures .0) in (
+      placing-tells (by-bottom _ _ _ (u .before .before .pre .1) (u .top .ensures .0) n (v .bottom .ensures .0) (q .result) (q .ensures .0)
+          (somewhere (q .result) (c .match2 .keys2))),
+      q .ensures .1,
+    )
 
 moving-requires : tie.Need-moving-requires
 moving-requires c κs = search needs

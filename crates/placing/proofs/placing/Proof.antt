@@ -24,8 +24,10 @@ returns c =
     let f = c .before in
     let q = f .in-top .given .1 in
     let p = f .before .before .room in
-    let u = f .before .before .before in
-    (placing-tells (sym q ∙ by-top _ _ _ (u .before .before .pre .1) (u .top .ensures .0) (p .result) (p .ensures .0) (free-somewhere q)), rw q at (p .ensures .1))
+    let u = f .before .before .before in (
+      placing-tells (sym q ∙ by-top _ _ _ (u .before .before .pre .1) (u .top .ensures .0) (p .result) (p .ensures .0) (free-somewhere q)),
+      rw q at (p .ensures .1),
+    )
 
 bottom-requires : tie.Need-bottom-requires
 bottom-requires c κs = header-state _ _ (c .before .before .before .before .pre .0)
@@ -45,8 +47,11 @@ returns-2 c =
     let d = v .before in
     let p = d .before .room in
     let u = d .before .before in
-    let n = not-free (p .result) (d .match .keys2) _ (p .ensures .0) in
-    (placing-tells (sym q ∙ by-bottom _ _ _ (u .before .before .pre .1) (u .top .ensures .0) n (v .bottom .ensures .0) (r .result) (r .ensures .0) (free-somewhere q)), rw q at (r .ensures .1))
+    let n = not-free (p .result) (d .match .keys2) _ (p .ensures .0) in (
+      placing-tells (sym q ∙ by-bottom _ _ _ (u .before .before .pre .1) (u .top .ensures .0) n (v .bottom .ensures .0) (r .result) (r .ensures .0)
+          (free-somewhere q)),
+      rw q at (r .ensures .1),
+    )
 
 one-move-requires : tie.Need-one-move-requires
 one-move-requires c κs = search needs

@@ -25,12 +25,19 @@ returns-2 c = find-unused _ (c .before .before .before .before .before .pre .1) 
 scan-table-requires : tie.Need-scan-table-requires
 scan-table-requires c κs = search needs
 
+-- the scan comes after the two tests of token words
+abbrev begun : tie.After-scan-table → tie.Start
+begun c =
+    let second = c .before in
+    let first = second .before .before in
+    first .before .before .before
+
 shared-slice-read-if3 : tie.Need-shared-slice-read-if3
-shared-slice-read-if3 c = omega (arith, header-fits _ _ (c .before .before .before .before .before .before .before .pre .0))
+shared-slice-read-if3 c = omega (arith, header-fits _ _ (begun (c .before) .pre .0))
 
 still-requires : tie.Need-still-requires
 still-requires c κs =
-    let p = c .before .before .before .before .before .before .before .before .pre in
+    let p = begun (c .before .before) .pre in
     rw (c .before .before .scan-table .ensures, p .1) (scan-within _ (rw (p .1) at (p .0)))
 
 returns-3 : tie.Need-returns-3
@@ -44,7 +51,7 @@ returns-3 c =
     find-still _ (p .1) (p .0) tidy unused (d .scan-table .ensures) (c .before .if3 .taken) (c .still .ensures)
 
 shared-slice-read-if4 : tie.Need-shared-slice-read-if4
-shared-slice-read-if4 c = omega (arith, header-fits _ _ (c .before .before .before .before .before .before .before .before .before .pre .0))
+shared-slice-read-if4 c = omega (arith, header-fits _ _ (begun (c .before .before .before) .pre .0))
 
 find-target-requires : tie.Need-find-target-requires
 find-target-requires c κs = search needs
@@ -65,7 +72,7 @@ returns-4 c =
 returns-5 : tie.Need-returns-5
 unfolding flagOf
 returns-5 c =
-    let p = c .before .before .before .before .before .before .before .before .before .before .pre in
+    let p = begun (c .before .before .before .before) .pre in
     find-misflagged _ (p .1) (c .before .before .if3 .left) (c .if4 .left)
 
 pub finding-spec : {M : Type 1} → statement M

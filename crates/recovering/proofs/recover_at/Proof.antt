@@ -40,7 +40,12 @@ token-requires : tie.Need-token-requires
 token-requires c κs = doubled-within (c .before .before) .0
 
 clear-requires : tie.Need-clear-requires
-clear-requires c κs = let f = c .before .before .before in let s = f .before .before .before .before .before in let w = doubled-within f in let m = table-small _ _ (s .pre .1) in omega (arith, s .pre .0, m, w .0, w .1)
+clear-requires c κs =
+    let f = c .before .before .before in
+    let s = f .before .before .before .before .before in
+    let w = doubled-within f in
+    let m = table-small _ _ (s .pre .1) in
+    omega (arith, s .pre .0, m, w .0, w .1)
 
 enum-known-found-2 : tie.Need-enum-known-found-2
 enum-known-found-2 c = search needs
@@ -52,7 +57,12 @@ shared-slice-read-t17 : tie.Need-shared-slice-read-t17
 shared-slice-read-t17 c = let s = c .before .before .before .before .before .before .before .before in omega (arith, long s)
 
 redo-requires : tie.Need-redo-requires
-redo-requires c κs = let f = c .before .before .before .before in let s = f .before .before .before .before .before in let w = flagged-within f in let m = table-small _ _ (s .pre .1) in omega (arith, s .pre .0, m, w .0, w .1)
+redo-requires c κs =
+    let f = c .before .before .before .before in
+    let s = f .before .before .before .before .before in
+    let w = flagged-within f in
+    let m = table-small _ _ (s .pre .1) in
+    omega (arith, s .pre .0, m, w .0, w .1)
 
 enum-told-2 : tie.Need-enum-told-2
 enum-told-2 c = search needs

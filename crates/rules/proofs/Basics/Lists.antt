@@ -3,7 +3,8 @@
 use Prim.Native.Nat.{ℕ, zero, suc, _+_, _≤_, _<_}
 use mathlib.Core.Path.{_≡_, refl, sym, ap, _∙_}
 use mathlib.Core.Bool.{Bool, true, false, cond}
-use mathlib.Core.List.{List, [], _∷_, _++_, map, flatMap, head?, List·Memᴰ as In, List·Memᴰ·head as here, List·Memᴰ·tail as there, List·Memᴰ·not-nil, List·Memᴰ·cases-cons, List·Memᴰ·append-cases, Memᴰ·append-left, Memᴰ·append-right}
+use mathlib.Core.List.{List, [], _∷_, _++_, map, flatMap, head?, List·Memᴰ as In, List·Memᴰ·head as here, List·Memᴰ·tail as there, List·Memᴰ·not-nil}
+use mathlib.Core.List.{List·Memᴰ·cases-cons, List·Memᴰ·append-cases, Memᴰ·append-left, Memᴰ·append-right}
 use mathlib.Core.Logic.{_⊎_, inl, inr, ⊎-elim}
 use mathlib.Core.Option.{Option, none, some, Option·map}
 use native.Mathlib.Nat.{zero-add}
@@ -40,7 +41,16 @@ module _ {A B : Type 0} (f : A → Option B) where
   firstOf-some (x ∷ xs) b e = go (f x) refl e (firstOf-some xs b)
     where
       go : (o : Option B) → f x ≡ o → orElse o (firstOf f xs) ≡ some b → (firstOf f xs ≡ some b → First xs b) → First (x ∷ xs) b
-      go (some c) q e k = record { earlier = []; found = x; later = xs; split = refl; inside = here refl; gives = q ∙ e; before = λ y i. absurd (List·Memᴰ·not-nil i) }
+      go (some c) q e k = record {
+        earlier = [];
+        found = x;
+        later = xs;
+        split = refl;
+        inside = here refl;
+        gives = q ∙ e;
+        before =
+            λ y i. absurd (List·Memᴰ·not-nil i);
+      }
       go none q e k =
           let r = k e in
           record {
@@ -106,7 +116,8 @@ module _ {A : Type 0} (p : A → Bool) where
   select-whole [] e x i = absurd (List·Memᴰ·not-nil i)
   select-whole (y ∷ ys) e x i = go (p y) refl e (λ g j. select-whole ys g x j)
     where
-      go : (b : Bool) → p y ≡ b → length (cond b (y ∷ select p ys) (select p ys)) ≡ length (y ∷ ys) → (length (select p ys) ≡ length ys → In x ys → p x ≡ true) → p x ≡ true
+      go : (b : Bool) → p y ≡ b → length (cond b (y ∷ select p ys) (select p ys)) ≡ length (y ∷ ys)
+          → (length (select p ys) ≡ length ys → In x ys → p x ≡ true) → p x ≡ true
       go true q e k = ⊎-elim (λ (h : x ≡ y). rw h q) (λ (h : In x ys). k (omega arith) h) (List·Memᴰ·cases-cons i)
       go false q e k = absurd (omega (arith, select-most ys))
 
@@ -152,7 +163,8 @@ pub flatMap-in : {A B : Type 0} (f : A → List B) (l : List A) (y : B) → In y
 unfolding flatMap
 flatMap-in f [] y i = absurd (List·Memᴰ·not-nil i)
 flatMap-in f (x ∷ xs) y i =
-    ⊎-elim (λ (h : In y (f x)). (x, here refl, h)) (λ (h : In y (flatMap f xs)). let r = flatMap-in f xs y h in (r .0, there (r .1), r .2)) (List·Memᴰ·append-cases (f x) i)
+    ⊎-elim (λ (h : In y (f x)). (x, here refl, h)) (λ (h : In y (flatMap f xs)). let r =
+    flatMap-in f xs y h in (r .0, there (r .1), r .2)) (List·Memᴰ·append-cases (f x) i)
 
 pub from-in : (a n x : ℕ) → In x (from a n) → (a ≤ x) × (x < a + n)
 from-in a zero x i = absurd (List·Memᴰ·not-nil i)
@@ -222,7 +234,8 @@ module _ {A B : Type 0} where
   firstOf-append f [] ys = refl
   firstOf-append f (x ∷ xs) ys = go (f x) (firstOf-append f xs ys)
     where
-      go : (o : Option B) → firstOf f (xs ++ ys) ≡ orElse (firstOf f xs) (firstOf f ys) → orElse o (firstOf f (xs ++ ys)) ≡ orElse (orElse o (firstOf f xs)) (firstOf f ys)
+      go : (o : Option B) → firstOf f (xs ++ ys) ≡ orElse (firstOf f xs) (firstOf f ys)
+          → orElse o (firstOf f (xs ++ ys)) ≡ orElse (orElse o (firstOf f xs)) (firstOf f ys)
       go (some b) k = refl
       go none k = k
 
@@ -237,7 +250,8 @@ firstOf-flatMap f g [] = refl
 firstOf-flatMap f g (x ∷ xs) = firstOf-append f (g x) (flatMap g xs) ∙ ap (orElse (firstOf f (g x))) (firstOf-flatMap f g xs)
 
 -- the first that passes a test, each under a name
-pub firstOf-given : {A B : Type 0} (p : A → Bool) (g : A → B) (xs : List A) → firstOf (λ x. given (p x) (g x)) xs ≡ Option·map g (firstOf (λ x. given (p x) x) xs)
+pub firstOf-given : {A B : Type 0} (p : A → Bool) (g : A → B) (xs : List A)
+    → firstOf (λ x. given (p x) (g x)) xs ≡ Option·map g (firstOf (λ x. given (p x) x) xs)
 firstOf-given p g [] = refl
 firstOf-given p g (x ∷ xs) = go (p x) (firstOf-given p g xs)
   where

@@ -20,7 +20,8 @@ module _ {A B : Type 0} (f : B → A → B) (b : B) (l : List A) where
   unfolding foldFrom
   fold-end i e = rw e
 
-pub fold-next : {A B : Type 0} (f : B → A → B) {b c : B} (l : List A) (i : ℕ) {x : A} → drop i l ≡ x ∷ drop (i + 1) l → f b x ≡ c → foldFrom f b l i ≡ foldFrom f c l (i + 1)
+pub fold-next : {A B : Type 0} (f : B → A → B) {b c : B} (l : List A) (i : ℕ) {x : A} → drop i l ≡ x ∷ drop (i + 1) l → f b x ≡ c
+    → foldFrom f b l i ≡ foldFrom f c l (i + 1)
 unfolding foldFrom
 fold-next f l i e q = rw e (ap (λ z. foldl f z (drop (i + 1) l)) q)
 
@@ -57,7 +58,8 @@ module _ {A : Type 0} (join : List Bool → Bool) (p : A → Bool) (l : List A) 
   tests-end i e = rw e
 
 module _ {A : Type 0} (p : A → Bool) (l : List A) (i : ℕ) {x : A} {b : Bool} (next : drop i l ≡ x ∷ drop (i + 1) l) (test : p x ≡ b) where
-  tests-next : (join : List Bool → Bool) (put : Bool → Bool → Bool) → ((c : Bool) (cs : List Bool) → join (c ∷ cs) ≡ put c (join cs)) → testsFrom join p l i ≡ put b (testsFrom join p l (i + 1))
+  tests-next : (join : List Bool → Bool) (put : Bool → Bool → Bool) → ((c : Bool) (cs : List Bool) → join (c ∷ cs) ≡ put c (join cs))
+      → testsFrom join p l i ≡ put b (testsFrom join p l (i + 1))
   unfolding testsFrom
   tests-next join put law = rw (next, test) (law b (map p (drop (i + 1) l)))
 

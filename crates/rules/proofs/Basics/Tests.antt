@@ -68,6 +68,7 @@ pub all-fails : {A : Type 0} (p : A → Bool) (l : List A) → all (map p l) ≡
 all-fails p [] e = never refl e
 all-fails {A} p (x ∷ xs) e = go (p x) refl e (all-fails p xs)
   where
-    go : (b : Bool) → p x ≡ b → b && all (map p xs) ≡ false → (all (map p xs) ≡ false → (y : A) × In y xs × (p y ≡ false)) → (y : A) × In y (x ∷ xs) × (p y ≡ false)
+    go : (b : Bool) → p x ≡ b → b && all (map p xs) ≡ false → (all (map p xs) ≡ false → (y : A) × In y xs × (p y ≡ false))
+        → (y : A) × In y (x ∷ xs) × (p y ≡ false)
     go false q e k = (x, here refl, q)
     go true q e k = let r = k e in (r .0, there (r .1), r .2)

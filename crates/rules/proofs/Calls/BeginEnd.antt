@@ -131,7 +131,8 @@ unfolding outcome beginOf beginTests atRest
 beginAnswers t m n given = (
   λ growing. rw (passes t m n given, ne-eqb (headerOf t .state .phase) 0 growing),
   λ rest full. rw (passes t m n given, eq-eqb (headerOf t .state .phase) 0 rest, eq-eqb (headerOf t .state .k) (headerOf t .c) full),
-  λ rest below. rw (passes t m n given, eq-eqb (headerOf t .state .phase) 0 rest, ne-eqb (headerOf t .state .k) (headerOf t .c) below) (begin-gives t m n given rest below),
+  λ rest below. rw (passes t m n given, eq-eqb (headerOf t .state .phase) 0 rest, ne-eqb (headerOf t .state .k) (headerOf t .c) below)
+      (begin-gives t m n given rest below),
 )
 
 pub endAnswers : EndAnswers

@@ -23,6 +23,7 @@ module _ (o : Outcome) (xs : List Store) where
   checked-passed [] e x i = absurd (List·Memᴰ·not-nil i)
   checked-passed (y ∷ ts) e x i = go (y .0) refl e (λ g j. checked-passed ts g x j)
     where
-      go : (b : Bool) → y .0 ≡ b → cond b (checked refused ts o) (refused (y .1)) ≡ listed xs → (checked refused ts o ≡ listed xs → In x ts → x .0 ≡ true) → x .0 ≡ true
+      go : (b : Bool) → y .0 ≡ b → cond b (checked refused ts o) (refused (y .1)) ≡ listed xs
+          → (checked refused ts o ≡ listed xs → In x ts → x .0 ≡ true) → x .0 ≡ true
       go true q e k = ⊎-elim (λ (h : x ≡ y). rw h q) (λ (h : In x ts). k e h) (List·Memᴰ·cases-cons i)
       go false q e k = absurd (let z : _≡_ {A = ℕ} 0 1 = cc in omega arith)

@@ -12,7 +12,8 @@ use lib.ListN.{length, replicate, length-replicate}
 use lib.Seq.{getD-drop}
 use borrow.Author.Tests.{leb-true, le-leb, eqb-true, eq-eqb}
 use Rattle.rules.specs.Choice.{all}
-use Rattle.rules.specs.Words.{Table, word, wordsFor, odd, capacityTests, stateOf, stateWord, headerOf, GoodHeader, flagOf, tokenOf, tokenWord, keysOf, taken, meantOf}
+use Rattle.rules.specs.Words.{Table, word, wordsFor, odd, capacityTests, stateOf, stateWord, headerOf, GoodHeader, flagOf, tokenOf, tokenWord}
+use Rattle.rules.specs.Words.{keysOf, taken, meantOf}
 use Rattle.rules.specs.Answers.{verdictMeans}
 use Rattle.rules.specs.Results.{createTests, created, createResult}
 use Rattle.rules.specs.Soundness.{SoundTable, TakenSlot, HasMap}
@@ -39,7 +40,15 @@ module _ (size c k mul1 mul2 : ℕ) where
           odd1 = eqb-true _ _ (y 4);
           odd2 = eqb-true _ _ (y 5);
         },
-    λ g. rw (le-leb _ _ (g .capacity .0), le-leb _ _ (g .capacity .1), le-leb _ _ (g .exponent .0), le-leb _ _ (g .exponent .1), eq-eqb _ _ (g .long), eq-eqb _ _ (g .odd1), eq-eqb _ _ (g .odd2)),
+    λ g. rw (
+      le-leb _ _ (g .capacity .0),
+      le-leb _ _ (g .capacity .1),
+      le-leb _ _ (g .exponent .0),
+      le-leb _ _ (g .exponent .1),
+      eq-eqb _ _ (g .long),
+      eq-eqb _ _ (g .odd1),
+      eq-eqb _ _ (g .odd2),
+    ),
   )
 
   zeros-read : (n i : ℕ) → word (replicate n 0) i ≡ 0
@@ -92,11 +101,26 @@ module _ (c k mul1 mul2 : ℕ) (u : Table) (good : GoodCreation (length u) c k m
       let small : k < 256 = omega (arith, good .capacity .1, good .exponent .1) in
       let rest : word u 4 % 256 ≡ k = omega (arith, made .state) in
       let phase : word u 4 / 256 ≡ 0 = omega (arith, made .state) in
-      λ i. record { form = made .form i; c = made .capacity i; mul1 = made .multiplier1 i; mul2 = made .multiplier2 i; state = record { k = rest i; phase = phase i } }
+      λ i. record {
+        form = made .form i;
+        c = made .capacity i;
+        mul1 = made .multiplier1 i;
+        mul2 = made .multiplier2 i;
+        state =
+            record { k = rest i; phase = phase i };
+      }
 
   header-good : GoodHeader (length u) (headerOf u)
   unfolding wordsFor
-  header-good = rw created-header (record { capacity = good .capacity; long = good .long; form = refl; odd1 = good .odd1; odd2 = good .odd2; state = inl (refl, good .exponent .0, good .exponent .1) })
+  header-good = rw created-header (record {
+    capacity = good .capacity;
+    long = good .long;
+    form = refl;
+    odd1 = good .odd1;
+    odd2 = good .odd2;
+    state =
+        inl (refl, good .exponent .0, good .exponent .1);
+  })
 
   no-token : (j : ℕ) → tokenOf u j ≡ 0
   unfolding tokenOf tokenWord
@@ -125,7 +149,8 @@ unfolding createResult
 createdIsEmpty t u c k mul1 mul2 e = go (all (createTests (length t) c k mul1 mul2)) (good-creation (length t) c k mul1 mul2) e
   where
     Begun : Type 0
-    Begun = SoundTable u × (headerOf u ≡ record { form = 1; c = c; mul1 = mul1; mul2 = mul2; state = record { k = k; phase = 0 } }) × HasMap u (λ (key : ℕ). none)
+    Begun = SoundTable u × (headerOf u ≡ record { form = 1; c = c; mul1 = mul1; mul2 = mul2; state = record { k = k; phase = 0 } })
+        × HasMap u (λ (key : ℕ). none)
 
     empty : (size : ℕ) → size ≡ length u → GoodCreation size c k mul1 mul2 → CreatedWords size c k mul1 mul2 u → Begun
     empty size n g f =
@@ -136,10 +161,12 @@ createdIsEmpty t u c k mul1 mul2 e = go (all (createTests (length t) c k mul1 mu
           record { stands = λ x s. absurd (none-taken c k mul1 mul2 u g f x s); only = λ key r e. not-some e },
         )
 
-    go : (b : Bool) → Tells b (GoodCreation (length t) c k mul1 mul2) → cond {A = Verdict × Table} b (Done, created c k mul1 mul2) (Denied BadCreation, t) ≡ (Done, u)
+    go : (b : Bool) → Tells b (GoodCreation (length t) c k mul1 mul2)
+        → cond {A = Verdict × Table} b (Done, created c k mul1 mul2) (Denied BadCreation, t) ≡ (Done, u)
         → Begun
     go true tells e =
         let g = tells .0 refl in
         let f : CreatedWords (length t) c k mul1 mul2 u = rw (ap (λ (r : Verdict × Table). r .1) e) at (created-words (length t) c k mul1 mul2 g) in
         empty (length t) (sym (f .long)) g f
-    go false tells e = absurd (let z : _≡_ {A = Verdict} (Denied BadCreation) Done = ap (λ (r : Verdict × Table). r .0) e in let y : _≡_ {A = ℕ} 0 1 = cc in omega arith)
+    go false tells e = absurd (let z : _≡_ {A = Verdict} (Denied BadCreation) Done = ap (λ (r : Verdict × Table). r .0) e in let y : _≡_ {A = ℕ} 0 1 =
+        cc in omega arith)

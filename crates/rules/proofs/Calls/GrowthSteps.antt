@@ -37,7 +37,8 @@ not-interim x (inl e) f = omega arith
 not-interim x (inr e) f = omega arith
 
 -- after a move to top or bottom, the interim items are those before but the one that moved
-interims-after : (t u : Table) (m : PlainMap) (from to : Slot) → AfterMove t u m from to → Settled to → (y : Slot) → InterimItem u y ↔ (InterimItem t y × (y ≡ from → ⊥))
+interims-after : (t u : Table) (m : PlainMap) (from to : Slot) → AfterMove t u m from to → Settled to → (y : Slot)
+    → InterimItem u y ↔ (InterimItem t y × (y ≡ from → ⊥))
 interims-after t u m from to v settled y = (
   λ a. go a (v .stood y (a .item)),
   λ b. record { item = v .stays y (b .0 .item) (b .1) .0; level = b .0 .level },
@@ -53,7 +54,8 @@ module _ (t : Table) (m : PlainMap) (whole : SoundMap t m) (x : Slot) (item : In
   unfolding placeOf
   elsewhere y used settled e =
       let s = headerOf t .state in
-      let same = place-by-bucket s (headerOf t .c) (whole .sound .orderly .header .state) (placeOf x) (placeOf y) (place-of-slot s x (item .item .used)) (place-of-slot s y used) e in
+      let same = place-by-bucket s (headerOf t .c) (whole .sound .orderly .header .state) (placeOf x) (placeOf y)
+      (place-of-slot s x (item .item .used)) (place-of-slot s y used) e in
       not-interim y settled (sym (ap (λ (p : Place). p .level) same) ∙ item .level)
 
   Steps : Placing → Type 0
@@ -70,8 +72,11 @@ module _ (t : Table) (m : PlainMap) (whole : SoundMap t m) (x : Slot) (item : In
       )
 
   -- a move, and then another, of the interim item to the slot that the first one freed
-  two-moves : (from to : Slot) (u : Table) → AfterMove t u m from to → Settled from → Settled to → InUse (headerOf t .state) from → InUse (headerOf t .state) to → In (placeOf from) (placesOf (headerOf t) (keyIn t x))
-      → (w : Table) × (w ≡ made u (putStores (headerOf t) (hide (headerOf t) (tokenOf t (from .bucket)) (from .slot)) from (keyIn t x) (recordIn t x) ++ clearStores (headerOf t) (tokenOf t (x .bucket)) x))
+  two-moves : (from to : Slot) (u : Table) → AfterMove t u m from to → Settled from → Settled to → InUse (headerOf t .state) from
+      → InUse (headerOf t .state) to → In (placeOf from) (placesOf (headerOf t) (keyIn t x))
+      → (w : Table) × (w ≡ made u
+      (putStores (headerOf t) (hide (headerOf t) (tokenOf t (from .bucket)) (from .slot)) from (keyIn t x) (recordIn t x) ++ clearStores
+      (headerOf t) (tokenOf t (x .bucket)) x))
       × Becomes t w m × StepMoves t w x
   unfolding moveStores
   two-moves from to u v high low used target among =
@@ -87,7 +92,8 @@ module _ (t : Table) (m : PlainMap) (whole : SoundMap t m) (x : Slot) (item : In
             λ a.
                 let b = interims-after u _ m x from w high y .0 a in
                 (interims-after t u m from to v low y .0 (b .0) .0, b .1),
-            λ b. interims-after u _ m x from w high y .1 (interims-after t u m from to v low y .1 (b .0, λ e. not-interim from high (rw e at (b .0 .level))), b .1),
+            λ b. interims-after u _ m x from w high y .1
+                (interims-after t u m from to v low y .1 (b .0, λ e. not-interim from high (rw e at (b .0 .level))), b .1),
           );
           slot = from;
           stands = w .arrived .0;
@@ -108,11 +114,13 @@ module _ (t : Table) (m : PlainMap) (whole : SoundMap t m) (x : Slot) (item : In
       let w = two-moves from to (made t (moveStores t h from to)) v (f .level) (g .level) used target (f .among) in
       let puts = putStores h (hide h (tokenOf t (from .bucket)) (from .slot)) from (keyIn t x) (recordIn t x) in
       let e : made t ((moveStores t h from to ++ puts) ++ clearStores h (tokenOf t (x .bucket)) x) ≡ w .0
-      = ap (made t) (append-assoc (moveStores t h from to) puts (clearStores h (tokenOf t (x .bucket)) x)) ∙ made-append t (moveStores t h from to) (puts ++ clearStores h (tokenOf t (x .bucket)) x) ∙ sym (w .1) in
+      = ap (made t) (append-assoc (moveStores t h from to) puts (clearStores h (tokenOf t (x .bucket)) x))
+      ∙ made-append t (moveStores t h from to) (puts ++ clearStores h (tokenOf t (x .bucket)) x) ∙ sym (w .1) in
       rw e (w .2, w .3)
 
 module _ (t : Table) (m : PlainMap) (n : ℕ) (given : Given t m n) where
-  by-placing : (x : Slot) → FirstInterim t x → (p : Placing) → placing t (headerOf t) (keyIn t x) ≡ p → StepBy t m x (placedBy p (stepStores t (headerOf t) x p))
+  by-placing : (x : Slot) → FirstInterim t x → (p : Placing) → placing t (headerOf t) (keyIn t x) ≡ p
+      → StepBy t m x (placedBy p (stepStores t (headerOf t) x p))
   unfolding Steps gives
   by-placing x first (Free y) e =
       let s = free-steps t m (whole-of t m n given) x (first .item) y (placing-free t (headerOf t) (keyIn t x) y e) in
@@ -122,7 +130,8 @@ module _ (t : Table) (m : PlainMap) (n : ℕ) (given : Given t m n) where
       inr (some-place t (headerOf t) (keyIn t x) (Move from to) tt e, (gives t m _ (s .0), s .1))
   by-placing x first Nowhere e = inl (no-place t (headerOf t) (keyIn t x) .0 e, refl)
 
-  answers : (o : Option Slot) → stepItem t (headerOf t) ≡ o → (NoInterim t × (stepIn t (headerOf t) o ≡ refused InterimEmpty)) ⊎ ((x : Slot) × FirstInterim t x × StepBy t m x (stepIn t (headerOf t) o))
+  answers : (o : Option Slot) → stepItem t (headerOf t) ≡ o
+      → (NoInterim t × (stepIn t (headerOf t) o ≡ refused InterimEmpty)) ⊎ ((x : Slot) × FirstInterim t x × StepBy t m x (stepIn t (headerOf t) o))
   answers none e = inl (no-step-item t e, refl)
   answers (some x) e = let first = step-item t x e in inr (x, first, by-placing x first (placing t (headerOf t) (keyIn t x)) refl)
 

@@ -13,8 +13,10 @@ use Rattle.rules.specs.Places.{placesOf}
 use Rattle.rules.specs.Placing.{freeSlot, placing}
 use Rattle.rules.specs.Stores.{Store}
 use Rattle.rules.specs.Soundness.{DoubledTable, FlaggedTable, finding}
-use Rattle.rules.specs.Calls.{headerGood, changingTests, queryTests, recoverTests, listed, Call, query, insert, update, delete, begin, step, end, recover, testsOf, outcome}
-use Rattle.rules.specs.Demands.{bucketStart, slotStart, recordStores, PlacingWritten, UpdateWritten, RecoveryWritten, Written, StoresInside, TokenStoresLow}
+use Rattle.rules.specs.Calls.{headerGood, changingTests, queryTests, recoverTests, listed, Call, query, insert, update, delete, begin, step}
+use Rattle.rules.specs.Calls.{end, recover, testsOf, outcome}
+use Rattle.rules.specs.Demands.{bucketStart, slotStart, recordStores, PlacingWritten, UpdateWritten, RecoveryWritten, Written, StoresInside}
+use Rattle.rules.specs.Demands.{TokenStoresLow}
 use Rattle.rules.specs.declared.Header.{Header}
 use Rattle.rules.specs.declared.Slot.{Slot}
 use Rattle.rules.specs.declared.Record.{Record}
@@ -63,8 +65,13 @@ module _ (size : ℕ) where
 
     put-each : (h : Header) (w key : ℕ) (r : Record) → AllFit (recordStores h w x key r)
     unfolding keyWord tokenWord
-    put-each h w key r =
-        (slot-store _ key (omega arith), (slot-store _ (r .function) (omega arith), (slot-store _ (r .place) (omega arith), (token-store _ (show-bit h w (x .slot) key (within .1) .stored), tt))))
+    put-each h w key r = (
+      slot-store _ key (omega arith),
+      (
+        slot-store _ (r .function) (omega arith),
+        (slot-store _ (r .place) (omega arith), (token-store _ (show-bit h w (x .slot) key (within .1) .stored), tt)),
+      ),
+    )
 
     clear-each : (h : Header) (w : ℕ) → AllFit ((bucketStart (x .bucket), hide h w (x .slot)) ∷ [])
     unfolding tokenWord
@@ -90,7 +97,8 @@ module _ (t : Table) (good : GoodHeader (length t) (headerOf t)) where
   slot-among : (key : ℕ) (x : Slot) → In (placeOf x) (placesOf (headerOf t) key) → x .slot < 4 → (9 + 13 * x .bucket + 13 ≤ length t) × (x .slot < 4)
   slot-among key x i l = within x (among-used (headerOf t) key x l i)
 
-  placing-each : (key : ℕ) (r : Record) (xs : List Store) (p : Placing) → placing t (headerOf t) key ≡ p → PlacingWritten t (headerOf t) key r p xs → AllFit (length t) xs
+  placing-each : (key : ℕ) (r : Record) (xs : List Store) (p : Placing) → placing t (headerOf t) key ≡ p → PlacingWritten t (headerOf t) key r p xs
+      → AllFit (length t) xs
   placing-each key r xs (Free x) q e =
       let f = placing-free t (headerOf t) key x q in
       rw e (put-each (length t) x (slot-among key x (f .among) (f .slot)) (headerOf t) (tokenOf t (x .bucket)) key r)
@@ -101,17 +109,25 @@ module _ (t : Table) (good : GoodHeader (length t) (headerOf t)) where
       let old = slot-among key from (f .among) (f .slot) in
       let new = slot-among (keyIn t from) to (f .goal .among) (f .goal .slot) in
       let item = recordStores h (tokenOf t (to .bucket)) to (keyIn t from) (recordIn t from) in
-      rw e (each-append (Fits (length t)) item ((bucketStart (from .bucket), w) ∷ recordStores h w from key r) (put-each (length t) to new h (tokenOf t (to .bucket)) (keyIn t from) (recordIn t from))
+      rw e (each-append (Fits (length t)) item ((bucketStart (from .bucket), w) ∷ recordStores h w from key r)
+      (put-each (length t) to new h (tokenOf t (to .bucket)) (keyIn t from) (recordIn t from))
       (clear-each (length t) from old h (tokenOf t (from .bucket)) .0, put-each (length t) from old h w key r))
   placing-each key r xs Nowhere q e = absurd e
 
   -- a slot where an item stands, and the lowest free slot of its bucket
-  update-each : (x : Slot) → InUse (headerOf t .state) x → (key : ℕ) (r : Record) (xs : List Store) (o : Option Slot) → freeSlot t (headerOf t) (placeOf x) ≡ o → UpdateWritten t (headerOf t) x key r o xs → AllFit (length t) xs
+  update-each : (x : Slot) → InUse (headerOf t .state) x → (key : ℕ) (r : Record) (xs : List Store) (o : Option Slot)
+      → freeSlot t (headerOf t) (placeOf x) ≡ o → UpdateWritten t (headerOf t) x key r o xs → AllFit (length t) xs
   update-each x u key r xs (some y) q e =
       let free = slot-of-place (headerOf t .state) (placeOf x) y (place-of-slot (headerOf t .state) x u) (free-slot t (headerOf t) (placeOf x) y q .inside) in
       rw e (put-each (length t) y (within y free) (headerOf t) (hide (headerOf t) (tokenOf t (x .bucket)) (x .slot)) key r)
   update-each x u key r xs none q e =
-      rw e (to-header 6 _ (omega arith), (to-header 7 _ (omega arith), (to-header 8 _ (omega arith), (to-header 5 1 (omega arith), redo-each (length t) x (within x u) (r .function) (r .place) header))))
+      rw e (
+        to-header 6 _ (omega arith),
+        (
+          to-header 7 _ (omega arith),
+          (to-header 8 _ (omega arith), (to-header 5 1 (omega arith), redo-each (length t) x (within x u) (r .function) (r .place) header)),
+        ),
+      )
 
   recovery-each : (xs : List Store) (f : Finding) → finding t ≡ f → RecoveryWritten t (headerOf t) f xs → AllFit (length t) xs
   recovery-each xs Sound q e = rw e tt

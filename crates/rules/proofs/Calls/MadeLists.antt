@@ -38,7 +38,8 @@ module _ (t : Table) (l : List ℕ) (q : Call) (xs : List Store) (e : outcome t 
 
       inside : Outside t (written xs l) n → ⊥
       inside (inl short) = omega (arith, room)
-      inside (inr (i, less, out)) = omega (arith, out, storesInside t (length l) q xs e _ (take-in n xs _ (rw (written-pairs xs l n few) at (in-pairs n (written xs l) room i less))))
+      inside (inr (i, less, out)) =
+          omega (arith, out, storesInside t (length l) q xs e _ (take-in n xs _ (rw (written-pairs xs l n few) at (in-pairs n (written xs l) room i less))))
 
 pub makeTakesTheList : MakeTakesTheList
 unfolding changeResult

@@ -33,7 +33,8 @@ module _ (t : Table) (l : List ℕ) (n : ℕ) where
       let y = all-yes (makeTests t l n) e in
       let room = tells-le (2 * n) (length l) .0 (y 0) in
       let inside = tells-all within _ (λ x. tells-lt (x .0) (length t)) (pairs n l) .0 (y 1) in
-      ⊎-elim (λ (h : length l < 2 * n). omega arith) (λ (h : (i : ℕ) × (i < n) × (length t ≤ word l (2 * i))). omega (arith, inside _ (in-pairs n l room (h .0) (h .1)), h .2)) o
+      ⊎-elim (λ (h : length l < 2 * n). omega arith)
+      (λ (h : (i : ℕ) × (i < n) × (length t ≤ word l (2 * i))). omega (arith, inside _ (in-pairs n l room (h .0) (h .1)), h .2)) o
 
   outside : all (makeTests t l n) ≡ false → Outside t l n
   unfolding makeTests within
@@ -52,7 +53,8 @@ module _ (t : Table) (l : List ℕ) (n : ℕ) where
   unfolding makeResult
   make-passes inside = go (all (makeTests t l n)) refl
     where
-      go : (b : Bool) → all (makeTests t l n) ≡ b → _≡_ {A = Verdict × Table} (cond b (Done, made t (pairs n l)) (Denied BadMaking, t)) (Done, made t (pairs n l))
+      go : (b : Bool) → all (makeTests t l n) ≡ b
+          → _≡_ {A = Verdict × Table} (cond b (Done, made t (pairs n l)) (Denied BadMaking, t)) (Done, made t (pairs n l))
       go true e = refl
       go false e = absurd (inside (outside e))
 

@@ -11,7 +11,8 @@ use Rattle.rules.specs.Words.{Table}
 use Rattle.rules.specs.Stores.{Store, clearStores, redoStores}
 use Rattle.rules.specs.Calls.{placedBy, recoverOf}
 use Rattle.rules.specs.Results.{changeOf, queryAt}
-use Rattle.rules.specs.Answers.{numberOf, Meaning, changeMeans, queryMeans, verdictMeans, lookupMeans, placingMeans, findingMeans, LookupTells, PlacingTells, FindingTells, steppedMeans}
+use Rattle.rules.specs.Answers.{numberOf, Meaning, changeMeans, queryMeans, verdictMeans, lookupMeans, placingMeans, findingMeans, LookupTells}
+use Rattle.rules.specs.Answers.{PlacingTells, FindingTells, steppedMeans}
 use Rattle.rules.specs.declared.Header.{Header}
 use Rattle.rules.specs.declared.Slot.{Slot}
 use Rattle.rules.specs.declared.Lookup.{Lookup}
@@ -21,7 +22,8 @@ use Rattle.rules.specs.declared.Placing.the-variants.{Free, Move, Nowher
 use Rattle.rules.specs.declared.Finding.{Finding}
 use Rattle.rules.specs.declared.Finding.the-variants.{Sound, Doubled, Flagged, Neither}
 use Rattle.rules.specs.declared.Refusal.{Refusal}
-use Rattle.rules.specs.declared.Refusal.the-variants.{BadHeader, ShortList, FlagSet, KeyPresent, KeyAbsent, NoPlace, AlreadyGrowing, NotGrowing, AtCapacity, InterimTaken, InterimEmpty, NoKind, BadCreation, BadMaking}
+use Rattle.rules.specs.declared.Refusal.the-variants.{BadHeader, ShortList, FlagSet, KeyPresent, KeyAbsent, NoPlace, AlreadyGrowing, NotGrowing}
+use Rattle.rules.specs.declared.Refusal.the-variants.{AtCapacity, InterimTaken, InterimEmpty, NoKind, BadCreation, BadMaking}
 use Rattle.rules.specs.declared.Change.{Change}
 use Rattle.rules.specs.declared.Change.the-variants.{Listed, Refused}
 use Rattle.rules.specs.declared.Stepped.{Stepped}
@@ -39,7 +41,8 @@ told f back h a b e = sym (h a) ∙ ap back e ∙ h b
 -- all of them, in the order of the table
 abbrev pub refusals : List Refusal
 refusals =
-    BadHeader ∷ ShortList ∷ FlagSet ∷ KeyPresent ∷ KeyAbsent ∷ NoPlace ∷ AlreadyGrowing ∷ NotGrowing ∷ AtCapacity ∷ InterimTaken ∷ InterimEmpty ∷ NoKind ∷ BadCreation ∷ BadMaking ∷ []
+    BadHeader ∷ ShortList ∷ FlagSet ∷ KeyPresent ∷ KeyAbsent ∷ NoPlace ∷ AlreadyGrowing ∷ NotGrowing ∷ AtCapacity ∷ InterimTaken
+    ∷ InterimEmpty ∷ NoKind ∷ BadCreation ∷ BadMaking ∷ []
 
 pub numbers : map numberOf refusals ≡ 1 ∷ 2 ∷ 3 ∷ 4 ∷ 5 ∷ 6 ∷ 7 ∷ 8 ∷ 9 ∷ 10 ∷ 11 ∷ 12 ∷ 13 ∷ 14 ∷ []
 numbers = refl
@@ -156,7 +159,8 @@ placing-one a b e = told placingMeans (λ (m : Meaning). readPlacing (m .values)
 readFinding : Meaning → Finding
 readFinding m =
     let l = drop 1 (m .values) in
-    byNumber m (cond (eqb (value m 0) 0) Sound (cond (eqb (value m 0) 1) (Doubled (readSlot l) (readSlot (drop 3 l))) (Flagged (readSlot l)))) (λ (r : Refusal). Neither)
+    byNumber m (cond (eqb (value m 0) 0) Sound (cond (eqb (value m 0) 1) (Doubled (readSlot l) (readSlot (drop 3 l))) (Flagged (readSlot l))))
+    (λ (r : Refusal). Neither)
 
 finding-back : (a : Finding) → readFinding (findingMeans a) ≡ a
 unfolding readFinding byNumber value readSlot

@@ -55,13 +55,15 @@ queryAnswers t m sound map key = go (m key) refl
         (f .0, query-by-lookup t key (sound .orderly .header) (sound .orderly .flag) ∙ ap (queryAt t) (f .1))
 
 -- the tests refuse alike, and where they pass both go by the lookup
-query-as : (t : Table) (o : Lookup) (ts : List (Bool × Refusal)) → QueryAs (checked refused ts (queryIn o)) (queryMeans (checked (λ (r : Refusal). Unknown r 0) ts (queryAt t o)))
+query-as : (t : Table) (o : Lookup) (ts : List (Bool × Refusal))
+    → QueryAs (checked refused ts (queryIn o)) (queryMeans (checked (λ (r : Refusal). Unknown r 0) ts (queryAt t o)))
 query-as t (Stands x n) [] = refl
 query-as t (Absent n) [] = (n, refl, inl refl)
 query-as t o (x ∷ ts) = go (x .0) (query-as t o ts)
   where
     go : (b : Bool) → QueryAs (checked refused ts (queryIn o)) (queryMeans (checked (λ (r : Refusal). Unknown r 0) ts (queryAt t o)))
-        → QueryAs (cond b (checked refused ts (queryIn o)) (refused (x .1))) (queryMeans (cond b (checked (λ (r : Refusal). Unknown r 0) ts (queryAt t o)) (Unknown (x .1) 0)))
+        → QueryAs (cond b (checked refused ts (queryIn o)) (refused (x .1)))
+        (queryMeans (cond b (checked (λ (r : Refusal). Unknown r 0) ts (queryAt t o)) (Unknown (x .1) 0)))
     go true k = k
     go false k = (0, refl, inr refl)
 
@@ -87,7 +89,8 @@ checked-count : (q : Query) (m : ℕ) (ts : List (Bool × Refusal)) → countOf 
 checked-count q m [] h = h
 checked-count q m (x ∷ ts) h = go (x .0) (checked-count q m ts h)
   where
-    go : (b : Bool) → countOf (checked (λ (r : Refusal). Unknown r 0) ts q) ≤ m → countOf (cond b (checked (λ (r : Refusal). Unknown r 0) ts q) (Unknown (x .1) 0)) ≤ m
+    go : (b : Bool) → countOf (checked (λ (r : Refusal). Unknown r 0) ts q) ≤ m
+        → countOf (cond b (checked (λ (r : Refusal). Unknown r 0) ts q) (Unknown (x .1) 0)) ≤ m
     go true k = k
     go false k = omega arith
 

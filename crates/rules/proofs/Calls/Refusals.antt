@@ -15,9 +15,12 @@ use Rattle.rules.specs.Places.{lookup}
 use Rattle.rules.specs.Placing.{placing}
 use Rattle.rules.specs.Stores.{Store, placingStores, stepStores, beginStores, endStores}
 use Rattle.rules.specs.Soundness.{finding}
-use Rattle.rules.specs.Calls.{headerGood, listLong, flagClear, checked, changingTests, queryTests, recoverTests, Outcome, refused, listed, placedBy, insertIn, updateIn, deleteIn, queryIn, beginTests, beginOf, stepItem, stepIn, stepTests, stepOf, endTests, endOf, recoverOf, Call, query, insert, update, delete, begin, step, end, recover, outcome}
+use Rattle.rules.specs.Calls.{headerGood, listLong, flagClear, checked, changingTests, queryTests, recoverTests, Outcome, refused, listed}
+use Rattle.rules.specs.Calls.{placedBy, insertIn, updateIn, deleteIn, queryIn, beginTests, beginOf, stepItem, stepIn, stepTests, stepOf}
+use Rattle.rules.specs.Calls.{endTests, endOf, recoverOf, Call, query, insert, update, delete, begin, step, end, recover, outcome}
 use Rattle.rules.specs.NoPlace.{NoPlaceFor}
-use Rattle.rules.specs.Demands.{AtRest, Growing, Held, InterimItem, FirstInterim, NoInterim, OfNoKind, changingRefusals, refusals, FirstRefuses, RefusalsInOrder, HeaderWords, badHeader, flagNotZero}
+use Rattle.rules.specs.Demands.{AtRest, Growing, Held, InterimItem, FirstInterim, NoInterim, OfNoKind, changingRefusals, refusals, FirstRefuses}
+use Rattle.rules.specs.Demands.{RefusalsInOrder, HeaderWords, badHeader, flagNotZero}
 use Rattle.rules.specs.declared.Slot.{Slot}
 use Rattle.rules.specs.declared.Record.{Record}
 use Rattle.rules.specs.declared.Lookup.{Lookup}
@@ -27,7 +30,8 @@ use Rattle.rules.specs.declared.Placing.the-variants.{Free, Move, Nowher
 use Rattle.rules.specs.declared.Finding.{Finding}
 use Rattle.rules.specs.declared.Finding.the-variants.{Sound, Doubled, Flagged, Neither}
 use Rattle.rules.specs.declared.Refusal.{Refusal}
-use Rattle.rules.specs.declared.Refusal.the-variants.{BadHeader, ShortList, FlagSet, KeyPresent, KeyAbsent, NoPlace, AlreadyGrowing, NotGrowing, AtCapacity, InterimTaken, InterimEmpty, NoKind}
+use Rattle.rules.specs.declared.Refusal.the-variants.{BadHeader, ShortList, FlagSet, KeyPresent, KeyAbsent, NoPlace, AlreadyGrowing, NotGrowing}
+use Rattle.rules.specs.declared.Refusal.the-variants.{AtCapacity, InterimTaken, InterimEmpty, NoKind}
 use Rattle.rules.proofs.Basics.Lists.{never}
 use Rattle.rules.proofs.Basics.Tests.{Tells, tells-eq}
 use Rattle.rules.proofs.Places.Placings.{some-place, no-place}
@@ -76,7 +80,8 @@ module _ (t : Table) where
   unfolding headerGood
   good-header-or fs o = unless (headerGood t) BadHeader fs o (HeaderWords t) (Iff·trans (header-tells (length t) (headerOf t)) (header-words t))
 
-  long-list-or : (n : ℕ) (fs : List (Type 0 × Refusal)) (o : Outcome) → ByFirst fs o → ByFirst ((n < 20, ShortList) ∷ fs) (cond (listLong n) o (refused ShortList))
+  long-list-or : (n : ℕ) (fs : List (Type 0 × Refusal)) (o : Outcome) → ByFirst fs o
+      → ByFirst ((n < 20, ShortList) ∷ fs) (cond (listLong n) o (refused ShortList))
   unfolding listLong
   long-list-or n fs o = by-test (listLong n) ShortList fs o (n < 20) (λ e l. omega (arith, leb-true 20 n e)) (λ e. leb-false 20 n e)
 
@@ -84,7 +89,8 @@ module _ (t : Table) where
   unfolding flagClear flagOf
   clear-flag-or fs o = unless (flagClear t) FlagSet fs o (word t 5 ≡ 0) (tells-eq _ _)
 
-  changing-or : (n : ℕ) (fs : List (Type 0 × Refusal)) (o : Outcome) → ByFirst fs o → ByFirst (changingRefusals t n ++ fs) (checked refused (changingTests t n) o)
+  changing-or : (n : ℕ) (fs : List (Type 0 × Refusal)) (o : Outcome) → ByFirst fs o
+      → ByFirst (changingRefusals t n ++ fs) (checked refused (changingTests t n) o)
   unfolding changingTests
   changing-or n fs o k = good-header-or _ _ (long-list-or n _ _ (clear-flag-or fs o k))
 
@@ -100,7 +106,8 @@ module _ (t : Table) where
   not-held key n e (p, x, i, j, y) = never y (lookup-absent t (headerOf t) key n e .1 p i x j)
 
   -- query, update and delete: "key absent"
-  absent-refuses : (key : ℕ) (f : Lookup → Outcome) → ((x : Slot) (n : ℕ) → (stores : List Store) × (f (Stands x n) ≡ listed stores)) → ((n : ℕ) → f (Absent n) ≡ refused KeyAbsent)
+  absent-refuses : (key : ℕ) (f : Lookup → Outcome) → ((x : Slot) (n : ℕ) → (stores : List Store) × (f (Stands x n) ≡ listed stores))
+      → ((n : ℕ) → f (Absent n) ≡ refused KeyAbsent)
       → ByFirst (((Held t key → ⊥), KeyAbsent) ∷ []) (f (lookup t (headerOf t) key))
   unfolding ByFirst
   absent-refuses key f a b = go (lookup t (headerOf t) key) refl
@@ -120,11 +127,13 @@ module _ (t : Table) where
       go (Move from to) e = inr (some-place t (headerOf t) key (Move from to) tt e, (_, refl))
       go Nowhere e = inl (no-place t (headerOf t) key .0 e, refl)
 
-  insert-refuses : (key : ℕ) (r : Record) → ByFirst ((Held t key, KeyPresent) ∷ (NoPlaceFor t (headerOf t) key, NoPlace) ∷ []) (insertIn t (headerOf t) (lookup t (headerOf t) key) key r)
+  insert-refuses : (key : ℕ) (r : Record)
+      → ByFirst ((Held t key, KeyPresent) ∷ (NoPlaceFor t (headerOf t) key, NoPlace) ∷ []) (insertIn t (headerOf t) (lookup t (headerOf t) key) key r)
   unfolding ByFirst
   insert-refuses key r = go (lookup t (headerOf t) key) refl
     where
-      go : (o : Lookup) → lookup t (headerOf t) key ≡ o → ByFirst ((Held t key, KeyPresent) ∷ (NoPlaceFor t (headerOf t) key, NoPlace) ∷ []) (insertIn t (headerOf t) o key r)
+      go : (o : Lookup) → lookup t (headerOf t) key ≡ o
+          → ByFirst ((Held t key, KeyPresent) ∷ (NoPlaceFor t (headerOf t) key, NoPlace) ∷ []) (insertIn t (headerOf t) o key r)
       go (Stands x n) e = inl (held key x n e, refl)
       go (Absent n) e = inr (not-held key n e, placed-refuses key (λ p. placingStores t (headerOf t) p key r))
 
@@ -141,24 +150,34 @@ module _ (t : Table) where
   unfolding stepTests
   growing-or fs o = when (atRest (headerOf t .state)) NotGrowing fs o (AtRest t) rest-tells
 
-  item-refuses : ByFirst ((NoInterim t, InterimEmpty) ∷ (((x : Slot) × FirstInterim t x × NoPlaceFor t (headerOf t) (keyIn t x)), NoPlace) ∷ []) (stepIn t (headerOf t) (stepItem t (headerOf t)))
+  item-refuses : ByFirst ((NoInterim t, InterimEmpty) ∷ (((x : Slot) × FirstInterim t x × NoPlaceFor t (headerOf t) (keyIn t x)), NoPlace) ∷ [])
+      (stepIn t (headerOf t) (stepItem t (headerOf t)))
   unfolding ByFirst
   item-refuses = go (stepItem t (headerOf t)) refl
     where
       go : (o : Option Slot) → stepItem t (headerOf t) ≡ o
-          → ByFirst ((NoInterim t, InterimEmpty) ∷ (((x : Slot) × FirstInterim t x × NoPlaceFor t (headerOf t) (keyIn t x)), NoPlace) ∷ []) (stepIn t (headerOf t) o)
+          → ByFirst ((NoInterim t, InterimEmpty) ∷ (((x : Slot) × FirstInterim t x × NoPlaceFor t (headerOf t) (keyIn t x)), NoPlace) ∷ [])
+          (stepIn t (headerOf t) o)
       go none e = inl (no-step-item t e, refl)
       go (some x) e =
           let first = step-item t x e in
-          inr (λ n. n x (first .item), ⊎-elim (λ r. inl ((x, first, r .0), r .1)) (λ r. inr (λ y. r .0 (rw (first-interim-one t x (y .0) first (y .1)) (y .2)), r .1)) (placed-refuses (keyIn t x) (stepStores t (headerOf t) x)))
+          inr (
+            λ n. n x (first .item),
+            ⊎-elim (λ r. inl ((x, first, r .0), r .1)) (λ r. inr (λ y. r .0 (rw (first-interim-one t x (y .0) first (y .1)) (y .2)), r .1))
+                (placed-refuses (keyIn t x) (stepStores t (headerOf t) x)),
+          )
 
-  step-refuses : ByFirst ((AtRest t, NotGrowing) ∷ (NoInterim t, InterimEmpty) ∷ (((x : Slot) × FirstInterim t x × NoPlaceFor t (headerOf t) (keyIn t x)), NoPlace) ∷ []) (stepOf t (headerOf t))
+  step-refuses : ByFirst ((AtRest t, NotGrowing) ∷ (
+    NoInterim t,
+    InterimEmpty,
+  ) ∷ (((x : Slot) × FirstInterim t x × NoPlaceFor t (headerOf t) (keyIn t x)), NoPlace) ∷ []) (stepOf t (headerOf t))
   unfolding stepOf
   step-refuses = growing-or _ _ item-refuses
 
   end-refuses : ByFirst ((AtRest t, NotGrowing) ∷ (((x : Slot) × InterimItem t x), InterimTaken) ∷ []) (endOf t (headerOf t))
   unfolding endOf endTests
-  end-refuses = when _ NotGrowing _ _ (AtRest t) rest-tells (by-test _ InterimTaken _ _ _ (λ e u. interim-empty t .0 e (u .0) (u .1)) (interim-left t) (accepted (endStores (headerOf t .state))))
+  end-refuses = when _ NotGrowing _ _ (AtRest t) rest-tells
+      (by-test _ InterimTaken _ _ _ (λ e u. interim-empty t .0 e (u .0) (u .1)) (interim-left t) (accepted (endStores (headerOf t .state))))
 
   recover-refuses : ByFirst ((OfNoKind t, NoKind) ∷ []) (recoverOf t (headerOf t) (finding t))
   unfolding ByFirst

@@ -8,9 +8,12 @@ use native.Mathlib.Omega.{arith}
 use Rattle.rules.specs.Words.{Table, headerOf, loggedOf, stateWord, placeOf, tokenWord, keyWord, functionWord, placeWord, keyIn, recordIn, tokenOf}
 use Rattle.rules.specs.Places.{lookup}
 use Rattle.rules.specs.Placing.{freeSlot, placing}
-use Rattle.rules.specs.Stores.{Store, putStores, clearStores, moveStores, placingStores, redoStores, updateWith, updateStores, beginStores, endStores, stepStores}
+use Rattle.rules.specs.Stores.{Store, putStores, clearStores, moveStores, placingStores, redoStores, updateWith, updateStores, beginStores}
+use Rattle.rules.specs.Stores.{endStores, stepStores}
 use Rattle.rules.specs.Soundness.{finding}
-use Rattle.rules.specs.Calls.{refused, listed, placedBy, insertIn, updateIn, deleteIn, queryIn, beginTests, beginOf, stepItem, stepIn, stepTests, stepOf, endTests, endOf, recoverOf, query, insert, update, delete, begin, step, end, recover, testsOf, outcome}
+use Rattle.rules.specs.Calls.{refused, listed, placedBy, insertIn, updateIn, deleteIn, queryIn, beginTests, beginOf, stepItem, stepIn}
+use Rattle.rules.specs.Calls.{stepTests, stepOf, endTests, endOf, recoverOf, query, insert, update, delete, begin, step, end, recover, testsOf}
+use Rattle.rules.specs.Calls.{outcome}
 use Rattle.rules.specs.Demands.{FirstHolder, FirstInterim, PlacingWritten, UpdateWritten, RecoveryWritten, Written, StoresAsWritten}
 use Rattle.rules.specs.declared.Header.{Header}
 use Rattle.rules.specs.declared.Slot.{Slot}
@@ -48,12 +51,14 @@ module _ (t : Table) (h : Header) (xs : List Store) where
   update-with x key r (some y) e = e
   update-with x key r none e = e
 
-  update-written : (key : ℕ) (r : Record) (o : Lookup) → ((x : Slot) (n : ℕ) → o ≡ Stands x n → FirstHolder t key x) → updateIn t h o key r ≡ listed xs → Written t h (update key r) xs
+  update-written : (key : ℕ) (r : Record) (o : Lookup) → ((x : Slot) (n : ℕ) → o ≡ Stands x n → FirstHolder t key x)
+      → updateIn t h o key r ≡ listed xs → Written t h (update key r) xs
   unfolding updateStores
   update-written key r (Stands x n) q e = (x, q x n refl, update-with x key r (freeSlot t h (placeOf x)) (listed-one e))
   update-written key r (Absent n) q e = never-listed e
 
-  delete-written : (key : ℕ) (o : Lookup) → ((x : Slot) (n : ℕ) → o ≡ Stands x n → FirstHolder t key x) → deleteIn t h o ≡ listed xs → Written t h (delete key) xs
+  delete-written : (key : ℕ) (o : Lookup) → ((x : Slot) (n : ℕ) → o ≡ Stands x n → FirstHolder t key x) → deleteIn t h o ≡ listed xs
+      → Written t h (delete key) xs
   unfolding clearStores tokenWord
   delete-written key (Stands x n) q e = (x, q x n refl, listed-one e)
   delete-written key (Absent n) q e = never-listed e
@@ -85,10 +90,16 @@ module _ (t : Table) (h : Header) (xs : List Store) where
 pub storesAsWritten : StoresAsWritten
 unfolding outcome beginOf stepOf endOf beginStores endStores stateWord
 storesAsWritten t n (query key) xs e = query-written t (headerOf t) xs (lookup t (headerOf t) key) (checked-listed _ xs (testsOf t n (query key)) e)
-storesAsWritten t n (insert key r) xs e = insert-written t (headerOf t) xs key r (lookup t (headerOf t) key) (checked-listed _ xs (testsOf t n (insert key r)) e)
-storesAsWritten t n (update key r) xs e = update-written t (headerOf t) xs key r (lookup t (headerOf t) key) (λ x m q. lookup-stands t key x m q .0) (checked-listed _ xs (testsOf t n (update key r)) e)
-storesAsWritten t n (delete key) xs e = delete-written t (headerOf t) xs key (lookup t (headerOf t) key) (λ x m q. lookup-stands t key x m q .0) (checked-listed _ xs (testsOf t n (delete key)) e)
+storesAsWritten t n (insert key r) xs e =
+    insert-written t (headerOf t) xs key r (lookup t (headerOf t) key) (checked-listed _ xs (testsOf t n (insert key r)) e)
+storesAsWritten t n (update key r) xs e =
+    update-written t (headerOf t) xs key r (lookup t (headerOf t) key) (λ x m q. lookup-stands t key x m q .0)
+    (checked-listed _ xs (testsOf t n (update key r)) e)
+storesAsWritten t n (delete key) xs e =
+    delete-written t (headerOf t) xs key (lookup t (headerOf t) key) (λ x m q. lookup-stands t key x m q .0) (checked-listed _ xs (testsOf t n (delete key)) e)
 storesAsWritten t n begin xs e = listed-one (checked-listed _ xs (beginTests (headerOf t)) (checked-listed _ xs (testsOf t n begin) e))
-storesAsWritten t n step xs e = step-written t (headerOf t) xs (stepItem t (headerOf t)) (step-item t) (checked-listed _ xs (stepTests (headerOf t)) (checked-listed _ xs (testsOf t n step) e))
+storesAsWritten t n step xs e =
+    step-written t (headerOf t) xs (stepItem t (headerOf t)) (step-item t)
+    (checked-listed _ xs (stepTests (headerOf t)) (checked-listed _ xs (testsOf t n step) e))
 storesAsWritten t n end xs e = listed-one (checked-listed _ xs (endTests t (headerOf t)) (checked-listed _ xs (testsOf t n end) e))
 storesAsWritten t n recover xs e = recover-written t (headerOf t) xs (finding t) (checked-listed _ xs (testsOf t n recover) e)

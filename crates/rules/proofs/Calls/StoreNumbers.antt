@@ -13,7 +13,8 @@ use Rattle.rules.specs.Words.{Table, headerOf, placeOf, keyIn, recordIn}
 use Rattle.rules.specs.Placing.{freeSlot, placing}
 use Rattle.rules.specs.Soundness.{finding}
 use Rattle.rules.specs.Stores.{Store}
-use Rattle.rules.specs.Calls.{listLong, changingTests, recoverTests, listed, Call, query, insert, update, delete, begin, step, end, recover, testsOf, outcome}
+use Rattle.rules.specs.Calls.{listLong, changingTests, recoverTests, listed, Call, query, insert, update, delete, begin, step, end, recover}
+use Rattle.rules.specs.Calls.{testsOf, outcome}
 use Rattle.rules.specs.Demands.{PlacingWritten, UpdateWritten, RecoveryWritten, Written, Number, StoreNumbers}
 use Rattle.rules.specs.declared.Header.{Header}
 use Rattle.rules.specs.declared.Slot.{Slot}
@@ -88,6 +89,7 @@ module _ (t : Table) (n : ℕ) where
   unfolding outcome listLong
   stores-fit q xs e = go (storeNumbers t n q xs e) (list-tested q)
     where
-      go : Number q (length xs) × (length xs ≤ 10) → ((k : ℕ) → Number q k → k ≡ 0) ⊎ In {A = Bool × Refusal} (listLong n, ShortList) (testsOf t n q) → 2 * length xs ≤ n
+      go : Number q (length xs) × (length xs ≤ 10) → ((k : ℕ) → Number q k → k ≡ 0) ⊎ In {A = Bool × Refusal} (listLong n, ShortList) (testsOf t n q)
+          → 2 * length xs ≤ n
       go s (inl z) = omega (arith, z (length xs) (s .0))
       go s (inr i) = omega (arith, leb-true 20 n (checked-passed _ xs (testsOf t n q) e (listLong n, ShortList) i), s .1)

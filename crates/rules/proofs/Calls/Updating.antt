@@ -21,7 +21,8 @@ use Rattle.rules.proofs.Carrying.Putting.{clear-sound, beside-sound, lo
 module _ (t : Table) (m : PlainMap) (n : ℕ) (given : Given t m n) (key : ℕ) where
   -- the slot with the key
   module _ (x : Slot) (item : TakenSlot t x) (same : keyIn t x ≡ key) where
-    update-given : (r : Record) (o : Option Slot) → freeSlot t (headerOf t) (placeOf x) ≡ o → Gives t (listed (updateWith t (headerOf t) x o key r)) (mapWith m key (some r)) (headerOf t .state)
+    update-given : (r : Record) (o : Option Slot) → freeSlot t (headerOf t) (placeOf x) ≡ o
+        → Gives t (listed (updateWith t (headerOf t) x o key r)) (mapWith m key (some r)) (headerOf t .state)
     update-given r (some y) e =
         let f = free-slot t (headerOf t) (placeOf x) y e in
         gives t _ _ (rw same at (beside-sound t m (whole-of t m n given) x item r y (f .place) (slot-number (placeOf x) y (f .inside)) (f .free)))
@@ -34,7 +35,8 @@ module _ (t : Table) (m : PlainMap) (n : ℕ) (given : Given t m n) (key : ℕ) 
   delete-answers (some v) e = let f = lookup-known t m (given .sound) (given .map) key v e in rw (f .answer) (delete-given (f .slot) (f .item) (f .holding))
   delete-answers none e = rw (lookup-unknown t m (given .sound) (given .map) key e .1)
 
-  update-answers : (r : Record) (o : Option Record) → m key ≡ o → ChangeBy t (mapWith m key (some r)) o (updateIn t (headerOf t) (lookup t (headerOf t) key) key r)
+  update-answers : (r : Record) (o : Option Record) → m key ≡ o
+      → ChangeBy t (mapWith m key (some r)) o (updateIn t (headerOf t) (lookup t (headerOf t) key) key r)
   unfolding updateStores
   update-answers r (some v) e =
       let f = lookup-known t m (given .sound) (given .map) key v e in

@@ -45,13 +45,15 @@ module _ (x : Slot) (low : x .slot < 4) where
   not-token j s (inr o) e = off-token x j (s .0) low o (sym e)
 
 module _ (t : Table) (m : PlainMap) (whole : SoundMap t m) (x : Slot) (here : InUse (headerOf t .state) x) where
-  pub blank-sound : (xs : List Store) → Each (Hidden x) xs → (taken t (headerOf t) x ≡ true → (keyIn (made t xs) x ≡ keyIn t x) × (recordIn (made t xs) x ≡ recordIn t x)) → SoundMap (made t xs) m
+  pub blank-sound : (xs : List Store) → Each (Hidden x) xs
+      → (taken t (headerOf t) x ≡ true → (keyIn (made t xs) x ≡ keyIn t x) × (recordIn (made t xs) x ≡ recordIn t x)) → SoundMap (made t xs) m
   unfolding tokenOf flagOf
   blank-sound xs hidden same =
       let o = whole .sound .orderly in
       let u = made t xs in
       let near = touched x (here .slot) t xs (hidden-near x (here .slot) xs hidden) in
-      let token : tokenOf u (x .bucket) ≡ tokenOf t (x .bucket) = made-kept t xs (tokenWord (x .bucket)) (hidden-misses x (here .slot) _ (not-token x (here .slot) (x .bucket)) xs hidden) in
+      let token : tokenOf u (x .bucket) ≡ tokenOf t (x .bucket) =
+      made-kept t xs (tokenWord (x .bucket)) (hidden-misses x (here .slot) _ (not-token x (here .slot) (x .bucket)) xs hidden) in
       let flag : flagOf u ≡ 0 = made-kept t xs 5 (hidden-misses x (here .slot) 5 (not-flag x (here .slot)) xs hidden) ∙ o .flag in
       let good = o .header .state in
       let carried = unseen (headerOf t .c) t u x near good here token same in

@@ -94,7 +94,9 @@ module _ (t u : Table) (Gone New : Slot → Type 0) (carried : Carried t u Gone 
           ap n (k .key) ∙ kept (h .0) (k .before) (h .1) ∙ has .stands (h .0) (k .before) ∙ ap some (sym (k .value)))
           (carried .back z a)
 
-      stood : (key : ℕ) (r : Record) → ((z : Slot) × TakenSlot u z × (keyIn u z ≡ key) × (recordIn u z ≡ r)) ⊎ ((m key ≡ some r) × ((y : Slot) → TakenSlot t y → keyIn t y ≡ key → Gone y → ⊥))
+      stood : (key : ℕ) (r : Record)
+          → ((z : Slot) × TakenSlot u z × (keyIn u z ≡ key) × (recordIn u z ≡ r))
+          ⊎ ((m key ≡ some r) × ((y : Slot) → TakenSlot t y → keyIn t y ≡ key → Gone y → ⊥))
           → (z : Slot) × TakenSlot u z × (keyIn u z ≡ key) × (recordIn u z ≡ r)
       stood key r (inl z) = z
       stood key r (inr (e, left)) =

@@ -43,7 +43,8 @@ module _ (t : Table) (m : PlainMap) (whole : SoundMap t m) (from to : Slot) (ite
   unfolding moveStores copied cleared
   moved-two =
       let near = put-writes t m whole to here free (keyIn t from) (recordIn t from) among .near in
-      made-append t (putStores (headerOf t) (tokenOf t (to .bucket)) to (keyIn t from) (recordIn t from)) (clearStores (headerOf t) (tokenOf t (from .bucket)) from)
+      made-append t (putStores (headerOf t) (tokenOf t (to .bucket)) to (keyIn t from) (recordIn t from))
+      (clearStores (headerOf t) (tokenOf t (from .bucket)) from)
       ∙ rw (near .header, near .tokens (from .bucket) apart)
 
   good-copied : GoodState (headerOf t .c) (headerOf copied .state)

@@ -94,7 +94,8 @@ module _ (t u : Table) (c : ℕ) (good : GoodState c (headerOf u .state)) (m : P
   -- slot x is gone, and slot y has its key and record: the map stays; where they were the only two with one key, none is left
   module _ (x y : Slot) (carried : Carried t u (Only x) Nothing) (other : TakenSlot t y) (apart : y ≡ x → ⊥) (same : keyIn t y ≡ keyIn t x) where
     pub dropped-map : TakenSlot t x → HasMap u m
-    dropped-map there = carried-map t u (Only x) Nothing carried m m has (λ z a n. absurd n) (λ z a g. refl) (λ key r e. let z = has .only key r e in inl (still key r (z .0) (z .1) (z .2) (z .3) (carried .out (z .0) (z .1))))
+    dropped-map there = carried-map t u (Only x) Nothing carried m m has (λ z a n. absurd n) (λ z a g. refl) (λ key r e. let z =
+        has .only key r e in inl (still key r (z .0) (z .1) (z .2) (z .3) (carried .out (z .0) (z .1))))
       where
         Stands : ℕ → Record → Type 0
         Stands key r = (z : Slot) × TakenSlot u z × (keyIn u z ≡ key) × (recordIn u z ≡ r)

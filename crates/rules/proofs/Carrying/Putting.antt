@@ -23,8 +23,10 @@ use Rattle.rules.proofs.Words.SlotsInUse.{slots-of-place}
 use Rattle.rules.proofs.Places.PlacesInUse.{slot-within, place-of-slot, slot-of-place}
 use Rattle.rules.proofs.Places.Lookups.{placed-in}
 use Rattle.rules.proofs.Carrying.Carried.{Carry, Carried, Alone, carry-same, carried-stays}
-use Rattle.rules.proofs.Carrying.Moving.{Nothing, Only, map-misses, set-alone, set-map, cleared-alone, cleared-map, copied-map, dropped-map, dropped-alone}
-use Rattle.rules.proofs.Carrying.SlotChanged.{good-after, shown-after, put-carried, clear-carried, rewrite-carried, beside-carried, written-orderly, placed-here}
+use Rattle.rules.proofs.Carrying.Moving.{Nothing, Only, map-misses, set-alone, set-map, cleared-alone, cleared-map, copied-map, dropped-map}
+use Rattle.rules.proofs.Carrying.Moving.{dropped-alone}
+use Rattle.rules.proofs.Carrying.SlotChanged.{good-after, shown-after, put-carried, clear-carried, rewrite-carried, beside-carried}
+use Rattle.rules.proofs.Carrying.SlotChanged.{written-orderly, placed-here}
 use Rattle.rules.proofs.Carrying.StoreKinds.{SlotWritten, put-written, clear-written, log-written}
 
 -- a sound table with its map
@@ -54,7 +56,8 @@ module _ (t : Table) (m : PlainMap) (whole : SoundMap t m) where
   orderly = whole .sound .orderly
 
   -- a slot that is put, and what it leaves
-  module _ (x : Slot) (here : InUse (headerOf t .state) x) (free : taken t (headerOf t) x ≡ false) (key : ℕ) (r : Record) (among : In (placeOf x) (placesOf (headerOf t) key)) where
+  module _ (x : Slot) (here : InUse (headerOf t .state) x) (free : taken t (headerOf t) x ≡ false) (key : ℕ) (r : Record)
+      (among : In (placeOf x) (placesOf (headerOf t) key)) where
     abbrev put : Table
     put = made t (putStores (headerOf t) (tokenOf t (x .bucket)) x key r)
 
@@ -80,12 +83,20 @@ module _ (t : Table) (m : PlainMap) (whole : SoundMap t m) where
 
     pub put-sound : m key ≡ none → Becomes t put (mapWith m key (some r))
     put-sound absent =
-        let left : (y : Slot) → TakenSlot t y → (Nothing y → ⊥) → keyIn t y ≡ keyIn put x → ⊥ = λ y a g e. map-misses t m (whole .map) key absent y a (e ∙ put-writes .key) in
+        let left : (y : Slot) → TakenSlot t y → (Nothing y → ⊥) → keyIn t y ≡ keyIn put x → ⊥ =
+        λ y a g e. map-misses t m (whole .map) key absent y a (e ∙ put-writes .key) in
         let good = good-after 0 t put x _ key r orderly here put-writes in
         record {
           whole = record {
-            sound = record { orderly = put-orderly; alone = set-alone t put (headerOf t .c) good m (whole .map) Nothing x put-carries put-shown (λ y a g. absurd g) left (whole .sound .alone) };
-            map = rw (put-writes .key, put-writes .value) at (set-map t put (headerOf t .c) good m (whole .map) Nothing x put-carries put-shown (λ y a g. absurd g) left);
+            sound = record {
+              orderly = put-orderly;
+              alone =
+                  set-alone t put (headerOf t .c) good m (whole .map) Nothing x put-carries put-shown (λ y a g. absurd g) left (whole .sound .alone);
+            };
+            map = rw (
+              put-writes .key,
+              put-writes .value,
+            ) at (set-map t put (headerOf t .c) good m (whole .map) Nothing x put-carries put-shown (λ y a g. absurd g) left);
           };
           header = put-writes .near .header;
         }
@@ -121,7 +132,8 @@ module _ (t : Table) (m : PlainMap) (whole : SoundMap t m) where
           let still = carried-stays t put Nothing (Only x) put-carries (headerOf t .c) good-put (put-writes .near .header) y there (λ g. g) in
           record {
             orderly = put-orderly;
-            map = copied-map t put (headerOf t .c) good-put m (whole .map) x put-carries (rw (put-writes .key, put-writes .value) (rw (same-key, same-record) at (whole .map .stands y there)));
+            map = copied-map t put (headerOf t .c) good-put m (whole .map) x put-carries
+                (rw (put-writes .key, put-writes .value) (rw (same-key, same-record) at (whole .map .stands y there)));
             first = still .0;
             second = put-shown;
             apart = λ e. never (there .shown) (rw e at free);
@@ -167,7 +179,11 @@ module _ (t : Table) (o : OrderlyTable 0 t) (x : Slot) (there : TakenSlot t x) w
     pub clear-twin : (y : Slot) → TwinMap t m x y → Becomes t cleared m
     clear-twin y w = record {
       whole = record {
-        sound = record { orderly = clear-orderly; alone = dropped-alone t cleared (headerOf t .c) good-cleared m has x y clear-carries (w .second) (w .apart) (w .same) (w .only) };
+        sound = record {
+          orderly = clear-orderly;
+          alone =
+              dropped-alone t cleared (headerOf t .c) good-cleared m has x y clear-carries (w .second) (w .apart) (w .same) (w .only);
+        };
         map = dropped-map t cleared (headerOf t .c) good-cleared m has x y clear-carries (w .second) (w .apart) (w .same) there;
       };
       header = clear-writes .near .header;
@@ -211,7 +227,8 @@ module _ (t : Table) (m : PlainMap) (whole : SoundMap t m) (x : Slot) (there : T
       record {
         whole = record {
           sound = record {
-            orderly = written-orderly 0 t u z v (keyIn t x) r o here writes follows (Only x) (Only z) carried (placed-here 0 t u z v (keyIn t x) r o here writes among);
+            orderly = written-orderly 0 t u z v (keyIn t x) r o here writes follows (Only x) (Only z) carried
+                (placed-here 0 t u z v (keyIn t x) r o here writes among);
             alone = set-alone t u (headerOf t .c) good m (whole .map) (Only x) z carried now gone left (whole .sound .alone);
           };
           map = rw (writes .key, writes .value) at (set-map t u (headerOf t .c) good m (whole .map) (Only x) z carried now gone left);
@@ -248,5 +265,6 @@ module _ (t : Table) (m : PlainMap) (whole : SoundMap t m) (x : Slot) (there : T
       let writes = put-written t z low (slot-within (length t) h (o .header) z here .0) h w (keyIn t x) r in
       let set = show-bit h w (z .slot) (keyIn t x) low in
       let clear : Bit h (tokenOf t (z .bucket)) w (x .slot) false = rw bucket (hide-bit h (tokenOf t (x .bucket)) (x .slot) (there .used .slot)) in
-      replaced _ z _ here writes (rw bucket (beside-follows h _ _ _ (z .slot) (keyIn t x) low (x .slot) (there .used .slot))) (set .here) (rw place among-places)
+      replaced _ z _ here writes (rw bucket (beside-follows h _ _ _ (z .slot) (keyIn t x) low (x .slot) (there .used .slot))) (set .here)
+      (rw place among-places)
       (beside-carried 0 t _ z _ _ _ o here writes x (there .used) (sym bucket) w clear set free (λ e. beside-itself z bucket e free))

@@ -9,7 +9,8 @@ use mathlib.Core.Logic.{_⊎_, inl, inr, ⊎-elim}
 use native.Mathlib.Omega.{arith}
 use native.Mathlib.Decide.{decLe}
 use lib.ListN.{length}
-use Rattle.rules.specs.Words.{Table, word, GoodState, stateOf, stateWord, headerOf, flagOf, sizeOf, levelsInUse, InLevel, InUse, placeAt, tokenWord, keyWord, functionWord, placeWord, keyIn, recordIn, tokenOf, keysOf, isTaken, taken, meantOf}
+use Rattle.rules.specs.Words.{Table, word, GoodState, stateOf, stateWord, headerOf, flagOf, sizeOf, levelsInUse, InLevel, InUse, placeAt}
+use Rattle.rules.specs.Words.{tokenWord, keyWord, functionWord, placeWord, keyIn, recordIn, tokenOf, keysOf, isTaken, taken, meantOf}
 use Rattle.rules.specs.Places.{hashesOf, firstPlace, secondPlace, placesIn, probes, placesOf}
 use Rattle.rules.specs.Stores.{made}
 use Rattle.rules.specs.Soundness.{TakenSlot, OrderlyTable}
@@ -49,7 +50,14 @@ pub state-stored : (t : Table) (s : State) → 9 ≤ length t → s .k < 256 →
 unfolding headerOf withState flagOf tokenOf tokenWord keyWord functionWord placeWord keyIn recordIn
 state-stored t s long low = record {
   long = made-long t xs;
-  header = rw (kept 0 (λ e. omega arith), kept 1 (λ e. omega arith), kept 2 (λ e. omega arith), kept 3 (λ e. omega arith), made-left t xs 4 (stateWord s) (omega arith) (inl (refl, refl, tt)), state-read s low);
+  header = rw (
+    kept 0 (λ e. omega arith),
+    kept 1 (λ e. omega arith),
+    kept 2 (λ e. omega arith),
+    kept 3 (λ e. omega arith),
+    made-left t xs 4 (stateWord s) (omega arith) (inl (refl, refl, tt)),
+    state-read s low,
+  );
   flag = kept 5 (λ e. omega arith);
   tokens = λ j. kept (tokenWord j) (λ e. omega arith);
   keys = λ y z b n. rw (b, n) (kept (keyWord y) (λ e. omega arith));
@@ -84,7 +92,8 @@ in-level? j (m ∷ ls) = go (within? m j) (in-level? j ls)
     go (no a) (inr f) = inr (λ l i r. ⊎-elim (λ (e : l ≡ m). a (rw e at r)) (λ (k : In l ls). f l k r) (List·Memᴰ·cases-cons i))
 
 -- a level of the same exponent has places in the same buckets
-place-again : (x : Hashes) (l m : Level) → m .exponent ≡ l .exponent → (p : Place) → In p (placesIn x l) → (q : Place) × In q (placesIn x m) × (q .bucket ≡ p .bucket)
+place-again : (x : Hashes) (l m : Level) → m .exponent ≡ l .exponent → (p : Place) → In p (placesIn x l)
+    → (q : Place) × In q (placesIn x m) × (q .bucket ≡ p .bucket)
 unfolding firstPlace secondPlace placeAt
 place-again x l m e p i = go (place-among x l p .0 i)
   where
@@ -127,7 +136,8 @@ module _ (f : ℕ) (t u : Table) (s : State) (o : OrderlyTable f t) (re : Restat
   renamed : Level → Slot → Slot
   renamed m y = record { level = m .name; bucket = y .bucket; slot = y .slot }
 
-  renamed-used : (r : State) (l m : Level) (y : Slot) → In m (levelsInUse r) → m .exponent ≡ l .exponent → InLevel l (y .bucket) → y .slot < 4 → InUse r (renamed m y)
+  renamed-used : (r : State) (l m : Level) (y : Slot) → In m (levelsInUse r) → m .exponent ≡ l .exponent → InLevel l (y .bucket) → y .slot < 4
+      → InUse r (renamed m y)
   unfolding renamed
   renamed-used r l m y i e range low = record { level = m; used = i; name = refl; bucket = rw e range; slot = low }
 
@@ -137,13 +147,19 @@ module _ (f : ℕ) (t u : Table) (s : State) (o : OrderlyTable f t) (re : Restat
     restated-carried = record { out = λ y a. out y a (lasts (a .used .level) (a .used .used)); back = λ z a. back z a (rw after at (a .used)) }
       where
         out : (y : Slot) (a : TakenSlot t y) → Lasts t s (a .used .level) → Nothing y ⊎ ((z : Slot) × Carry t u y z)
-        out y a (inl (m, i, e)) = inr (renamed m y, carry y (renamed m y) a (renamed-used s (a .used .level) m y i e (a .used .bucket) (a .used .slot)) refl refl)
+        out y a (inl (m, i, e)) =
+            inr (renamed m y, carry y (renamed m y) a (renamed-used s (a .used .level) m y i e (a .used .bucket) (a .used .slot)) refl refl)
         out y a (inr none) = absurd (none y a (a .used .bucket))
 
         stood : (z : Slot) → TakenSlot u z → (used : InUse s z) → Lasted t (used .level) → Nothing z ⊎ ((y : Slot) × (Nothing y → ⊥) × Carry t u y z)
         stood z a used (inl (l, i, e)) =
             let y = renamed l z in
-            let item : TakenSlot t y = record { used = renamed-used (headerOf t .state) (used .level) l z i e (used .bucket) (used .slot); shown = sym (same-bits y z refl refl) ∙ a .shown } in
+            let item : TakenSlot t y =
+            record {
+              used = renamed-used (headerOf t .state) (used .level) l z i e (used .bucket) (used .slot);
+              shown =
+                  sym (same-bits y z refl refl) ∙ a .shown;
+            } in
             inr (y, λ g. g, carry y z item used refl refl)
         stood z a used (inr none) = absurd (never (a .shown) (rw (re .tokens (z .bucket), none (z .bucket) (used .bucket)) (zero-free (headerOf u) (z .slot))))
 
@@ -155,7 +171,8 @@ module _ (f : ℕ) (t u : Table) (s : State) (o : OrderlyTable f t) (re : Restat
     unfolding placesOf probes hashesOf withState
     restated-placed z a = go (restated-carried .back z a)
       where
-        again : (y : Slot) (k : Carry t u y z) (p : Place) → p .bucket ≡ y .bucket → (l : Level) → In l (levelsInUse (headerOf t .state)) → In p (placesIn (hashesOf (headerOf t) (keyIn t y)) l) → Lasts t s l → PlacedAt u z
+        again : (y : Slot) (k : Carry t u y z) (p : Place) → p .bucket ≡ y .bucket → (l : Level) → In l (levelsInUse (headerOf t .state))
+            → In p (placesIn (hashesOf (headerOf t) (keyIn t y)) l) → Lasts t s l → PlacedAt u z
         again y k p b l i j (inl (m, n, e)) =
             let q = place-again (hashesOf (headerOf t) (keyIn t y)) l m e p j in
             (q .0, rw (re .header, k .key) (in-flatMap (placesIn (hashesOf (headerOf t) (keyIn t y))) n (q .1)), q .2 ∙ b ∙ sym (k .bucket))
@@ -171,12 +188,16 @@ module _ (f : ℕ) (t u : Table) (s : State) (o : OrderlyTable f t) (re : Restat
             again y k (p .0) (p .2) (r .0) (r .1) (r .2) (lasts (r .0) (r .1))
 
     -- a level without an item has no token
-    tokenless : (l : Level) → In l (levelsInUse (headerOf t .state)) → ((y : Slot) → TakenSlot t y → InLevel l (y .bucket) → ⊥) → (j : ℕ) → j < 2 ^ (headerOf t .c + 1) - 1 → InLevel l j → tokenOf t j ≡ 0
+    tokenless : (l : Level) → In l (levelsInUse (headerOf t .state)) → ((y : Slot) → TakenSlot t y → InLevel l (y .bucket) → ⊥) → (j : ℕ)
+        → j < 2 ^ (headerOf t .c + 1) - 1 → InLevel l j → tokenOf t j ≡ 0
     unfolding taken meantOf
-    tokenless l i none j inside range = o .tidied j inside ∙ meant-of-free (headerOf t) (tokenOf t j) (keysOf t j) (λ n low. bit n low (isTaken (headerOf t) (tokenOf t j) n) refl)
+    tokenless l i none j inside range =
+        o .tidied j inside ∙ meant-of-free (headerOf t) (tokenOf t j) (keysOf t j) (λ n low. bit n low (isTaken (headerOf t) (tokenOf t j) n) refl)
       where
         bit : (n : ℕ) → n < 4 → (b : Bool) → isTaken (headerOf t) (tokenOf t j) n ≡ b → b ≡ false
-        bit n low true q = absurd (none (record { level = l .name; bucket = j; slot = n }) (record { used = record { level = l; used = i; name = refl; bucket = range; slot = low }; shown = q }) range)
+        bit n low true q = absurd
+            (none (record { level = l .name; bucket = j; slot = n })
+            (record { used = record { level = l; used = i; name = refl; bucket = range; slot = low }; shown = q }) range)
         bit n low false q = refl
 
     restated-unused : (j : ℕ) → j < 2 ^ (headerOf t .c + 1) - 1 → ((m : Level) → In m (levelsInUse s) → InLevel m j → ⊥) → tokenOf t j ≡ 0
@@ -186,7 +207,8 @@ module _ (f : ℕ) (t u : Table) (s : State) (o : OrderlyTable f t) (re : Restat
         held l i r (inl (m, n, e)) = absurd (free m n (rw e r))
         held l i r (inr none) = tokenless l i none j inside r
 
-        go : ((l : Level) × In l (levelsInUse (headerOf t .state)) × InLevel l j) ⊎ ((l : Level) → In l (levelsInUse (headerOf t .state)) → InLevel l j → ⊥) → tokenOf t j ≡ 0
+        go : ((l : Level) × In l (levelsInUse (headerOf t .state)) × InLevel l j) ⊎ ((l : Level) → In l (levelsInUse (headerOf t .state))
+            → InLevel l j → ⊥) → tokenOf t j ≡ 0
         go (inl (l, i, r)) = held l i r (lasts l i)
         go (inr none) = o .unused j inside none
 
@@ -202,7 +224,8 @@ module _ (f : ℕ) (t u : Table) (s : State) (o : OrderlyTable f t) (re : Restat
         state = rw (re .header) good;
       };
       flag = re .flag ∙ o .flag;
-      tidied = λ j l. rw (re .header, re .tokens j, state-meant (headerOf t) s (tokenOf t j) (keysOf u j)) (same-meant (headerOf t) _ _ _ (λ z k q. same-keys j z) (o .tidied j (rw (re .header) at l)));
+      tidied = λ j l. rw (re .header, re .tokens j, state-meant (headerOf t) s (tokenOf t j) (keysOf u j))
+          (same-meant (headerOf t) _ _ _ (λ z k q. same-keys j z) (o .tidied j (rw (re .header) at l)));
       unused = λ j l free. re .tokens j ∙ restated-unused j (rw (re .header) at l) (λ m i. free m (rw after i));
       placed = restated-placed;
     }

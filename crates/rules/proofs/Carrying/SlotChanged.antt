@@ -20,7 +20,8 @@ use Rattle.rules.proofs.Carrying.Touched.{turned, touched-orderly}
 use Rattle.rules.proofs.Carrying.Moving.{Nothing, Only}
 use Rattle.rules.proofs.Carrying.StoreKinds.{SlotWritten}
 
-module _ (f : ℕ) (t u : Table) (x : Slot) (v key : ℕ) (r : Record) (o : OrderlyTable f t) (here : InUse (headerOf t .state) x) (written : SlotWritten t u x v key r) where
+module _ (f : ℕ) (t u : Table) (x : Slot) (v key : ℕ) (r : Record) (o : OrderlyTable f t) (here : InUse (headerOf t .state) x)
+    (written : SlotWritten t u x v key r) where
   good : GoodState (headerOf t .c) (headerOf t .state)
   good = o .header .state
 
@@ -56,7 +57,8 @@ module _ (f : ℕ) (t u : Table) (x : Slot) (v key : ℕ) (r : Record) (o : Orde
       (λ y used b n. inl (rw (written .token, e), λ g. n (ap (λ (s : Slot). s .slot) g))) (inr (λ q. refl, λ q. refl))
 
   -- one token store sets x and clears a, a slot of the same bucket
-  pub beside-carried : (a : Slot) → InUse (headerOf t .state) a → a .bucket ≡ x .bucket → (w : ℕ) → Bit (headerOf t) (tokenOf t (x .bucket)) w (a .slot) false → Bit (headerOf t) w v (x .slot) true
+  pub beside-carried : (a : Slot) → InUse (headerOf t .state) a → a .bucket ≡ x .bucket → (w : ℕ)
+      → Bit (headerOf t) (tokenOf t (x .bucket)) w (a .slot) false → Bit (headerOf t) w v (x .slot) true
       → taken t (headerOf t) x ≡ false → (a .slot ≡ x .slot → ⊥) → Carried t u (Only a) (Only x)
   unfolding taken
   beside-carried a used b w cleared set free apart =
@@ -67,7 +69,10 @@ module _ (f : ℕ) (t u : Table) (x : Slot) (v key : ℕ) (r : Record) (o : Orde
           → ((isTaken (headerOf t) (tokenOf u (x .bucket)) (y .slot) ≡ isTaken (headerOf t) (tokenOf t (x .bucket)) (y .slot)) × (Only a y → ⊥))
           ⊎ (Only a y × (isTaken (headerOf t) (tokenOf u (x .bucket)) (y .slot) ≡ false))
       go y in-use same n (yes e) =
-          inr (slot-by-bucket (headerOf t .state) (headerOf t .c) good y a in-use used (same ∙ sym b) e, rw (written .token) (set .other (y .slot) (in-use .slot) n ∙ rw e (cleared .here)))
+          inr (
+            slot-by-bucket (headerOf t .state) (headerOf t .c) good y a in-use used (same ∙ sym b) e,
+            rw (written .token) (set .other (y .slot) (in-use .slot) n ∙ rw e (cleared .here)),
+          )
       go y in-use same n (no d) =
           inl (rw (written .token) (set .other (y .slot) (in-use .slot) n ∙ cleared .other (y .slot) (in-use .slot) d), λ g. d (ap (λ (s : Slot). s .slot) g))
 
@@ -76,7 +81,8 @@ module _ (f : ℕ) (t u : Table) (x : Slot) (v key : ℕ) (r : Record) (o : Orde
   pub written-orderly : Follows (headerOf t) (tokenOf t (x .bucket)) v (keysOf t (x .bucket)) (keysOf u (x .bucket)) (x .slot) key
       → (Gone New : Slot → Type 0) → Carried t u Gone New → ((z : Slot) → TakenSlot u z → New z → PlacedAt u z) → OrderlyTable f u
   written-orderly follows Gone New carried new =
-      touched-orderly (headerOf t .c) t u x (written .near) good here f f o (λ m k. rw (written .token) (follows m (rw (written .key) at k))) (written .flag ∙ o .flag)
+      touched-orderly (headerOf t .c) t u x (written .near) good here f f o (λ m k. rw (written .token) (follows m (rw (written .key) at k)))
+      (written .flag ∙ o .flag)
       (carried-placed t u Gone New carried (written .near .header) (o .placed) new)
 
   -- with the new item in a place of its key

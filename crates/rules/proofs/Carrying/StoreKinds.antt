@@ -61,8 +61,15 @@ module _ (t : Table) (x : Slot) (low : x .slot < 4) (within : 9 + 13 * x .bucket
   log-written r clear =
       let xs : List Store = logStores x r ++ redoStores x r in
       record {
-        near = touched x low t xs (inl (omega arith), (inl (omega arith), (inl (omega arith), (inl (omega arith), (inr (inr (omega arith)), (inr (inr (omega arith)), (inl (omega arith), tt)))))));
-        token = made-kept t xs (tokenWord (x .bucket)) (omega arith, (omega arith, (omega arith, (omega arith, (omega arith, (omega arith, (omega arith, tt)))))));
+        near = touched x low t xs (
+          inl (omega arith),
+          (
+            inl (omega arith),
+            (inl (omega arith), (inl (omega arith), (inr (inr (omega arith)), (inr (inr (omega arith)), (inl (omega arith), tt))))),
+          ),
+        );
+        token = made-kept t xs (tokenWord (x .bucket))
+            (omega arith, (omega arith, (omega arith, (omega arith, (omega arith, (omega arith, (omega arith, tt)))))));
         key = made-kept t xs (keyWord x) (omega arith, (omega arith, (omega arith, (omega arith, (omega arith, (omega arith, (omega arith, tt)))))));
         value = record-parts
             (made-left t xs (keyWord x + 1) (r .function) (omega arith) (inr (inr (inr (inr (inl (refl, refl, (omega arith, (omega arith, tt)))))))))

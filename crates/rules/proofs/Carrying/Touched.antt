@@ -9,7 +9,8 @@ use mathlib.Core.Logic.{_⊎_, inl, inr}
 use native.Mathlib.Omega.{arith}
 use native.Mathlib.Decide.{ℕ-discrete}
 use lib.ListN.{length}
-use Rattle.rules.specs.Words.{Table, word, GoodState, headerOf, flagOf, InUse, InLevel, levelsInUse, tokenWord, keyWord, functionWord, placeWord, keyIn, recordIn, tokenOf, keysOf, isTaken, taken, meantOf}
+use Rattle.rules.specs.Words.{Table, word, GoodState, headerOf, flagOf, InUse, InLevel, levelsInUse, tokenWord, keyWord, functionWord}
+use Rattle.rules.specs.Words.{placeWord, keyIn, recordIn, tokenOf, keysOf, isTaken, taken, meantOf}
 use Rattle.rules.specs.Stores.{Store, made}
 use Rattle.rules.specs.Soundness.{TakenSlot, OrderlyTable}
 use Rattle.rules.specs.declared.Level.{Level}
@@ -59,7 +60,13 @@ module _ (x : Slot) (low : x .slot < 4) where
   unfolding headerOf tokenOf functionWord placeWord keyIn recordIn
   touched t xs near = record {
     long = made-long t xs;
-    header = rw (kept 0 (header-far 0 (omega arith)), kept 1 (header-far 1 (omega arith)), kept 2 (header-far 2 (omega arith)), kept 3 (header-far 3 (omega arith)), kept 4 (header-far 4 (omega arith)));
+    header = rw (
+      kept 0 (header-far 0 (omega arith)),
+      kept 1 (header-far 1 (omega arith)),
+      kept 2 (header-far 2 (omega arith)),
+      kept 3 (header-far 3 (omega arith)),
+      kept 4 (header-far 4 (omega arith)),
+    );
     tokens = λ j d. kept (tokenWord j) (token-far j d);
     items = λ y l d. (
       kept (keyWord y) (item-far y l d (keyWord y) (omega arith)),
@@ -110,7 +117,8 @@ module _ (c : ℕ) (t u : Table) (x : Slot) (near : Touched t u x) (good : GoodS
   abbrev bitAfter : ℕ → Bool
   bitAfter z = isTaken (headerOf t) (tokenOf u (x .bucket)) z
 
-  stays : (y : Slot) → y .slot < 4 → (y .bucket ≡ x .bucket → y .slot ≡ x .slot → ⊥) → (y .bucket ≡ x .bucket → bitAfter (y .slot) ≡ bitBefore (y .slot)) → Stays t u y
+  stays : (y : Slot) → y .slot < 4 → (y .bucket ≡ x .bucket → y .slot ≡ x .slot → ⊥)
+      → (y .bucket ≡ x .bucket → bitAfter (y .slot) ≡ bitBefore (y .slot)) → Stays t u y
   unfolding taken
   stays y l d e = record { shown = rw (near .header) (shown (ℕ-discrete (y .bucket) (x .bucket))); key = near .items y l d .0; value = near .items y l d .1 }
     where
@@ -120,12 +128,15 @@ module _ (c : ℕ) (t u : Table) (x : Slot) (near : Touched t u x) (good : GoodS
 
   -- a slot beside x, in its bucket: it stays, or it is gone
   pub turned : (Gone New : Slot → Type 0) → ((y : Slot) → (y .bucket ≡ x .bucket → ⊥) → Gone y → ⊥)
-      → ((y : Slot) → InUse (headerOf t .state) y → y .bucket ≡ x .bucket → (y .slot ≡ x .slot → ⊥) → ((bitAfter (y .slot) ≡ bitBefore (y .slot)) × (Gone y → ⊥)) ⊎ (Gone y × (bitAfter (y .slot) ≡ false)))
+      → ((y : Slot) → InUse (headerOf t .state) y → y .bucket ≡ x .bucket → (y .slot ≡ x .slot → ⊥)
+      → ((bitAfter (y .slot) ≡ bitBefore (y .slot)) × (Gone y → ⊥)) ⊎ (Gone y × (bitAfter (y .slot) ≡ false)))
       → Seen t u Gone New x → Carried t u Gone New
   unfolding taken
-  turned Gone New apart beside itself = slotwise t u (near .header) Gone New (λ y used. go y used (ℕ-discrete (y .bucket) (x .bucket)) (ℕ-discrete (y .slot) (x .slot)))
+  turned Gone New apart beside itself =
+      slotwise t u (near .header) Gone New (λ y used. go y used (ℕ-discrete (y .bucket) (x .bucket)) (ℕ-discrete (y .slot) (x .slot)))
     where
-      neighbour : (y : Slot) → InUse (headerOf t .state) y → y .bucket ≡ x .bucket → (y .slot ≡ x .slot → ⊥) → ((bitAfter (y .slot) ≡ bitBefore (y .slot)) × (Gone y → ⊥)) ⊎ (Gone y × (bitAfter (y .slot) ≡ false)) → Seen t u Gone New y
+      neighbour : (y : Slot) → InUse (headerOf t .state) y → y .bucket ≡ x .bucket → (y .slot ≡ x .slot → ⊥)
+          → ((bitAfter (y .slot) ≡ bitBefore (y .slot)) × (Gone y → ⊥)) ⊎ (Gone y × (bitAfter (y .slot) ≡ false)) → Seen t u Gone New y
       neighbour y used b n (inl (e, g)) = inl (stays y (used .slot) (λ q. n) (λ q. e), g)
       neighbour y used b n (inr (g, e)) = inr (λ q. g, λ q. never (rw (near .header, b) at q) e)
 
@@ -160,7 +171,8 @@ module _ (c : ℕ) (t u : Table) (x : Slot) (near : Touched t u x) (good : GoodS
       tidied j l (yes e) = rw (e, near .header) (follows (o .tidied (x .bucket) (rw e at l)) rekeyed)
       tidied j l (no n) = rw (near .header, near .tokens j n) (same-meant (headerOf t) _ _ _ (λ z k q. keys-kept j z k (λ b. absurd (n b))) (o .tidied j l))
 
-      unused : (j : ℕ) → j < 2 ^ (headerOf t .c + 1) - 1 → ((l : Level) → In l (levelsInUse (headerOf t .state)) → InLevel l j → ⊥) → Dec (j ≡ x .bucket) → tokenOf u j ≡ 0
+      unused : (j : ℕ) → j < 2 ^ (headerOf t .c + 1) - 1 → ((l : Level) → In l (levelsInUse (headerOf t .state)) → InLevel l j → ⊥)
+          → Dec (j ≡ x .bucket) → tokenOf u j ≡ 0
       unused j l free (yes e) = absurd (free (here .level) (here .used) (rw e (here .bucket)))
       unused j l free (no n) = near .tokens j n ∙ o .unused j l free
 

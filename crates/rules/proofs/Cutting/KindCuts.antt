@@ -9,7 +9,8 @@ use mathlib.Core.Option.{some}
 use mathlib.Core.Logic.{inl, inr}
 use native.Mathlib.Omega.{arith}
 use lib.ListN.{length, take}
-use Rattle.rules.specs.Words.{Table, headerOf, InUse, flagOf, loggedOf, placeOf, tokenWord, keyWord, functionWord, placeWord, keyIn, recordIn, tokenOf, taken}
+use Rattle.rules.specs.Words.{Table, headerOf, InUse, flagOf, loggedOf, placeOf, tokenWord, keyWord, functionWord, placeWord, keyIn, recordIn}
+use Rattle.rules.specs.Words.{tokenOf, taken}
 use Rattle.rules.specs.Places.{placesOf}
 use Rattle.rules.specs.Stores.{Store, putStores, clearStores, moveStores, logStores, redoStores, made}
 use Rattle.rules.specs.Soundness.{TakenSlot, PlainMap, FlaggedTable}
@@ -31,7 +32,8 @@ use Rattle.rules.proofs.Carrying.ItemMoved.{move-whole}
 use Rattle.rules.proofs.Cutting.Mending.{RedoMap, Mends, asSound, asTwin, redo-cuts}
 
 -- a record put to a free slot, its bucket's token word being w: nothing is seen before the token
-pub put-cuts : (t : Table) (m : PlainMap) → SoundMap t m → (x : Slot) → InUse (headerOf t .state) x → taken t (headerOf t) x ≡ false → (h : Header) (w key : ℕ) (r : Record)
+pub put-cuts : (t : Table) (m : PlainMap) → SoundMap t m → (x : Slot) → InUse (headerOf t .state) x → taken t (headerOf t) x ≡ false
+    → (h : Header) (w key : ℕ) (r : Record)
     → (P : Table → Type 0) → ((u : Table) → SoundMap u m → P u) → P (made t (putStores h w x key r)) → EveryCut P t (putStores h w x key r)
 unfolding putStores functionWord placeWord
 put-cuts t m whole x here free h w key r P unseen last =
@@ -41,14 +43,19 @@ put-cuts t m whole x here free h w key r P unseen last =
         blank ((keyWord x, key) ∷ []) (inr (omega arith), tt),
         (
           blank ((keyWord x, key) ∷ (keyWord x + 1, r .function) ∷ []) (inr (omega arith), (inr (omega arith), tt)),
-          (blank ((keyWord x, key) ∷ (keyWord x + 1, r .function) ∷ (keyWord x + 2, r .place) ∷ []) (inr (omega arith), (inr (omega arith), (inr (omega arith), tt))), last),
+          (
+            blank ((keyWord x, key) ∷ (keyWord x + 1, r .function) ∷ (keyWord x + 2, r .place) ∷ [])
+                (inr (omega arith), (inr (omega arith), (inr (omega arith), tt))),
+            last,
+          ),
         ),
       ),
     )
 
 -- a move of one slot to another
 pub move-cuts : (t : Table) (m : PlainMap) → SoundMap t m → (from to : Slot) → TakenSlot t from → InUse (headerOf t .state) to → taken t (headerOf t) to ≡ false
-    → In (placeOf to) (placesOf (headerOf t) (keyIn t from)) → (from .bucket ≡ to .bucket → ⊥) → EveryCut (λ (u : Table). Mends u m) t (moveStores t (headerOf t) from to)
+    → In (placeOf to) (placesOf (headerOf t) (keyIn t from)) → (from .bucket ≡ to .bucket → ⊥)
+    → EveryCut (λ (u : Table). Mends u m) t (moveStores t (headerOf t) from to)
 unfolding moveStores clearStores
 move-cuts t m whole from to item here free among apart =
     let h = headerOf t in
@@ -57,7 +64,8 @@ move-cuts t m whole from to item here free among apart =
     let clears = clearStores h (tokenOf t (from .bucket)) from in
     let moved : SoundMap (made (made t puts) clears) m = rw (made-append t puts clears) at (move-whole t m whole from to item here free among apart .whole) in
     cuts-append (λ (u : Table). Mends u m) t puts clears
-    (put-cuts t m whole to here free h (tokenOf t (to .bucket)) (keyIn t from) (recordIn t from) (λ (u : Table). Mends u m) (λ u s. asSound s) twin) (twin, asSound moved)
+    (put-cuts t m whole to here free h (tokenOf t (to .bucket)) (keyIn t from) (recordIn t from) (λ (u : Table). Mends u m) (λ u s. asSound s) twin)
+    (twin, asSound moved)
 
 -- ---- the log
 
@@ -124,8 +132,10 @@ module _ (t : Table) (m : PlainMap) (whole : SoundMap t m) (x : Slot) (item : Ta
       → EveryCut P t (logStores x r ++ redoStores x r)
   unfolding logged
   log-cuts P before after =
-      let blank : (xs : List Store) → Each (Hidden x) xs → Each Log xs → P (made t xs) = λ xs e f. before (made t xs) (blank-sound t m whole x (item .used) xs e (λ q. log-item xs f)) in
-      let rest = cuts-weaken (λ (u : Table). Mends u (mapWith m (keyIn t x) (some r))) P after (made t logged) (redoStores x (loggedOf (made t logged))) (redo-cuts (made t logged) _ x redoing) in
+      let blank : (xs : List Store) → Each (Hidden x) xs → Each Log xs → P (made t xs) =
+      λ xs e f. before (made t xs) (blank-sound t m whole x (item .used) xs e (λ q. log-item xs f)) in
+      let rest = cuts-weaken (λ (u : Table). Mends u (mapWith m (keyIn t x) (some r))) P after (made t logged)
+      (redoStores x (loggedOf (made t logged))) (redo-cuts (made t logged) _ x redoing) in
       let again : EveryCut P (made t logged) (redoStores x r) = rw log-words at rest in (
         before t whole,
         (

@@ -29,7 +29,8 @@ module _ (t : Table) (m : PlainMap) (l : List ℕ) (given : Given t m (length l)
       let number = kept t (cut q l n) in
       let same : after t (cut q l n) ≡ made t (take number xs) = after-cut t l q n ∙ ap (λ o. made t (take number (storesOf o))) e in
       let left = cut-after (Either m (mapAfter q m)) t xs (call-cuts t m (length l) given q xs e) number in
-      rw same (⊎-elim (λ (k : Mends (made t (take number xs)) m). inl (recovered _ m k)) (λ (k : Mends (made t (take number xs)) (mapAfter q m)). inr (recovered _ (mapAfter q m) k)) left)
+      rw same (⊎-elim (λ (k : Mends (made t (take number xs)) m). inl (recovered _ m k))
+      (λ (k : Mends (made t (take number xs)) (mapAfter q m)). inr (recovered _ (mapAfter q m) k)) left)
 
 pub cutsAreSafe : CutsAreSafe
 cutsAreSafe t m l given q accepted =

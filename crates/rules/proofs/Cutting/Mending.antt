@@ -8,7 +8,8 @@ use mathlib.Core.Logic.{_⊎_, inl, inr, ⊎-elim}
 use native.Mathlib.Omega.{arith}
 use lib.ListN.{length, set}
 use lib.Seq.{set-set, set-comm}
-use Rattle.rules.specs.Words.{Table, word, taken, GoodHeader, headerOf, flagOf, targetOf, loggedOf, InUse, tokenWord, keyWord, functionWord, placeWord, keyIn, recordIn, tokenOf, keysOf}
+use Rattle.rules.specs.Words.{Table, word, taken, GoodHeader, headerOf, flagOf, targetOf, loggedOf, InUse, tokenWord, keyWord, functionWord}
+use Rattle.rules.specs.Words.{placeWord, keyIn, recordIn, tokenOf, keysOf}
 use Rattle.rules.specs.Stores.{Store, clearStores, redoStores, made}
 use Rattle.rules.specs.Soundness.{PlainMap, Before, twins, DoubledTable, FlaggedTable}
 use Rattle.rules.specs.Calls.{listed, recover, recoverOf, outcome}
@@ -144,7 +145,8 @@ module _ (t : Table) (x : Slot) (f : FlaggedTable t x) (xs : List Store) (record
       let r = recordIn u x in
       let carried = rewrite-carried 1 t u x _ (keyIn t x) r o used rewritten refl in
       let placed = placed-here 1 t u x _ (keyIn t x) r o used rewritten (placed-in 1 t o x (f .named)) in
-      let orderly = written-orderly 1 t u x _ (keyIn t x) r o used rewritten (kept-follows (headerOf t) _ _ _ (x .slot) _ (λ q. refl)) (Only x) (Only x) carried placed in
+      let orderly = written-orderly 1 t u x _ (keyIn t x) r o used rewritten (kept-follows (headerOf t) _ _ _ (x .slot) _ (λ q. refl)) (Only x)
+      (Only x) carried placed in
       record {
         orderly = orderly;
         alone = carried-alone t u (Only x) (Only x) carried _ (orderly .header .state) (λ a b p q d e k. f .alone a b p q k) (λ a b p q. p ∙ sym q)
@@ -176,13 +178,20 @@ module _ (t : Table) (x : Slot) where
       again : (u : Table) (a b v w : ℕ) → (a ≡ b → ⊥) → set (set (set (set (set u a v) b w) a v) b w) 5 0 ≡ set (set (set u a v) b w) 5 0
       again u a b v w d = rw (set-comm (set u a v) b a w v (λ e. d (sym e)), set-set u a v v, set-set (set u a v) b w w)
 
-redo-part : (t : Table) (m : PlainMap) (x : Slot) → RedoMap t m x → (xs : List Store) → Each (OfRecord x) xs → made (made t xs) (redoStores x (loggedOf t)) ≡ made t (redoStores x (loggedOf t)) → Mends (made t xs) m
-redo-part t m x r xs fits same = asRedo x (record { flagged = still-flagged t x (r .flagged) xs fits; brings = rw (still-logged t x (r .flagged) xs fits, same) (r .brings) })
+redo-part : (t : Table) (m : PlainMap) (x : Slot) → RedoMap t m x → (xs : List Store) → Each (OfRecord x) xs
+    → made (made t xs) (redoStores x (loggedOf t)) ≡ made t (redoStores x (loggedOf t)) → Mends (made t xs) m
+redo-part t m x r xs fits same =
+    asRedo x (record { flagged = still-flagged t x (r .flagged) xs fits; brings = rw (still-logged t x (r .flagged) xs fits, same) (r .brings) })
 
 pub redo-cuts : (t : Table) (m : PlainMap) (x : Slot) → RedoMap t m x → EveryCut (λ (u : Table). Mends u m) t (redoStores x (loggedOf t))
 unfolding redoStores functionWord placeWord one-made two-made
-redo-cuts t m x r =
-    (asRedo x r, (redo-part t m x r (one-made t x) (omega arith, tt) (one-again t x), (redo-part t m x r (two-made t x) (omega arith, (omega arith, tt)) (two-again t x), asSound (r .brings))))
+redo-cuts t m x r = (
+  asRedo x r,
+  (
+    redo-part t m x r (one-made t x) (omega arith, tt) (one-again t x),
+    (redo-part t m x r (two-made t x) (omega arith, (omega arith, tt)) (two-again t x), asSound (r .brings)),
+  ),
+)
 
 redo-mended : (t : Table) (m : PlainMap) (x : Slot) → RedoMap t m x → Mended t m
 unfolding redoStores
@@ -198,7 +207,8 @@ redo-mended t m x r = record {
 
 pub mends : (t : Table) (m : PlainMap) → Mends t m → Mended t m
 mends t m (asSound s) = whole-mended t m s
-mends t m (asTwin x y w) = ⊎-elim (λ (b : Before x y). twin-mended t m x y w b) (λ (b : Before y x). twin-mended t m y x (twin-turned t m x y w) b) (twin-ordered t m x y w)
+mends t m (asTwin x y w) =
+    ⊎-elim (λ (b : Before x y). twin-mended t m x y w b) (λ (b : Before y x). twin-mended t m y x (twin-turned t m x y w) b) (twin-ordered t m x y w)
 mends t m (asRedo x r) = redo-mended t m x r
 
 -- with any list of 20 words or more, made from that list

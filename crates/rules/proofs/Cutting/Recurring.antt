@@ -40,7 +40,8 @@ module _ (t : Table) (m : PlainMap) where
       let o = d .orderly in
       let u = made t (clearStores (headerOf t) (tokenOf t (y .bucket)) y) in
       let carried = clear-carries t o y (d .later) in
-      let still = carried-stays t u (Only y) Nothing carried (headerOf t .c) (good-cleared t o y (d .later)) (clear-writes t o y (d .later) .near .header) x (d .first) (before-apart x y (d .order)) in
+      let still = carried-stays t u (Only y) Nothing carried (headerOf t .c) (good-cleared t o y (d .later))
+      (clear-writes t o y (d .later) .near .header) x (d .first) (before-apart x y (d .order)) in
       let stands : m (keyIn t y) ≡ some (recordIn t y) = ap m (sym (still .1 ∙ d .key)) ∙ has .stands x (still .0) ∙ ap some (still .2 ∙ d .equal) in
       asTwin x y (record {
         orderly = o;
@@ -98,12 +99,15 @@ module _ (t : Table) (m : PlainMap) (k : Mends t m) (room : ℕ) where
   recovery-cut : (n : ℕ) → Mends (made t (take n (storesOf (outcome t room recover)))) m
   recovery-cut n = go (recovery-lists (outcome t room recover) refl)
     where
-      go : (storesOf (outcome t room recover) ≡ mends t m k .stores) ⊎ (storesOf (outcome t room recover) ≡ []) → Mends (made t (take n (storesOf (outcome t room recover)))) m
+      go : (storesOf (outcome t room recover) ≡ mends t m k .stores) ⊎ (storesOf (outcome t room recover) ≡ [])
+          → Mends (made t (take n (storesOf (outcome t room recover)))) m
       go (inl e) = rw e (cut-after (λ (u : Table). Mends u m) t (mends t m k .stores) (mends t m k .cuts) n)
       go (inr e) = rw (e, take-nil n) k
 
 event-mends : (t : Table) (m : PlainMap) (e : Event) → Recovery e → Mends t m → Mends (after t e) m
-event-mends t m (whole q l) r k = rw (r, after-whole t l recover) (rw (take-length (storesOf (outcome t (length l) recover))) at (recovery-cut t m k (length l) (length (storesOf (outcome t (length l) recover)))))
+event-mends t m (whole q l) r k =
+    rw (r, after-whole t l recover)
+    (rw (take-length (storesOf (outcome t (length l) recover))) at (recovery-cut t m k (length l) (length (storesOf (outcome t (length l) recover)))))
 event-mends t m (cut q l n) r k = rw (r, after-cut t l recover n) (recovery-cut t m k (length l) (kept t (cut recover l n)))
 
 events-mend : (t : Table) (m : PlainMap) (es : List Event) → Every Recovery es → Mends t m → Mends (afterAll t es) m

@@ -13,7 +13,8 @@ use Rattle.rules.specs.Places.{lookup}
 use Rattle.rules.specs.Placing.{freeSlot, placing}
 use Rattle.rules.specs.Stores.{Store, putStores, clearStores, moveStores, placingStores, updateWith, updateStores, stepStores, made}
 use Rattle.rules.specs.Soundness.{TakenSlot, PlainMap}
-use Rattle.rules.specs.Calls.{Outcome, refused, listed, placedBy, insertIn, updateIn, stepItem, stepIn, stepTests, stepOf, Call, query, insert, update, delete, begin, step, end, recover, outcome}
+use Rattle.rules.specs.Calls.{Outcome, refused, listed, placedBy, insertIn, updateIn, stepItem, stepIn, stepTests, stepOf, Call, query, insert}
+use Rattle.rules.specs.Calls.{update, delete, begin, step, end, recover, outcome}
 use Rattle.rules.specs.Demands.{AtRest, Given, Gives, mapWith, mapAfter, InterimItem, NoInterim, FirstInterim, InsertBy, ChangeBy, StepBy}
 use Rattle.rules.specs.declared.State.{State}
 use Rattle.rules.specs.declared.Slot.{Slot}
@@ -54,19 +55,23 @@ module _ (t : Table) (m : PlainMap) (whole : SoundMap t m) where
   moving : (key : ℕ) (from to : Slot) → MoveFor t (headerOf t) key from to → AfterMove t (made t (moveStores t (headerOf t) from to)) m from to
   moving key from to f =
       let g = f .goal in
-      move-whole t m whole from to (record { used = among-used (headerOf t) key from (f .slot) (f .among); shown = f .item }) (among-used (headerOf t) (keyIn t from) to (g .slot) (g .among)) (g .free) (g .among) (f .apart)
+      move-whole t m whole from to (record { used = among-used (headerOf t) key from (f .slot) (f .among); shown = f .item })
+      (among-used (headerOf t) (keyIn t from) to (g .slot) (g .among)) (g .free) (g .among) (f .apart)
 
   moving-cuts : (key : ℕ) (from to : Slot) → MoveFor t (headerOf t) key from to → EveryCut (λ (u : Table). Mends u m) t (moveStores t (headerOf t) from to)
   moving-cuts key from to f =
       let g = f .goal in
-      move-cuts t m whole from to (record { used = among-used (headerOf t) key from (f .slot) (f .among); shown = f .item }) (among-used (headerOf t) (keyIn t from) to (g .slot) (g .among)) (g .free) (g .among) (f .apart)
+      move-cuts t m whole from to (record { used = among-used (headerOf t) key from (f .slot) (f .among); shown = f .item })
+      (among-used (headerOf t) (keyIn t from) to (g .slot) (g .among)) (g .free) (g .among) (f .apart)
 
   -- insert: the placing's stores
-  placing-cuts : (key : ℕ) (r : Record) (n : PlainMap) (p : Placing) → placing t (headerOf t) key ≡ p → SoundMap (made t (placingStores t (headerOf t) p key r)) n → EveryCut (Either m n) t (placingStores t (headerOf t) p key r)
+  placing-cuts : (key : ℕ) (r : Record) (n : PlainMap) (p : Placing) → placing t (headerOf t) key ≡ p
+      → SoundMap (made t (placingStores t (headerOf t) p key r)) n → EveryCut (Either m n) t (placingStores t (headerOf t) p key r)
   unfolding placingStores
   placing-cuts key r n (Free x) e last =
       let f = placing-free t (headerOf t) key x e in
-      put-cuts t m whole x (among-used (headerOf t) key x (f .slot) (f .among)) (f .free) (headerOf t) (tokenOf t (x .bucket)) key r (Either m n) (λ u s. inl (asSound s)) (inr (asSound last))
+      put-cuts t m whole x (among-used (headerOf t) key x (f .slot) (f .among)) (f .free) (headerOf t) (tokenOf t (x .bucket)) key r (Either m n)
+      (λ u s. inl (asSound s)) (inr (asSound last))
   placing-cuts key r n (Move from to) e last =
       let h = headerOf t in
       let f = placing-move t h key from to e in
@@ -74,7 +79,8 @@ module _ (t : Table) (m : PlainMap) (whole : SoundMap t m) where
       let w = hide h (tokenOf t (from .bucket)) (from .slot) in
       cuts-append (Either m n) t (moveStores t h from to) (putStores h w from key r)
       (cuts-weaken (λ (u : Table). Mends u m) (Either m n) (λ u k. inl k) t (moveStores t h from to) (moving-cuts key from to f))
-      (put-cuts (made t (moveStores t h from to)) m (v .whole) from (rw (v .header) (among-used h key from (f .slot) (f .among))) (v .free) h w key r (Either m n) (λ u s. inl (asSound s))
+      (put-cuts (made t (moveStores t h from to)) m (v .whole) from (rw (v .header) (among-used h key from (f .slot) (f .among))) (v .free) h w key r
+      (Either m n) (λ u s. inl (asSound s))
       (inr (asSound (rw (made-append t (moveStores t h from to) (putStores h w from key r)) at last))))
   placing-cuts key r n Nowhere e last = inl (asSound whole)
 
@@ -96,10 +102,18 @@ module _ (t : Table) (m : PlainMap) (whole : SoundMap t m) where
         let k = v .stays x (item .item) (λ q. not-interim from (f .level) (rw q at (item .level))) in
         let puts = putStores h (hide h (tokenOf t (from .bucket)) (from .slot)) from (keyIn t x) (recordIn t x) in
         let clears = clearStores h (tokenOf t (x .bucket)) x in
-        let second = move-cuts (made t (moveStores t h from to)) m (v .whole) x from (k .0) (rw (v .header) used) (v .free) (rw (v .header, k .1) (f .among)) far in
+        let second = move-cuts (made t (moveStores t h from to)) m (v .whole) x from (k .0) (rw (v .header) used) (v .free)
+        (rw (v .header, k .1) (f .among)) far in
         let again : EveryCut (λ (u : Table). Mends u m) (made t (moveStores t h from to)) (puts ++ clears)
-        = rw (v .header, v .token, k .1, k .2, v .tokens (x .bucket) far (elsewhere t m whole x item to (among-used h (keyIn t from) to (g .slot) (g .among)) (g .level))) at second in
-        rw (append-assoc (moveStores t h from to) puts clears) (cuts-append (λ (u : Table). Mends u m) t (moveStores t h from to) (puts ++ clears) (moving-cuts (keyIn t x) from to f) again)
+        = rw (
+          v .header,
+          v .token,
+          k .1,
+          k .2,
+          v .tokens (x .bucket) far (elsewhere t m whole x item to (among-used h (keyIn t from) to (g .slot) (g .among)) (g .level)),
+        ) at second in
+        rw (append-assoc (moveStores t h from to) puts clears)
+        (cuts-append (λ (u : Table). Mends u m) t (moveStores t h from to) (puts ++ clears) (moving-cuts (keyIn t x) from to f) again)
     step-cuts Nowhere o e = absurd o
 
 -- ---- an accepted call, made whole
@@ -119,7 +133,8 @@ module _ (t : Table) (m : PlainMap) (n : ℕ) (given : Given t m n) where
       go none (inr k) = given-whole t _ _ _ xs e (k .1)
 
   -- update and delete
-  changed-whole : (q : Call) (k : PlainMap) (v : Option Record) (xs : List Store) → outcome t n q ≡ listed xs → ChangeBy t k v (outcome t n q) → SoundMap (made t xs) k
+  changed-whole : (q : Call) (k : PlainMap) (v : Option Record) (xs : List Store) → outcome t n q ≡ listed xs → ChangeBy t k v (outcome t n q)
+      → SoundMap (made t xs) k
   changed-whole q k (some v) xs e c = given-whole t _ _ _ xs e c
   changed-whole q k none xs e c = never-listed (sym c ∙ e)
 
@@ -134,7 +149,8 @@ module _ (t : Table) (m : PlainMap) (n : ℕ) (given : Given t m n) where
   step-whole : (xs : List Store) → outcome t n step ≡ listed xs → SoundMap (made t xs) m
   step-whole xs e = go (ℕ-discrete (headerOf t .state .phase) 0)
     where
-      grown : (NoInterim t × (outcome t n step ≡ refused InterimEmpty)) ⊎ ((x : Slot) × FirstInterim t x × StepBy t m x (outcome t n step)) → SoundMap (made t xs) m
+      grown : (NoInterim t × (outcome t n step ≡ refused InterimEmpty)) ⊎ ((x : Slot) × FirstInterim t x × StepBy t m x (outcome t n step))
+          → SoundMap (made t xs) m
       grown (inl k) = never-listed (sym (k .1) ∙ e)
       grown (inr (x, first, inl k)) = never-listed (sym (k .1) ∙ e)
       grown (inr (x, first, inr k)) = given-whole t _ _ _ xs e (k .1 .0)
@@ -146,7 +162,8 @@ module _ (t : Table) (m : PlainMap) (n : ℕ) (given : Given t m n) where
   end-whole : (xs : List Store) → outcome t n end ≡ listed xs → SoundMap (made t xs) m
   end-whole xs e = go (ℕ-discrete (headerOf t .state .phase) 0)
     where
-      ended : ((x : Slot) × InterimItem t x × (outcome t n end ≡ refused InterimTaken)) ⊎ (NoInterim t × Gives t (outcome t n end) m (record { k = headerOf t .state .k; phase = 0 })) → SoundMap (made t xs) m
+      ended : ((x : Slot) × InterimItem t x × (outcome t n end ≡ refused InterimTaken))
+          ⊎ (NoInterim t × Gives t (outcome t n end) m (record { k = headerOf t .state .k; phase = 0 })) → SoundMap (made t xs) m
       ended (inl (x, i, k)) = never-listed (sym k ∙ e)
       ended (inr (empty, g)) = given-whole t _ _ _ xs e g
 
@@ -166,7 +183,8 @@ module _ (t : Table) (m : PlainMap) (n : ℕ) (given : Given t m n) where
 
   -- ---- and cut
 
-  insert-cuts : (key : ℕ) (r : Record) (k : PlainMap) (xs : List Store) → insertIn t (headerOf t) (lookup t (headerOf t) key) key r ≡ listed xs → SoundMap (made t xs) k → EveryCut (Either m k) t xs
+  insert-cuts : (key : ℕ) (r : Record) (k : PlainMap) (xs : List Store) → insertIn t (headerOf t) (lookup t (headerOf t) key) key r ≡ listed xs
+      → SoundMap (made t xs) k → EveryCut (Either m k) t xs
   insert-cuts key r k xs e last = known (m key) refl
     where
       by-placing : (p : Placing) → placing t (headerOf t) key ≡ p → placedBy p (placingStores t (headerOf t) p key r) ≡ listed xs → EveryCut (Either m k) t xs
@@ -178,7 +196,8 @@ module _ (t : Table) (m : PlainMap) (n : ℕ) (given : Given t m n) where
       known (some v) q = never-listed (rw (lookup-known t m (given .sound) (given .map) key v q .answer) at e)
       known none q = by-placing (placing t (headerOf t) key) refl (rw (lookup-unknown t m (given .sound) (given .map) key q .1) at e)
 
-  update-cuts : (key : ℕ) (r : Record) (xs : List Store) → updateIn t (headerOf t) (lookup t (headerOf t) key) key r ≡ listed xs → SoundMap (made t xs) (mapWith m key (some r)) → EveryCut (Either m (mapWith m key (some r))) t xs
+  update-cuts : (key : ℕ) (r : Record) (xs : List Store) → updateIn t (headerOf t) (lookup t (headerOf t) key) key r ≡ listed xs
+      → SoundMap (made t xs) (mapWith m key (some r)) → EveryCut (Either m (mapWith m key (some r))) t xs
   unfolding updateStores
   update-cuts key r xs e last = known (m key) refl
     where
@@ -186,13 +205,15 @@ module _ (t : Table) (m : PlainMap) (n : ℕ) (given : Given t m n) where
       after = mapWith m key (some r)
 
       -- the slot with the key, and a free slot of its bucket or none
-      there : (x : Slot) → TakenSlot t x → keyIn t x ≡ key → (o : Option Slot) → freeSlot t (headerOf t) (placeOf x) ≡ o → listed (updateWith t (headerOf t) x o key r) ≡ listed xs → EveryCut (Either m after) t xs
+      there : (x : Slot) → TakenSlot t x → keyIn t x ≡ key → (o : Option Slot) → freeSlot t (headerOf t) (placeOf x) ≡ o
+          → listed (updateWith t (headerOf t) x o key r) ≡ listed xs → EveryCut (Either m after) t xs
       there x item same (some y) q f =
           let h = headerOf t in
           let free = free-slot t h (placeOf x) y q in
           let used = slot-of-place (h .state) (placeOf x) y (place-of-slot (h .state) x (item .used)) (free .inside) in
           let list = listed-one f in
-          rw list (put-cuts t m (whole-of t m n given) y used (free .free) h _ key r (Either m after) (λ u s. inl (asSound s)) (inr (asSound (rw list at last))))
+          rw list (put-cuts t m (whole-of t m n given) y used (free .free) h _ key r (Either m after) (λ u s. inl (asSound s))
+          (inr (asSound (rw list at last))))
       there x item same none q f =
           rw (listed-one f) (log-cuts t m (whole-of t m n given) x item r (Either m after) (λ u s. inl (asSound s)) (λ u k. inr (rw same at k)))
 
@@ -209,14 +230,16 @@ module _ (t : Table) (m : PlainMap) (n : ℕ) (given : Given t m n) where
   step-safe : (xs : List Store) → stepIn t (headerOf t) (stepItem t (headerOf t)) ≡ listed xs → EveryCut (Either m m) t xs
   step-safe xs e = item (stepItem t (headerOf t)) refl e
     where
-      by-placing : (x : Slot) → FirstInterim t x → (p : Placing) → placing t (headerOf t) (keyIn t x) ≡ p → placedBy p (stepStores t (headerOf t) x p) ≡ listed xs → EveryCut (λ (u : Table). Mends u m) t xs
+      by-placing : (x : Slot) → FirstInterim t x → (p : Placing) → placing t (headerOf t) (keyIn t x) ≡ p
+          → placedBy p (stepStores t (headerOf t) x p) ≡ listed xs → EveryCut (λ (u : Table). Mends u m) t xs
       by-placing x first (Free y) q f = rw (listed-one f) (step-cuts t m (whole-of t m n given) x (first .item) (Free y) tt q)
       by-placing x first (Move from to) q f = rw (listed-one f) (step-cuts t m (whole-of t m n given) x (first .item) (Move from to) tt q)
       by-placing x first Nowhere q f = never-listed f
 
       item : (o : Option Slot) → stepItem t (headerOf t) ≡ o → stepIn t (headerOf t) o ≡ listed xs → EveryCut (Either m m) t xs
       item none q f = never-listed f
-      item (some x) q f = cuts-weaken (λ (u : Table). Mends u m) (Either m m) (λ u k. inl k) t xs (by-placing x (step-item t x q) (placing t (headerOf t) (keyIn t x)) refl f)
+      item (some x) q f = cuts-weaken (λ (u : Table). Mends u m) (Either m m) (λ u k. inl k) t xs
+          (by-placing x (step-item t x q) (placing t (headerOf t) (keyIn t x)) refl f)
 
   pub call-cuts : (q : Call) (xs : List Store) → outcome t n q ≡ listed xs → EveryCut (Either m (mapAfter q m)) t xs
   unfolding outcome stepOf

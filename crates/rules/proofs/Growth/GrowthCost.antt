@@ -12,12 +12,15 @@ use lib.ListN.{length}
 use lib.Pow.{pow-pos, pow-add}
 use borrow.Author.Tests.{eqb-true}
 use Rattle.rules.specs.Choice.{from}
-use Rattle.rules.specs.Words.{Table, GoodHeader, headerOf, flagOf, atRest, stateWord, sizeOf, interimOf, bucketsOf, InLevel, placeOf, keyIn, tokenOf, takenOf}
+use Rattle.rules.specs.Words.{Table, GoodHeader, headerOf, flagOf, atRest, stateWord, sizeOf, interimOf, bucketsOf, InLevel, placeOf, keyIn}
+use Rattle.rules.specs.Words.{tokenOf, takenOf}
 use Rattle.rules.specs.Places.{lookup}
 use Rattle.rules.specs.Placing.{freeSlot, placing}
 use Rattle.rules.specs.Stores.{Store, placingStores, updateStores, stepStores, made}
 use Rattle.rules.specs.Soundness.{finding}
-use Rattle.rules.specs.Calls.{flagClear, changingTests, Outcome, refused, listed, placedBy, insertIn, updateIn, deleteIn, beginTests, beginOf, stepItem, stepIn, stepTests, stepOf, recoverOf, Call, query, insert, update, delete, begin, step, end, recover, testsOf, outcome}
+use Rattle.rules.specs.Calls.{flagClear, changingTests, Outcome, refused, listed, placedBy, insertIn, updateIn, deleteIn, beginTests, beginOf}
+use Rattle.rules.specs.Calls.{stepItem, stepIn, stepTests, stepOf, recoverOf, Call, query, insert, update, delete, begin, step, end, recover}
+use Rattle.rules.specs.Calls.{testsOf, outcome}
 use Rattle.rules.specs.Histories.{Event, whole, cut, kept, after, Every, Whole, ownStores, spent, OneGrowth}
 use Rattle.rules.specs.Demands.{Growing, InterimItem, withState, GrowthBound}
 use Rattle.rules.specs.declared.State.{State}
@@ -86,7 +89,8 @@ module _ (t : Table) (n : ℕ) (growing : Growing t) where
   delete-shrinks key xs e = look (lookup t (headerOf t) key) refl (checked-listed _ xs (changingTests t n) e)
     where
       look : (o : Lookup) → lookup t (headerOf t) key ≡ o → deleteIn t (headerOf t) o ≡ listed xs → Shrinks t (made t xs)
-      look (Stands x m) q f = rw (listed-one f) (clear-shrinks t (accepted-header t n (delete key) xs e) growing x (holder-taken t key x (lookup-stands t key x m q .0) .0 .used))
+      look (Stands x m) q f = rw (listed-one f)
+          (clear-shrinks t (accepted-header t n (delete key) xs e) growing x (holder-taken t key x (lookup-stands t key x m q .0) .0 .used))
       look (Absent m) q f = never-listed f
 
   recover-shrinks : (xs : List Store) → outcome t n recover ≡ listed xs → Shrinks t (made t xs)
@@ -109,7 +113,8 @@ module _ (t : Table) (n : ℕ) (growing : Growing t) where
       good : GoodHeader (length t) (headerOf t)
       good = accepted-header t n step xs e
 
-      by-placing : (x : Slot) → InterimItem t x → (p : Placing) → placing t (headerOf t) (keyIn t x) ≡ p → placedBy p (stepStores t (headerOf t) x p) ≡ listed xs → Steps t (made t xs) x
+      by-placing : (x : Slot) → InterimItem t x → (p : Placing) → placing t (headerOf t) (keyIn t x) ≡ p
+          → placedBy p (stepStores t (headerOf t) x p) ≡ listed xs → Steps t (made t xs) x
       by-placing x i (Free y) q f = rw (listed-one f) (step-less t good growing x i (Free y) q)
       by-placing x i (Move from to) q f = rw (listed-one f) (step-less t good growing x i (Move from to) q)
       by-placing x i Nowhere q f = never-listed f
@@ -120,7 +125,9 @@ module _ (t : Table) (n : ℕ) (growing : Growing t) where
 
   begin-refused : (xs : List Store) → outcome t n begin ≡ listed xs → ⊥
   unfolding outcome beginOf beginTests atRest
-  begin-refused xs e = growing (eqb-true _ _ (checked-passed _ xs (beginTests (headerOf t)) (checked-listed _ xs (changingTests t n) e) (atRest (headerOf t .state), AlreadyGrowing) (here refl)))
+  begin-refused xs e = growing
+      (eqb-true _ _ (checked-passed _ xs (beginTests (headerOf t)) (checked-listed _ xs (changingTests t n) e)
+      (atRest (headerOf t .state), AlreadyGrowing) (here refl)))
 
 -- ---- the items of the interim level
 
@@ -139,12 +146,14 @@ module _ (t u : Table) where
   shrinks-count : Shrinks t u → count u ≤ count t
   unfolding count
   shrinks-count s =
-      rw (s .header) (total-least (λ j. takenOf (headerOf t) (tokenOf u j)) (λ j. takenOf (headerOf t) (tokenOf t j)) (bucketsOf (sizeOf (interimOf (headerOf t .state)))) (λ j i. s .bits j (in-interim (headerOf t .state) j i)))
+      rw (s .header) (total-least (λ j. takenOf (headerOf t) (tokenOf u j)) (λ j. takenOf (headerOf t) (tokenOf t j))
+      (bucketsOf (sizeOf (interimOf (headerOf t .state)))) (λ j i. s .bits j (in-interim (headerOf t .state) j i)))
 
   steps-count : (x : Slot) → Steps t u x → count u + 1 ≤ count t
   unfolding count
   steps-count x s =
-      rw (s .shrinks .header) (total-less (λ j. takenOf (headerOf t) (tokenOf u j)) (λ j. takenOf (headerOf t) (tokenOf t j)) (bucketsOf (sizeOf (interimOf (headerOf t .state))))
+      rw (s .shrinks .header) (total-less (λ j. takenOf (headerOf t) (tokenOf u j)) (λ j. takenOf (headerOf t) (tokenOf t j))
+      (bucketsOf (sizeOf (interimOf (headerOf t .state))))
       (λ j i. s .shrinks .bits j (in-interim (headerOf t .state) j i)) (x .bucket) (interim-in (headerOf t .state) (x .bucket) (s .range)) (s .less))
 
   still-growing : headerOf u ≡ headerOf t → Growing t → Growing u
@@ -189,7 +198,8 @@ Paid t own u = (own + 10 * count u ≤ 10 * count t) × Growing u
 shrinks-paid : (t u : Table) → Growing t → Shrinks t u → Paid t 0 u
 shrinks-paid t u growing s = (omega (arith, shrinks-count t u s), still-growing t u (s .header) growing)
 
-accepted-paid : (t : Table) (n : ℕ) → Growing t → (q : Call) → (IsEnd q → ⊥) → (xs : List Store) → outcome t n q ≡ listed xs → Paid t (ownStores q (length xs)) (made t xs)
+accepted-paid : (t : Table) (n : ℕ) → Growing t → (q : Call) → (IsEnd q → ⊥) → (xs : List Store) → outcome t n q ≡ listed xs
+    → Paid t (ownStores q (length xs)) (made t xs)
 accepted-paid t n growing (query key) other xs e = rw (storesAsWritten t n (query key) xs e) (omega arith, growing)
 accepted-paid t n growing (insert key r) other xs e = shrinks-paid t (made t xs) growing (insert-shrinks t n growing key r xs e)
 accepted-paid t n growing (update key r) other xs e = shrinks-paid t (made t xs) growing (update-kept t n growing key r xs e)
@@ -238,7 +248,8 @@ unfolding count bucketsOf
 count-most t = total-most (λ j. takenOf (headerOf t) (tokenOf t j)) 4 (λ j. taken-most (headerOf t) (tokenOf t j)) _ (sizeOf (interimOf (headerOf t .state)))
 
 -- after begin the state is k + 1, phase 1
-begun : (t : Table) (n : ℕ) (xs : List Store) → outcome t n begin ≡ listed xs → (length xs ≡ 1) × (headerOf (made t xs) .state ≡ record { k = headerOf t .state .k + 1; phase = 1 })
+begun : (t : Table) (n : ℕ) (xs : List Store) → outcome t n begin ≡ listed xs
+    → (length xs ≡ 1) × (headerOf (made t xs) .state ≡ record { k = headerOf t .state .k + 1; phase = 1 })
 unfolding withState stateWord
 begun t n xs e =
     let good = accepted-header t n begin xs e in

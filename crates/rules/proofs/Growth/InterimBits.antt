@@ -46,10 +46,42 @@ taken-most h w = select-most (isTaken h w) slots
 -- a word with one bit changed counts that bit otherwise, and the rest alike
 module _ (h : Header) (w v : ℕ) (b : Bool) where
   taken-changed : (s : ℕ) → s < 4 → Bit h w v s b → takenOf h v + one (isTaken h w s) ≡ takenOf h w + one b
-  taken-changed zero l bit = rw (taken-sum h v, taken-sum h w, bit .here, bit .other 1 (omega arith) (λ e. omega arith), bit .other 2 (omega arith) (λ e. omega arith), bit .other 3 (omega arith) (λ e. omega arith)) (omega arith)
-  taken-changed (suc zero) l bit = rw (taken-sum h v, taken-sum h w, bit .here, bit .other 0 (omega arith) (λ e. omega arith), bit .other 2 (omega arith) (λ e. omega arith), bit .other 3 (omega arith) (λ e. omega arith)) (omega arith)
-  taken-changed (suc (suc zero)) l bit = rw (taken-sum h v, taken-sum h w, bit .here, bit .other 0 (omega arith) (λ e. omega arith), bit .other 1 (omega arith) (λ e. omega arith), bit .other 3 (omega arith) (λ e. omega arith)) (omega arith)
-  taken-changed (suc (suc (suc zero))) l bit = rw (taken-sum h v, taken-sum h w, bit .here, bit .other 0 (omega arith) (λ e. omega arith), bit .other 1 (omega arith) (λ e. omega arith), bit .other 2 (omega arith) (λ e. omega arith)) (omega arith)
+  taken-changed zero l bit =
+      rw (
+        taken-sum h v,
+        taken-sum h w,
+        bit .here,
+        bit .other 1 (omega arith) (λ e. omega arith),
+        bit .other 2 (omega arith) (λ e. omega arith),
+        bit .other 3 (omega arith) (λ e. omega arith),
+      ) (omega arith)
+  taken-changed (suc zero) l bit =
+      rw (
+        taken-sum h v,
+        taken-sum h w,
+        bit .here,
+        bit .other 0 (omega arith) (λ e. omega arith),
+        bit .other 2 (omega arith) (λ e. omega arith),
+        bit .other 3 (omega arith) (λ e. omega arith),
+      ) (omega arith)
+  taken-changed (suc (suc zero)) l bit =
+      rw (
+        taken-sum h v,
+        taken-sum h w,
+        bit .here,
+        bit .other 0 (omega arith) (λ e. omega arith),
+        bit .other 1 (omega arith) (λ e. omega arith),
+        bit .other 3 (omega arith) (λ e. omega arith),
+      ) (omega arith)
+  taken-changed (suc (suc (suc zero))) l bit =
+      rw (
+        taken-sum h v,
+        taken-sum h w,
+        bit .here,
+        bit .other 0 (omega arith) (λ e. omega arith),
+        bit .other 1 (omega arith) (λ e. omega arith),
+        bit .other 2 (omega arith) (λ e. omega arith),
+      ) (omega arith)
   taken-changed (suc (suc (suc (suc s)))) l bit = absurd (omega arith)
 
 module _ (h : Header) (w s : ℕ) (low : s < 4) where

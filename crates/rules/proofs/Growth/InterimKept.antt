@@ -9,7 +9,8 @@ use mathlib.Core.Option.{Option, none, some}
 use native.Mathlib.Omega.{arith}
 use native.Mathlib.Decide.{ℕ-discrete}
 use lib.ListN.{length}
-use Rattle.rules.specs.Words.{Table, GoodHeader, headerOf, flagOf, interim, topOf, bottomOf, interimOf, levelsInUse, InLevel, InUse, placeOf, tokenWord, keyWord, functionWord, placeWord, keyIn, recordIn, tokenOf, hide, takenOf, taken}
+use Rattle.rules.specs.Words.{Table, GoodHeader, headerOf, flagOf, interim, topOf, bottomOf, interimOf, levelsInUse, InLevel, InUse, placeOf}
+use Rattle.rules.specs.Words.{tokenWord, keyWord, functionWord, placeWord, keyIn, recordIn, tokenOf, hide, takenOf, taken}
 use Rattle.rules.specs.Placing.{freeSlot, placing}
 use Rattle.rules.specs.Stores.{putStores, clearStores, moveStores, placingStores, redoStores, updateWith, stepStores, made}
 use Rattle.rules.specs.Soundness.{TakenSlot}
@@ -67,7 +68,12 @@ shrinks-twice t u v a b = record {
 -- one slot is written
 module _ (t u : Table) (x : Slot) (v k : ℕ) (r : Record) (written : SlotWritten t u x v k r) where
   written-keeps : (InLevel (interimOf (headerOf t .state)) (x .bucket) → ⊥) → Keeps t u
-  written-keeps far = record { long = written .near .long; header = written .near .header; tokens = λ j range. written .near .tokens j (λ e. far (rw e at range)) }
+  written-keeps far = record {
+    long = written .near .long;
+    header = written .near .header;
+    tokens =
+        λ j range. written .near .tokens j (λ e. far (rw e at range));
+  }
 
   written-shrinks : takenOf (headerOf t) v ≤ takenOf (headerOf t) (tokenOf t (x .bucket)) → Shrinks t u
   written-shrinks few = record { header = written .near .header; bits = λ j range. go j (ℕ-discrete j (x .bucket)) }
@@ -113,20 +119,26 @@ module _ (t : Table) (good : GoodHeader (length t) (headerOf t)) (growing : Grow
       let clears = clearStores h (tokenOf t (from .bucket)) from in
       let last = putStores h (hide h (tokenOf t (from .bucket)) (from .slot)) from key r in
       let a = written-keeps t (made t puts) to _ _ _ (put-written t to (g .slot) (within to target) h _ _ _) (settled-apart to target (g .level)) in
-      let far : (u : Table) → Keeps t u → InLevel (interimOf (headerOf u .state)) (from .bucket) → ⊥ = λ u k range. settled-apart from used (f .level) (rw (k .header) at range) in
-      let b = written-keeps (made t puts) (made (made t puts) clears) from _ _ _ (clear-written (made t puts) from (f .slot) (rw (a .long) (within from used)) h _) (far (made t puts) a) in
+      let far : (u : Table) → Keeps t u → InLevel (interimOf (headerOf u .state)) (from .bucket) → ⊥ =
+      λ u k range. settled-apart from used (f .level) (rw (k .header) at range) in
+      let b = written-keeps (made t puts) (made (made t puts) clears) from _ _ _
+      (clear-written (made t puts) from (f .slot) (rw (a .long) (within from used)) h _) (far (made t puts) a) in
       let c = keeps-twice t (made t puts) (made (made t puts) clears) a b in
-      let d = written-keeps (made (made t puts) clears) (made (made (made t puts) clears) last) from _ _ _ (put-written (made (made t puts) clears) from (f .slot) (rw (c .long) (within from used)) h _ _ _) (far _ c) in
-      let whole : made t ((puts ++ clears) ++ last) ≡ made (made (made t puts) clears) last = made-append t (puts ++ clears) last ∙ rw (made-append t puts clears) in
+      let d = written-keeps (made (made t puts) clears) (made (made (made t puts) clears) last) from _ _ _
+      (put-written (made (made t puts) clears) from (f .slot) (rw (c .long) (within from used)) h _ _ _) (far _ c) in
+      let whole : made t ((puts ++ clears) ++ last) ≡ made (made (made t puts) clears) last =
+      made-append t (puts ++ clears) last ∙ rw (made-append t puts clears) in
       rw whole (keeps-twice t (made (made t puts) clears) _ c d)
   placing-keeps key r Nowhere e = record { long = refl; header = refl; tokens = λ j range. refl }
 
   -- delete, and recovery of a doubled key
   pub clear-shrinks : (x : Slot) → InUse (headerOf t .state) x → Shrinks t (made t (clearStores (headerOf t) (tokenOf t (x .bucket)) x))
-  clear-shrinks x used = written-shrinks t _ x _ _ _ (clear-written t x (used .slot) (within x used) (headerOf t) (tokenOf t (x .bucket))) (hide-fewer (headerOf t) (tokenOf t (x .bucket)) (x .slot) (used .slot))
+  clear-shrinks x used = written-shrinks t _ x _ _ _ (clear-written t x (used .slot) (within x used) (headerOf t) (tokenOf t (x .bucket)))
+      (hide-fewer (headerOf t) (tokenOf t (x .bucket)) (x .slot) (used .slot))
 
   -- update: the bucket has as many taken slots as before
-  pub update-shrinks : flagOf t ≡ 0 → (x : Slot) → TakenSlot t x → (key : ℕ) (r : Record) (o : Option Slot) → freeSlot t (headerOf t) (placeOf x) ≡ o → Shrinks t (made t (updateWith t (headerOf t) x o key r))
+  pub update-shrinks : flagOf t ≡ 0 → (x : Slot) → TakenSlot t x → (key : ℕ) (r : Record) (o : Option Slot) → freeSlot t (headerOf t) (placeOf x) ≡ o
+      → Shrinks t (made t (updateWith t (headerOf t) x o key r))
   unfolding taken
   update-shrinks flag x item key r (some y) e =
       let h = headerOf t in
@@ -143,7 +155,8 @@ module _ (t : Table) (good : GoodHeader (length t) (headerOf t)) (growing : Grow
   redo-shrinks x used r =
       let xs = redoStores x r in
       let near = touched x (used .slot) t xs (inr (inr (omega arith)), (inr (inr (omega arith)), (inl (omega arith), tt))) in
-      let token : tokenOf (made t xs) (x .bucket) ≡ tokenOf t (x .bucket) = made-kept t xs (tokenWord (x .bucket)) (omega arith, (omega arith, (omega arith, tt))) in
+      let token : tokenOf (made t xs) (x .bucket) ≡ tokenOf t (x .bucket) =
+      made-kept t xs (tokenWord (x .bucket)) (omega arith, (omega arith, (omega arith, tt))) in
       record { header = near .header; bits = λ j range. go near token j (ℕ-discrete j (x .bucket)) }
     where
       go : Touched t (made t (redoStores x r)) x → tokenOf (made t (redoStores x r)) (x .bucket) ≡ tokenOf t (x .bucket) → (j : ℕ) → Dec (j ≡ x .bucket)
@@ -163,7 +176,8 @@ module _ (t : Table) (good : GoodHeader (length t) (headerOf t)) (growing : Grow
       let token = k .tokens (x .bucket) range in
       let clear = clear-written (made t puts) x (used .slot) (rw (k .long) (within x used)) h (tokenOf t (x .bucket)) in
       let whole = made-append t puts (clearStores h (tokenOf t (x .bucket)) x) in
-      let fewer : takenOf h (hide h (tokenOf t (x .bucket)) (x .slot)) ≤ takenOf h (tokenOf t (x .bucket)) = hide-fewer h (tokenOf t (x .bucket)) (x .slot) (used .slot) in
+      let fewer : takenOf h (hide h (tokenOf t (x .bucket)) (x .slot)) ≤ takenOf h (tokenOf t (x .bucket)) =
+      hide-fewer h (tokenOf t (x .bucket)) (x .slot) (used .slot) in
       let second = written-shrinks (made t puts) _ x _ _ _ clear (rw (k .header, token) fewer) in
       rw whole (record {
         shrinks = shrinks-twice t (made t puts) _ (keeps-shrinks t (made t puts) k) second;

@@ -4,7 +4,8 @@
 use Prim.Native.Nat.{ℕ, _<_}
 use mathlib.Core.Path.{_≡_, refl, sym, ap, _∙_}
 use mathlib.Core.Bool.{Bool, true, false, cond}
-use mathlib.Core.List.{List, [], _∷_, _++_, flatMap, List·Memᴰ as In, List·Memᴰ·head as here, List·Memᴰ·tail as there, List·Memᴰ·not-nil, List·Memᴰ·cases-cons, List·Memᴰ·append-cases, List·Memᴰ·eq-of-singleton, Memᴰ·append-left, Memᴰ·append-right}
+use mathlib.Core.List.{List, [], _∷_, _++_, flatMap, List·Memᴰ as In, List·Memᴰ·head as here, List·Memᴰ·tail as there, List·Memᴰ·not-nil}
+use mathlib.Core.List.{List·Memᴰ·cases-cons, List·Memᴰ·append-cases, List·Memᴰ·eq-of-singleton, Memᴰ·append-left, Memᴰ·append-right}
 use mathlib.Core.Logic.{_↔_, _⊎_, inl, inr, ⊎-elim}
 use native.Mathlib.Omega.{arith}
 use native.Mathlib.Decide.{ℕ-discrete}
@@ -35,8 +36,12 @@ module _ (x : Hashes) (l : Level) where
   unfolding placesIn samePlace
   place-among p = go (samePlace (firstPlace x l) (secondPlace x l)) refl
     where
-      go : (b : Bool) → samePlace (firstPlace x l) (secondPlace x l) ≡ b → In p (firstPlace x l ∷ cond b [] (secondPlace x l ∷ [])) ↔ ((p ≡ firstPlace x l) ⊎ (p ≡ secondPlace x l))
-      go true q = (λ i. inl (List·Memᴰ·eq-of-singleton i), λ s. here (⊎-elim (λ (e : p ≡ firstPlace x l). e) (λ (e : p ≡ secondPlace x l). e ∙ one-place (eqb-true _ _ q)) s))
+      go : (b : Bool) → samePlace (firstPlace x l) (secondPlace x l) ≡ b
+          → In p (firstPlace x l ∷ cond b [] (secondPlace x l ∷ [])) ↔ ((p ≡ firstPlace x l) ⊎ (p ≡ secondPlace x l))
+      go true q = (
+        λ i. inl (List·Memᴰ·eq-of-singleton i),
+        λ s. here (⊎-elim (λ (e : p ≡ firstPlace x l). e) (λ (e : p ≡ secondPlace x l). e ∙ one-place (eqb-true _ _ q)) s),
+      )
       go false q = (
         λ i. ⊎-elim (λ (e : p ≡ firstPlace x l). inl e) (λ (j : In p (secondPlace x l ∷ [])). inr (List·Memᴰ·eq-of-singleton j)) (List·Memᴰ·cases-cons i),
         λ s. ⊎-elim (λ (e : p ≡ firstPlace x l). here e) (λ (e : p ≡ secondPlace x l). there (here e)) s,
@@ -77,7 +82,8 @@ module _ (t : Table) (h : Header) where
   tried goals x = record { item = x; goals = goals (hashesOf h (keyIn t x)) x }
 
   module _ (x : Hashes) (l : Level) (goals : Hashes → Slot → List Place) where
-    item-goal : (c : Candidate) (p : Place) → In c (itemsOf t h (placesIn x l) goals) → In p (c .goals) → AtPlace x l (c .item) × In p (goals (hashesOf h (keyIn t (c .item))) (c .item))
+    item-goal : (c : Candidate) (p : Place) → In c (itemsOf t h (placesIn x l) goals) → In p (c .goals)
+        → AtPlace x l (c .item) × In p (goals (hashesOf h (keyIn t (c .item))) (c .item))
     unfolding itemsOf tried
     item-goal c p i j =
         let r = map-in (tried goals) (flatMap slotsIn (placesIn x l)) c i in
@@ -101,7 +107,8 @@ module _ (t : Table) (h : Header) where
         → CandidateSlot h key (c .item) × MayGo h (hashesOf h (keyIn t (c .item))) (c .item) to
     unfolding candidates upward across topOf bottomOf
     candidate-goes c i to m j =
-        ⊎-elim (λ (a : In c (across upper ++ across lower)). ⊎-elim (λ (b : In c (across upper)). above b) (λ (b : In c (across lower)). below b) (List·Memᴰ·append-cases (across upper) a))
+        ⊎-elim (λ (a : In c (across upper ++ across lower)). ⊎-elim (λ (b : In c (across upper)). above b) (λ (b : In c (across lower)). below b)
+        (List·Memᴰ·append-cases (across upper) a))
         (λ (a : In c upward). rising a) (List·Memᴰ·append-cases (across upper ++ across lower) i)
       where
         upper : Level
@@ -114,13 +121,19 @@ module _ (t : Table) (h : Header) where
         Goes = CandidateSlot h key (c .item) × MayGo h (hashesOf h (keyIn t (c .item))) (c .item) to
 
         above : In c (across upper) → Goes
-        above b = let r = item-goal (hashesOf h key) upper _ c (placeOf to) b j in (inl (r .0), inl (at-level _ upper (c .item) (r .0), other-place _ upper (c .item) to (r .1)))
+        above b =
+            let r = item-goal (hashesOf h key) upper _ c (placeOf to) b j in
+            (inl (r .0), inl (at-level _ upper (c .item) (r .0), other-place _ upper (c .item) to (r .1)))
 
         below : In c (across lower) → Goes
-        below b = let r = item-goal (hashesOf h key) lower _ c (placeOf to) b j in (inr (r .0), inr (inl (at-level _ lower (c .item) (r .0), other-place _ lower (c .item) to (r .1))))
+        below b =
+            let r = item-goal (hashesOf h key) lower _ c (placeOf to) b j in
+            (inr (r .0), inr (inl (at-level _ lower (c .item) (r .0), other-place _ lower (c .item) to (r .1))))
 
         rising : In c upward → Goes
-        rising b = let r = item-goal (hashesOf h key) lower _ c (placeOf to) b j in (inr (r .0), inr (inr (at-level _ lower (c .item) (r .0), (m, place-among _ upper (placeOf to) .0 (r .1)))))
+        rising b =
+            let r = item-goal (hashesOf h key) lower _ c (placeOf to) b j in
+            (inr (r .0), inr (inr (at-level _ lower (c .item) (r .0), (m, place-among _ upper (placeOf to) .0 (r .1)))))
 
     pub goes-candidate : (from to : Slot) → CandidateSlot h key from → MayGo h (hashesOf h (keyIn t from)) from to
         → (c : Candidate) × In c (candidates t h (hashesOf h key)) × (c .item ≡ from) × In (placeOf to) (c .goals)

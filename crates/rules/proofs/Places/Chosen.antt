@@ -67,13 +67,17 @@ module _ (t : Table) (h : Header) where
 
   -- where a placing is a free slot, it was chosen in the top, or in the bottom where the top has no room
   pub free-chosen : (key : ℕ) (s : Slot) → placing t h key ≡ Free s
-      → Chosen t h (hashesOf h key) (topOf (h .state)) s ⊎ ((roomIn t h (hashesOf h key) (topOf (h .state)) ≡ none) × Chosen t h (hashesOf h key) (bottomOf (h .state)) s)
+      → Chosen t h (hashesOf h key) (topOf (h .state)) s
+      ⊎ ((roomIn t h (hashesOf h key) (topOf (h .state)) ≡ none) × Chosen t h (hashesOf h key) (bottomOf (h .state)) s)
   unfolding placing
-  free-chosen key s e = go (roomIn t h (hashesOf h key) (topOf (h .state))) (roomIn t h (hashesOf h key) (bottomOf (h .state))) (firstOf (moveOf t h) (candidates t h (hashesOf h key))) refl refl refl e
+  free-chosen key s e = go (roomIn t h (hashesOf h key) (topOf (h .state))) (roomIn t h (hashesOf h key) (bottomOf (h .state)))
+      (firstOf (moveOf t h) (candidates t h (hashesOf h key))) refl refl refl e
     where
-      go : (a b : Option Slot) (c : Option Placing) → roomIn t h (hashesOf h key) (topOf (h .state)) ≡ a → roomIn t h (hashesOf h key) (bottomOf (h .state)) ≡ b → firstOf (moveOf t h) (candidates t h (hashesOf h key)) ≡ c
+      go : (a b : Option Slot) (c : Option Placing) → roomIn t h (hashesOf h key) (topOf (h .state)) ≡ a
+          → roomIn t h (hashesOf h key) (bottomOf (h .state)) ≡ b → firstOf (moveOf t h) (candidates t h (hashesOf h key)) ≡ c
           → Option·getD (orElse (Option·map Free a) (orElse (Option·map Free b) c)) Nowhere ≡ Free s
-          → Chosen t h (hashesOf h key) (topOf (h .state)) s ⊎ ((roomIn t h (hashesOf h key) (topOf (h .state)) ≡ none) × Chosen t h (hashesOf h key) (bottomOf (h .state)) s)
+          → Chosen t h (hashesOf h key) (topOf (h .state)) s
+          ⊎ ((roomIn t h (hashesOf h key) (topOf (h .state)) ≡ none) × Chosen t h (hashesOf h key) (bottomOf (h .state)) s)
       go (some x) b c p q r e = let k : x ≡ s = cc in inl (room-chosen _ _ s (p ∙ ap some k))
       go none (some x) c p q r e = let k : x ≡ s = cc in inr (p, room-chosen _ _ s (q ∙ ap some k))
       go none none none p q r e = absurd (let z : _≡_ {A = ℕ} 0 1 = cc in omega arith)

@@ -50,7 +50,16 @@ module _ (hit : Place → Option Slot) where
           → (seek hit (m + 1) ps ≡ Stands x n → Reached (m + 1) ps x n) → Reached m (p ∷ ps) x n
       go (some y) q e k =
           let r = stands-one y x (m + 1) n e in
-          record { before = []; place = p; behind = ps; order = refl; position = omega (arith, r .1); none-before = λ p i. absurd (List·Memᴰ·not-nil i); answer = q ∙ ap some (r .0) }
+          record {
+            before = [];
+            place = p;
+            behind = ps;
+            order = refl;
+            position = omega (arith, r .1);
+            none-before =
+                λ p i. absurd (List·Memᴰ·not-nil i);
+            answer = q ∙ ap some (r .0);
+          }
       go none q e k =
           let r = k e in
           record {
@@ -134,7 +143,8 @@ pub placed-in : (f : ℕ) (t : Table) → OrderlyTable f t → (x : Slot) → Ta
 placed-in f t o x u = let p = o .placed x u in own-place (headerOf t .c) (headerOf t) (o .header .state) (keyIn t x) x (u .used) (p .0) (p .1) (sym (p .2))
 
 -- such a slot is not missed
-pub lookup-sees : (t : Table) (x : Slot) → TakenSlot t x → In (placeOf x) (placesOf (headerOf t) (keyIn t x)) → (n : ℕ) → lookup t (headerOf t) (keyIn t x) ≡ Absent n → ⊥
+pub lookup-sees : (t : Table) (x : Slot) → TakenSlot t x → In (placeOf x) (placesOf (headerOf t) (keyIn t x)) → (n : ℕ)
+    → lookup t (headerOf t) (keyIn t x) ≡ Absent n → ⊥
 lookup-sees t x u p n e =
     never (holds-tells t (headerOf t) (keyIn t x) x .1 (u .shown, refl))
     (lookup-absent t (headerOf t) (keyIn t x) n e .1 (placeOf x) p x (slots-of-place x (u .used .slot)))

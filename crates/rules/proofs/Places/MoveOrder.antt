@@ -43,7 +43,8 @@ module _ (t : Table) (h : Header) where
     unfolding itemsOf slotsIn flatMap items candidate
     items-one e = rw (places-one x l e)
 
-    pub items-two : (firstPlace x l .bucket ≡ secondPlace x l .bucket → ⊥) → itemsOf t h (placesIn x l) goals ≡ items goals (firstPlace x l) ++ items goals (secondPlace x l)
+    pub items-two : (firstPlace x l .bucket ≡ secondPlace x l .bucket → ⊥)
+        → itemsOf t h (placesIn x l) goals ≡ items goals (firstPlace x l) ++ items goals (secondPlace x l)
     unfolding itemsOf slotsIn flatMap items candidate
     items-two n = rw (places-two x l n)
 

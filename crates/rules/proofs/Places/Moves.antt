@@ -51,7 +51,8 @@ module _ (t : Table) (h : Header) where
   unfolding moveOf
   goes c from to e = go (firstOf (freeSlot t h) (c .goals)) refl e
     where
-      go : (o : Option Slot) → firstOf (freeSlot t h) (c .goals) ≡ o → Option·map (λ (s : Slot). Move (c .item) s) o ≡ some (Move from to) → (c .item ≡ from) × First (freeSlot t h) (c .goals) to
+      go : (o : Option Slot) → firstOf (freeSlot t h) (c .goals) ≡ o → Option·map (λ (s : Slot). Move (c .item) s) o ≡ some (Move from to)
+          → (c .item ≡ from) × First (freeSlot t h) (c .goals) to
       go none q e = not-some e
       go (some s) q e = let k : s ≡ to = cc in (cc, firstOf-some (freeSlot t h) (c .goals) to (q ∙ ap some k))
 
@@ -68,7 +69,8 @@ module _ (t : Table) (h : Header) where
           later = f .later;
           goals-before = g .1 .earlier;
           goals-after = g .1 .later;
-          order = f .split ∙ ap (λ (c : Candidate). f .earlier ++ (c ∷ f .later)) (λ i. record { item = g .0 i; goals = (g .1 .split ∙ ap (λ (p : Place). g .1 .earlier ++ (p ∷ g .1 .later)) (sym (k .place))) i });
+          order = f .split ∙ ap (λ (c : Candidate). f .earlier ++ (c ∷ f .later))
+              (λ i. record { item = g .0 i; goals = (g .1 .split ∙ ap (λ (p : Place). g .1 .earlier ++ (p ∷ g .1 .later)) (sym (k .place))) i });
           full-earlier = λ c i p j. stuck c (f .before c i) p j;
           full-before = λ p i. all-taken t h p (g .1 .before p i);
           lowest = rw (k .place) k;
@@ -76,9 +78,11 @@ module _ (t : Table) (h : Header) where
 
     pub move-first : placing t h key ≡ Move from to → Moved t h key from to
     unfolding placing
-    move-first e = go (roomIn t h (hashesOf h key) (topOf (h .state))) (roomIn t h (hashesOf h key) (bottomOf (h .state))) (firstOf (moveOf t h) (candidates t h (hashesOf h key))) refl refl refl e
+    move-first e = go (roomIn t h (hashesOf h key) (topOf (h .state))) (roomIn t h (hashesOf h key) (bottomOf (h .state)))
+        (firstOf (moveOf t h) (candidates t h (hashesOf h key))) refl refl refl e
       where
-        go : (a b : Option Slot) (c : Option Placing) → roomIn t h (hashesOf h key) (topOf (h .state)) ≡ a → roomIn t h (hashesOf h key) (bottomOf (h .state)) ≡ b → firstOf (moveOf t h) (candidates t h (hashesOf h key)) ≡ c
+        go : (a b : Option Slot) (c : Option Placing) → roomIn t h (hashesOf h key) (topOf (h .state)) ≡ a
+            → roomIn t h (hashesOf h key) (bottomOf (h .state)) ≡ b → firstOf (moveOf t h) (candidates t h (hashesOf h key)) ≡ c
             → Option·getD (orElse (Option·map Free a) (orElse (Option·map Free b) c)) Nowhere ≡ Move from to → Moved t h key from to
         go (some x) b c p q r e = absurd (let z : _≡_ {A = ℕ} 0 1 = cc in omega arith)
         go none (some x) c p q r e = absurd (let z : _≡_ {A = ℕ} 0 1 = cc in omega arith)

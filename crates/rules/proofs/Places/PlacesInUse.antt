@@ -78,7 +78,14 @@ module _ (s : State) where
   unfolding placeOf
   slot-of-place p x u i =
       let e = slot-place p x i in
-      record { level = u .level; used = u .used; name = ap (λ (z : Place). z .level) e ∙ u .name; bucket = rw (ap (λ (z : Place). z .bucket) e) (u .bucket); slot = slot-number p x i }
+      record {
+        level = u .level;
+        used = u .used;
+        name = ap (λ (z : Place). z .level) e ∙ u .name;
+        bucket =
+            rw (ap (λ (z : Place). z .bucket) e) (u .bucket);
+        slot = slot-number p x i;
+      }
 
   module _ (c : ℕ) (good : GoodState c s) where
     pub place-by-bucket : (p q : Place) → PlaceInUse s p → PlaceInUse s q → p .bucket ≡ q .bucket → p ≡ q
@@ -104,12 +111,14 @@ slot-within size h g x u =
     (bucket-fits size h g e (x .bucket) (exponent-fits (h .c) (h .state) (g .state) (u .level) (u .used)) (omega (arith, u .bucket, pow-pos e)), u .slot)
 
 -- a slot in a bucket of a key's place stands in that place, level and all
-pub own-place : (c : ℕ) (h : Header) → GoodState c (h .state) → (key : ℕ) (x : Slot) → InUse (h .state) x → (p : Place) → In p (placesOf h key) → x .bucket ≡ p .bucket → In (placeOf x) (placesOf h key)
+pub own-place : (c : ℕ) (h : Header) → GoodState c (h .state) → (key : ℕ) (x : Slot) → InUse (h .state) x → (p : Place) → In p (placesOf h key)
+    → x .bucket ≡ p .bucket → In (placeOf x) (placesOf h key)
 unfolding placeOf
 own-place c h good key x u p i e = Memᴰ·cast (place-by-bucket (h .state) c good (placeOf x) p (place-of-slot (h .state) x u) (places-in-use h key p i) e) i
 
 -- "each taken slot in a place of its key" is tested by the bucket alone
-pub in-place : (c : ℕ) (t : Table) → GoodState c (headerOf t .state) → (x : Slot) → InUse (headerOf t .state) x → inPlace t x ≡ true → In (placeOf x) (placesOf (headerOf t) (keyIn t x))
+pub in-place : (c : ℕ) (t : Table) → GoodState c (headerOf t .state) → (x : Slot) → InUse (headerOf t .state) x → inPlace t x ≡ true
+    → In (placeOf x) (placesOf (headerOf t) (keyIn t x))
 unfolding inPlace samePlace placeOf
 in-place c t good x u e =
     let h = headerOf t in

@@ -19,7 +19,8 @@ use Rattle.rules.proofs.Words.Headers.{bucket-fits}
 use Rattle.rules.proofs.Words.Levels.{exponent-fits}
 
 -- a place of a level, by its name and range
-pub place-in-level : (x : Hashes) (l : Level) (p : Place) → In p (placesIn x l) → (p .level ≡ l .name) × (sizeOf l - 1 ≤ p .bucket) × (p .bucket + 1 < 2 * sizeOf l)
+pub place-in-level : (x : Hashes) (l : Level) (p : Place) → In p (placesIn x l)
+    → (p .level ≡ l .name) × (sizeOf l - 1 ≤ p .bucket) × (p .bucket + 1 < 2 * sizeOf l)
 unfolding placesIn firstPlace secondPlace placeAt
 place-in-level x l p i =
     ⊎-elim (λ (q : p ≡ firstPlace x l). at (x .first) q) (λ j. other (samePlace (firstPlace x l) (secondPlace x l)) j) (List·Memᴰ·cases-cons i)

@@ -64,7 +64,8 @@ module _ (t : Table) (h : Header) where
   unfolding roomIn emptier fewer
   no-room x l e = go (fewer t h (secondPlace x l) (firstPlace x l)) refl e
     where
-      go : (b : Bool) → fewer t h (secondPlace x l) (firstPlace x l) ≡ b → freeSlot t h (cond b (secondPlace x l) (firstPlace x l)) ≡ none → Full t h (firstPlace x l) × Full t h (secondPlace x l)
+      go : (b : Bool) → fewer t h (secondPlace x l) (firstPlace x l) ≡ b → freeSlot t h (cond b (secondPlace x l) (firstPlace x l)) ≡ none
+          → Full t h (firstPlace x l) × Full t h (secondPlace x l)
       go true q e =
           let less : takenIn t h (secondPlace x l) < takenIn t h (firstPlace x l) = ltb-true _ _ q in
           absurd (omega (arith, taken-most (firstPlace x l), count-of-full (secondPlace x l) (all-taken t h (secondPlace x l) e)))
@@ -102,7 +103,8 @@ module _ (t : Table) (h : Header) where
     free-elsewhere x to a m f e = never (rw e at (candidates-taken (record { level = x .level; bucket = x .bucket; slot = to .slot }) beside)) f
       where
         beside : CandidateSlot h key (record { level = x .level; bucket = x .bucket; slot = to .slot })
-        beside = ⊎-elim (λ (b : AtPlace (hashesOf h key) (topOf (h .state)) x). inl (m, b .1)) (λ (b : AtPlace (hashesOf h key) (bottomOf (h .state)) x). inr (m, b .1)) a
+        beside = ⊎-elim (λ (b : AtPlace (hashesOf h key) (topOf (h .state)) x). inl (m, b .1))
+            (λ (b : AtPlace (hashesOf h key) (bottomOf (h .state)) x). inr (m, b .1)) a
 
 -- ---- the placing
 
@@ -116,7 +118,8 @@ module _ (t : Table) (h : Header) (key : ℕ) where
   placing-candidate : (x : Slot) → placing t h key ≡ Free x → CandidateSlot h key x × (taken t h x ≡ false)
   placing-candidate x e = go (free-chosen t h key x e)
     where
-      go : Chosen t h (hashesOf h key) (topOf (h .state)) x ⊎ ((roomIn t h (hashesOf h key) (topOf (h .state)) ≡ none) × Chosen t h (hashesOf h key) (bottomOf (h .state)) x)
+      go : Chosen t h (hashesOf h key) (topOf (h .state)) x
+          ⊎ ((roomIn t h (hashesOf h key) (topOf (h .state)) ≡ none) × Chosen t h (hashesOf h key) (bottomOf (h .state)) x)
           → CandidateSlot h key x × (taken t h x ≡ false)
       go (inl c) = (inl (slot-number (placeOf x) x (c .lowest .inside), c .among), c .lowest .free)
       go (inr (n, c)) = (inr (slot-number (placeOf x) x (c .lowest .inside), c .among), c .lowest .free)
@@ -164,9 +167,11 @@ module _ (t : Table) (h : Header) (key : ℕ) where
       go (some to) e = let z : _≡_ {A = ℕ} 0 1 = cc in omega arith
 
   nothing-found : placing t h key ≡ Nowhere
-      → (roomIn t h (hashesOf h key) (topOf (h .state)) ≡ none) × (roomIn t h (hashesOf h key) (bottomOf (h .state)) ≡ none) × (firstOf (moveOf t h) (candidates t h (hashesOf h key)) ≡ none)
+      → (roomIn t h (hashesOf h key) (topOf (h .state)) ≡ none) × (roomIn t h (hashesOf h key) (bottomOf (h .state)) ≡ none)
+      × (firstOf (moveOf t h) (candidates t h (hashesOf h key)) ≡ none)
   unfolding placing
-  nothing-found e = go (roomIn t h (hashesOf h key) (topOf (h .state))) (roomIn t h (hashesOf h key) (bottomOf (h .state))) (firstOf (moveOf t h) (candidates t h (hashesOf h key))) refl e
+  nothing-found e = go (roomIn t h (hashesOf h key) (topOf (h .state))) (roomIn t h (hashesOf h key) (bottomOf (h .state)))
+      (firstOf (moveOf t h) (candidates t h (hashesOf h key))) refl e
     where
       go : (a b : Option Slot) (c : Option Placing) → firstOf (moveOf t h) (candidates t h (hashesOf h key)) ≡ c
           → Option·getD (orElse (Option·map Free a) (orElse (Option·map Free b) c)) Nowhere ≡ Nowhere → (a ≡ none) × (b ≡ none) × (c ≡ none)

@@ -12,7 +12,8 @@ use borrow.Author.Tests.{le-leb}
 use Rattle.rules.specs.Choice.{all, empty}
 use Rattle.rules.specs.Words.{Table, headerOf, GoodHeader, loggedOf, keyIn, recordIn, tokenOf, targetOf, tokenWord, keyWord}
 use Rattle.rules.specs.Stores.{clearStores, redoStores}
-use Rattle.rules.specs.Soundness.{orderlyTests, twins, TakenSlot, OrderlyTable, SoundTable, DoubledTable, FlaggedTable, sameRecord, whenStill, target, whenFlagged, finding}
+use Rattle.rules.specs.Soundness.{orderlyTests, twins, TakenSlot, OrderlyTable, SoundTable, DoubledTable, FlaggedTable, sameRecord, whenStill}
+use Rattle.rules.specs.Soundness.{target, whenFlagged, finding}
 use Rattle.rules.specs.Calls.{headerGood, listLong, refused, listed, recoverTests, recoverOf, recover, outcome}
 use Rattle.rules.specs.Demands.{OfNoKind, RecoverAnswers, RecoveryAccepts}
 use Rattle.rules.specs.declared.Slot.{Slot}
@@ -69,12 +70,26 @@ module _ (t : Table) where
   one-pair : OrderlyTable 0 t → (p : Slot × Slot) → twins t ≡ p ∷ [] → recordIn t (p .0) ≡ recordIn t (p .1) → DoubledTable t (p .0) (p .1)
   one-pair o p q e =
       let w = twins-ordered t (p .0) (p .1) (rw q (here refl)) in
-      record { orderly = o; first = w .first; later = w .later; order = w .order; key = w .key; equal = e; only = λ a b u v k. go a b (same-or-twins t a b u v k) }
+      record {
+        orderly = o;
+        first = w .first;
+        later = w .later;
+        order = w .order;
+        key = w .key;
+        equal = e;
+        only =
+            λ a b u v k. go a b (same-or-twins t a b u v k);
+      }
     where
-      go : (a b : Slot) → (a ≡ b) ⊎ (In {A = Slot × Slot} (a, b) (twins t) ⊎ In {A = Slot × Slot} (b, a) (twins t)) → (a ≡ b) ⊎ (((a ≡ p .0) × (b ≡ p .1)) ⊎ ((a ≡ p .1) × (b ≡ p .0)))
+      go : (a b : Slot) → (a ≡ b) ⊎ (In {A = Slot × Slot} (a, b) (twins t) ⊎ In {A = Slot × Slot} (b, a) (twins t))
+          → (a ≡ b) ⊎ (((a ≡ p .0) × (b ≡ p .1)) ⊎ ((a ≡ p .1) × (b ≡ p .0)))
       go a b (inl e) = inl e
-      go a b (inr (inl i)) = let k : (a, b) ≡ p = List·Memᴰ·eq-of-singleton (rw q at i) in inr (inl (ap (λ (z : Slot × Slot). z .0) k, ap (λ (z : Slot × Slot). z .1) k))
-      go a b (inr (inr i)) = let k : (b, a) ≡ p = List·Memᴰ·eq-of-singleton (rw q at i) in inr (inr (ap (λ (z : Slot × Slot). z .1) k, ap (λ (z : Slot × Slot). z .0) k))
+      go a b (inr (inl i)) =
+          let k : (a, b) ≡ p = List·Memᴰ·eq-of-singleton (rw q at i) in
+          inr (inl (ap (λ (z : Slot × Slot). z .0) k, ap (λ (z : Slot × Slot). z .1) k))
+      go a b (inr (inr i)) =
+          let k : (b, a) ≡ p = List·Memᴰ·eq-of-singleton (rw q at i) in
+          inr (inr (ap (λ (z : Slot × Slot). z .1) k, ap (λ (z : Slot × Slot). z .0) k))
 
   -- of no kind with flag 0: there is a pair, and the table is not doubled; with another flag: it is not flagged
   no-kind-still : OrderlyTable 0 t → (p : Slot × Slot) (l : List (Slot × Slot)) → twins t ≡ p ∷ l → ((x y : Slot) → DoubledTable t x y → ⊥) → OfNoKind t
@@ -100,9 +115,12 @@ module _ (t : Table) where
       let apart : NoRepeat (p ∷ (r ∷ rest)) = rw q at (twins-apart t) in
       apart .0 r (here refl) (doubled-only x y d p (rw q (here refl)) ∙ sym (doubled-only x y d r (rw q (there (here refl))))))
 
-  flagged-kind : (OrderlyTable 0 t → ⊥) → OrderlyTable 1 t → (x : Option Slot) (l : List (Slot × Slot)) → target t ≡ x → twins t ≡ l → KindOf t (whenFlagged x l)
+  flagged-kind : (OrderlyTable 0 t → ⊥) → OrderlyTable 1 t → (x : Option Slot) (l : List (Slot × Slot)) → target t ≡ x → twins t ≡ l
+      → KindOf t (whenFlagged x l)
   unfolding targetOf keyWord tokenWord
-  flagged-kind n o (some x) [] e q = let r = target-some t x e in record { orderly = o; alone = alone-tells t .0 (ap empty q); named = taken-in t x (r .0); target = r .1 }
+  flagged-kind n o (some x) [] e q =
+      let r = target-some t x e in
+      record { orderly = o; alone = alone-tells t .0 (ap empty q); named = taken-in t x (r .0); target = r .1 }
   flagged-kind n o (some x) (p ∷ rest) e q = no-kind-flagged n (λ y f. not-alone p rest q (f .alone))
   flagged-kind n o none l e q = no-kind-flagged n (λ y f. target-missed t e y (in-taken t y (f .named)) (f .target))
 
@@ -110,7 +128,8 @@ pub finding-means : (t : Table) → KindOf t (finding t)
 unfolding finding
 finding-means t = go (all (orderlyTests 0 t)) (all (orderlyTests 1 t)) refl refl
   where
-    go : (a b : Bool) → all (orderlyTests 0 t) ≡ a → all (orderlyTests 1 t) ≡ b → KindOf t (cond a (whenStill t (twins t)) (cond b (whenFlagged (target t) (twins t)) Neither))
+    go : (a b : Bool) → all (orderlyTests 0 t) ≡ a → all (orderlyTests 1 t) ≡ b
+        → KindOf t (cond a (whenStill t (twins t)) (cond b (whenFlagged (target t) (twins t)) Neither))
     go true b p q = still-kind t (orderly-tells t 0 .0 p) (twins t) refl
     go false true p q = flagged-kind t (λ o. never (orderly-tells t 0 .1 o) p) (orderly-tells t 1 .0 q) (target t) (twins t) refl refl
     go false false p q = no-kind-flagged t (λ o. never (orderly-tells t 0 .1 o) p) (λ x f. never (orderly-tells t 1 .1 (f .orderly)) q)

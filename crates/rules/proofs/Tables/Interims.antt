@@ -16,7 +16,8 @@ use Rattle.rules.specs.Demands.{InterimItem, FirstInterim, NoInterim}
 use Rattle.rules.specs.declared.State.{State}
 use Rattle.rules.specs.declared.Level.{Level}
 use Rattle.rules.specs.declared.Slot.{Slot}
-use Rattle.rules.proofs.Basics.Lists.{empty-none, none-empty, empty-some, head-none, select-in, in-select, flatMap-in, in-flatMap, Ascending, ascending-select, ascending-head}
+use Rattle.rules.proofs.Basics.Lists.{empty-none, none-empty, empty-some, head-none, select-in, in-select, flatMap-in, in-flatMap, Ascending}
+use Rattle.rules.proofs.Basics.Lists.{ascending-select, ascending-head}
 use Rattle.rules.proofs.Basics.Tests.{Tells}
 use Rattle.rules.proofs.Words.SlotsInUse.{Lower, levels-ascend, slot-of-level, slots-of-level, slots-of-levels-ascend}
 use Rattle.rules.proofs.Tables.Twins.{before-once}
@@ -38,7 +39,8 @@ module _ (s : State) where
 
   interim-ascends : Ascending Before (interimSlots s)
   unfolding interimSlots
-  interim-ascends = slots-of-levels-ascend (select (λ (l : Level). eqb (l .name) interim) (levelsInUse s)) (ascending-select Lower (λ (l : Level). eqb (l .name) interim) (levelsInUse s) (levels-ascend s))
+  interim-ascends = slots-of-levels-ascend (select (λ (l : Level). eqb (l .name) interim) (levelsInUse s))
+      (ascending-select Lower (λ (l : Level). eqb (l .name) interim) (levelsInUse s) (levels-ascend s))
 
 module _ (t : Table) where
   interim-item : (x : Slot) → In x (interimItems t (headerOf t)) ↔ InterimItem t x
@@ -55,7 +57,8 @@ module _ (t : Table) where
   pub step-item : (x : Slot) → stepItem t (headerOf t) ≡ some x → FirstInterim t x
   unfolding stepItem interimItems
   step-item x e =
-      let r = ascending-head Before (interimItems t (headerOf t)) (ascending-select Before (taken t (headerOf t)) (interimSlots (headerOf t .state)) (interim-ascends (headerOf t .state))) x e in
+      let r = ascending-head Before (interimItems t (headerOf t))
+      (ascending-select Before (taken t (headerOf t)) (interimSlots (headerOf t .state)) (interim-ascends (headerOf t .state))) x e in
       record { item = interim-item x .0 (r .0); first = λ y u. r .1 y (interim-item y .1 u) }
 
   pub interim-empty : Tells (empty (interimItems t (headerOf t))) (NoInterim t)

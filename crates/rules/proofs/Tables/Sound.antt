@@ -50,14 +50,19 @@ module _ (t : Table) where
       Iff·trans (tells-any (samePlace (placeOf x)) _ (same-place-tells (placeOf x)) (placesOf (headerOf t) (keyIn t x)))
       (λ r. (r .0, r .1, sym (r .2)), λ r. (r .0, r .1, sym (r .2)))
 
-  placed-tells : Tells (all (map (inPlace t) (takenSlots t))) ((x : Slot) → TakenSlot t x → (p : Place) × In p (placesOf (headerOf t) (keyIn t x)) × (p .bucket ≡ x .bucket))
+  placed-tells : Tells (all (map (inPlace t) (takenSlots t))) ((x : Slot) → TakenSlot t x
+      → (p : Place) × In p (placesOf (headerOf t) (keyIn t x)) × (p .bucket ≡ x .bucket))
   placed-tells =
       Iff·trans (tells-all (inPlace t) _ place-tells (takenSlots t))
       (λ f x u. f x (in-taken t x u), λ f x i. f x (taken-in t x i))
 
   -- "no key in two taken slots"
   pub alone-tells : Tells (empty (twins t)) ((x y : Slot) → TakenSlot t x → TakenSlot t y → keyIn t x ≡ keyIn t y → x ≡ y)
-  alone-tells = (alone, λ f. none-empty (twins t) (λ u i. let w = twins-ordered t (u .0) (u .1) i in before-apart (u .0) (u .1) (w .order) (f (u .0) (u .1) (w .first) (w .later) (w .key))))
+  alone-tells = (
+    alone,
+    λ f. none-empty (twins t) (λ u i. let w =
+        twins-ordered t (u .0) (u .1) i in before-apart (u .0) (u .1) (w .order) (f (u .0) (u .1) (w .first) (w .later) (w .key))),
+  )
     where
       alone : empty (twins t) ≡ true → (x y : Slot) → TakenSlot t x → TakenSlot t y → keyIn t x ≡ keyIn t y → x ≡ y
       alone e x y a b k = go (same-or-twins t x y a b k)
@@ -71,8 +76,18 @@ module _ (t : Table) where
   unfolding orderlyTests
   orderly-tells f =
       Iff·trans
-      (tells-and _ _ (header-tells (length t) (headerOf t)) (tells-and _ _ (tells-eq _ _) (tells-and _ _ tidy-tells (tells-and _ _ unused-tells (tells-and _ _ placed-tells Iff·rfl)))))
-      (λ r. record { header = r .0; flag = r .1 .0; tidied = r .1 .1 .0; unused = r .1 .1 .1 .0; placed = r .1 .1 .1 .1 .0 }, λ o. (o .header, (o .flag, (o .tidied, (o .unused, (o .placed, refl))))))
+      (tells-and _ _ (header-tells (length t) (headerOf t))
+      (tells-and _ _ (tells-eq _ _) (tells-and _ _ tidy-tells (tells-and _ _ unused-tells (tells-and _ _ placed-tells Iff·rfl))))) (
+        λ r. record {
+          header = r .0;
+          flag = r .1 .0;
+          tidied = r .1 .1 .0;
+          unused = r .1 .1 .1 .0;
+          placed =
+              r .1 .1 .1 .1 .0;
+        },
+        λ o. (o .header, (o .flag, (o .tidied, (o .unused, (o .placed, refl))))),
+      )
 
 pub soundnessIsTested : SoundnessIsTested
 unfolding soundTests

@@ -2,7 +2,8 @@
 -- Assumes nothing.
 use Prim.Native.Nat.{_<_}
 use mathlib.Core.Path.{_≡_, sym, ap, _∙_}
-use mathlib.Core.List.{List, [], _∷_, map, List·Memᴰ as In, List·Memᴰ·head as here, List·Memᴰ·tail as there, List·Memᴰ·not-nil, List·Memᴰ·cases-cons, List·Memᴰ·append-cases, Memᴰ·cast, Memᴰ·append-left, Memᴰ·append-right}
+use mathlib.Core.List.{List, [], _∷_, map, List·Memᴰ as In, List·Memᴰ·head as here, List·Memᴰ·tail as there, List·Memᴰ·not-nil, List·Memᴰ·cases-cons}
+use mathlib.Core.List.{List·Memᴰ·append-cases, Memᴰ·cast, Memᴰ·append-left, Memᴰ·append-right}
 use mathlib.Core.Logic.{_⊎_, inl, inr}
 use native.Mathlib.Omega.{arith}
 use borrow.Author.Tests.{eqb-true, eq-eqb}
@@ -10,7 +11,8 @@ use Rattle.rules.specs.Choice.{select}
 use Rattle.rules.specs.Words.{Table, headerOf, slotsInUse, keyIn, taken}
 use Rattle.rules.specs.Soundness.{takenSlots, TakenSlot, Before, sameKey, twinsOf, twins}
 use Rattle.rules.specs.declared.Slot.{Slot}
-use Rattle.rules.proofs.Basics.Lists.{select-in, in-select, map-in, in-map, Ascending, ascending-append, ascending-compare, ascending-select, ascending-map, ascending-weaken, NoRepeat}
+use Rattle.rules.proofs.Basics.Lists.{select-in, in-select, map-in, in-map, Ascending, ascending-append, ascending-compare, ascending-select}
+use Rattle.rules.proofs.Basics.Lists.{ascending-map, ascending-weaken, NoRepeat}
 use Rattle.rules.proofs.Words.SlotsInUse.{slot-in-use, slots-in-use, slots-ascend}
 
 -- ---- the order of slots
@@ -23,7 +25,8 @@ module _ (x y : Slot) where
   before-once (inr a) (inl b) = omega arith
   before-once (inr a) (inr b) = go (a .1) (b .1)
     where
-      go : (x .bucket < y .bucket) ⊎ ((x .bucket ≡ y .bucket) × (x .slot < y .slot)) → (y .bucket < x .bucket) ⊎ ((y .bucket ≡ x .bucket) × (y .slot < x .slot)) → ⊥
+      go : (x .bucket < y .bucket) ⊎ ((x .bucket ≡ y .bucket) × (x .slot < y .slot))
+          → (y .bucket < x .bucket) ⊎ ((y .bucket ≡ x .bucket) × (y .slot < x .slot)) → ⊥
       go (inl c) (inl d) = omega arith
       go (inl c) (inr d) = omega arith
       go (inr c) (inl d) = omega arith
@@ -40,7 +43,9 @@ slots-apart l a = ascending-weaken Before _ l a before-apart
 module _ (t : Table) where
   pub taken-in : (x : Slot) → In x (takenSlots t) → TakenSlot t x
   unfolding takenSlots
-  taken-in x i = let r = select-in (taken t (headerOf t)) (slotsInUse (headerOf t .state)) x i in record { used = slot-in-use (headerOf t .state) x (r .0); shown = r .1 }
+  taken-in x i =
+      let r = select-in (taken t (headerOf t)) (slotsInUse (headerOf t .state)) x i in
+      record { used = slot-in-use (headerOf t .state) x (r .0); shown = r .1 }
 
   pub in-taken : (x : Slot) → TakenSlot t x → In x (takenSlots t)
   unfolding takenSlots
@@ -106,7 +111,8 @@ module _ (t : Table) where
     where
       go : (x ≡ z) ⊎ In x zs → (y ≡ z) ⊎ In y zs → (Pair zs x y → In {A = Slot × Slot} (x, y) (twinsOf t zs)) → In {A = Slot × Slot} (x, y) (twinsOf t (z ∷ zs))
       go (inl e) (inl f) k = absurd (before-apart x y (p .3) (e ∙ sym f))
-      go (inl e) (inr j) k = Memᴰ·append-left (twinsOf t zs) (in-paired z (select (sameKey t z) zs) (x, y) e (in-select (sameKey t z) j (eq-eqb _ _ (rw e at (p .2)))))
+      go (inl e) (inr j) k = Memᴰ·append-left (twinsOf t zs)
+          (in-paired z (select (sameKey t z) zs) (x, y) e (in-select (sameKey t z) j (eq-eqb _ _ (rw e at (p .2)))))
       go (inr i) (inl f) k = absurd (before-once x y (p .3) (rw f (a .0 x i)))
       go (inr i) (inr j) k = Memᴰ·append-right (paired z (select (sameKey t z) zs)) (k (i, j, p .2, p .3))
 
@@ -115,8 +121,10 @@ module _ (t : Table) where
   pairs-apart [] a = tt
   pairs-apart (z ∷ zs) a =
       ascending-append _ (paired z (select (sameKey t z) zs)) (twinsOf t zs)
-      (paired-apart z (select (sameKey t z) zs) (slots-apart (select (sameKey t z) zs) (ascending-select Before (sameKey t z) zs (a .1)))) (pairs-apart zs (a .1))
-      (λ u v i j e. before-apart z (v .0) (a .0 (v .0) (pair-in zs (a .1) v j .0)) (sym (paired-in z (select (sameKey t z) zs) u i .0) ∙ ap (λ (p : Slot × Slot). p .0) e))
+      (paired-apart z (select (sameKey t z) zs) (slots-apart (select (sameKey t z) zs) (ascending-select Before (sameKey t z) zs (a .1))))
+      (pairs-apart zs (a .1))
+      (λ u v i j e. before-apart z (v .0) (a .0 (v .0) (pair-in zs (a .1) v j .0)) (sym (paired-in z (select (sameKey t z) zs) u i .0)
+      ∙ ap (λ (p : Slot × Slot). p .0) e))
 
   pub twins-ordered : (x y : Slot) → In {A = Slot × Slot} (x, y) (twins t) → Twins t x y
   unfolding twins Pair
@@ -133,7 +141,8 @@ module _ (t : Table) where
   twins-apart = pairs-apart (takenSlots t) (taken-ascend t)
 
   -- two taken slots with one key are one slot or a pair, in one order or the other
-  pub same-or-twins : (a b : Slot) → TakenSlot t a → TakenSlot t b → keyIn t a ≡ keyIn t b → (a ≡ b) ⊎ (In {A = Slot × Slot} (a, b) (twins t) ⊎ In {A = Slot × Slot} (b, a) (twins t))
+  pub same-or-twins : (a b : Slot) → TakenSlot t a → TakenSlot t b → keyIn t a ≡ keyIn t b
+      → (a ≡ b) ⊎ (In {A = Slot × Slot} (a, b) (twins t) ⊎ In {A = Slot × Slot} (b, a) (twins t))
   same-or-twins a b u v k = go (taken-compare t a b u v)
     where
       go : (a ≡ b) ⊎ (Before a b ⊎ Before b a) → (a ≡ b) ⊎ (In {A = Slot × Slot} (a, b) (twins t) ⊎ In {A = Slot × Slot} (b, a) (twins t))

@@ -15,7 +15,8 @@ use Rattle.rules.specs.Placing.{freeSlot}
 use Rattle.rules.specs.declared.Header.{Header}
 use Rattle.rules.specs.declared.Place.{Place}
 use Rattle.rules.specs.declared.Slot.{Slot}
-use Rattle.rules.proofs.Basics.Lists.{First, firstOf-some, firstOf-none, given-some, given-none, one, select-length, map-in, Ascending, ascending-after, ascending-map, ascending-from}
+use Rattle.rules.proofs.Basics.Lists.{First, firstOf-some, firstOf-none, given-some, given-none, one, select-length, map-in, Ascending}
+use Rattle.rules.proofs.Basics.Lists.{ascending-after, ascending-map, ascending-from}
 
 pub slot-place : (p : Place) (s : Slot) → In s (slotsIn p) → placeOf s ≡ p
 unfolding slotsIn slotAt placeOf

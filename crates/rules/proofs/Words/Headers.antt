@@ -58,7 +58,8 @@ table-small size h g =
     omega (arith, g .long, pow-mono l)
 
 -- the i-th bucket of such a level, for a loop along them
-pub next-bucket-fits : (size : ℕ) (h : Header) → GoodHeader size h → (e : ℕ) → e ≤ h .c → {power : ℕ} → power ≡ 2 ^ e → (i : ℕ) → i < power → 9 + 13 * (power - 1 + i) + 13 ≤ size
+pub next-bucket-fits : (size : ℕ) (h : Header) → GoodHeader size h → (e : ℕ) → e ≤ h .c → {power : ℕ} → power ≡ 2 ^ e → (i : ℕ) → i < power
+    → 9 + 13 * (power - 1 + i) + 13 ≤ size
 next-bucket-fits size h g e l {power} q i b = bucket-fits size h g e (power - 1 + i) l (rw (← q) (omega arith))
 
 -- every bucket of the table, and the header's own words
@@ -75,4 +76,12 @@ header-fits size h g = omega (arith, g .long)
 pub header-passes : (size : ℕ) (h : Header) → GoodHeader size h → all (headerTests size h) ≡ true
 unfolding headerTests capacityTests odd
 header-passes size h g =
-    rw (le-leb _ _ (g .capacity .0), le-leb _ _ (g .capacity .1), eq-eqb _ _ (g .long), eq-eqb _ _ (g .form), eq-eqb _ _ (g .odd1), eq-eqb _ _ (g .odd2), state-passes (h .c) (h .state) (g .state))
+    rw (
+      le-leb _ _ (g .capacity .0),
+      le-leb _ _ (g .capacity .1),
+      eq-eqb _ _ (g .long),
+      eq-eqb _ _ (g .form),
+      eq-eqb _ _ (g .odd1),
+      eq-eqb _ _ (g .odd2),
+      state-passes (h .c) (h .state) (g .state),
+    )

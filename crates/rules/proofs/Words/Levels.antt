@@ -4,7 +4,8 @@
 use Prim.Native.Nat.{ℕ, zero, suc, _+_, _-_, _*_, _^_, _≤_, _<_}
 use mathlib.Core.Path.{_≡_, refl, sym, ap}
 use mathlib.Core.Bool.{Bool, true, false, cond}
-use mathlib.Core.List.{[], _∷_, List·Memᴰ as In, List·Memᴰ·head as here, List·Memᴰ·tail as there, List·Memᴰ·not-nil, List·Memᴰ·cases-cons, List·Memᴰ·eq-of-singleton}
+use mathlib.Core.List.{[], _∷_, List·Memᴰ as In, List·Memᴰ·head as here, List·Memᴰ·tail as there, List·Memᴰ·not-nil, List·Memᴰ·cases-cons}
+use mathlib.Core.List.{List·Memᴰ·eq-of-singleton}
 use mathlib.Core.Logic.{_⊎_, inl, inr, ⊎-elim}
 use native.Mathlib.Omega.{arith}
 use native.Mathlib.Decide.{decLe}
@@ -78,7 +79,8 @@ module _ (c : ℕ) (s : State) (good : GoodState c s) where
       go true q = (λ m i. rw (List·Memᴰ·eq-of-singleton i) half, (λ m i. absurd (List·Memᴰ·not-nil i), tt))
       go false q =
           let other = interim-fits c s good q in (
-            λ m i. ⊎-elim (λ (e : m ≡ bottomOf s). rw e half) (λ (j : In m (interimOf s ∷ [])). rw (List·Memᴰ·eq-of-singleton j) (λ e. other .1 (sym e))) (List·Memᴰ·cases-cons i),
+            λ m i. ⊎-elim (λ (e : m ≡ bottomOf s). rw e half)
+                (λ (j : In m (interimOf s ∷ [])). rw (List·Memᴰ·eq-of-singleton j) (λ e. other .1 (sym e))) (List·Memᴰ·cases-cons i),
             (λ m i. rw (List·Memᴰ·eq-of-singleton i) (λ e. other .2 (sym e)), (λ m i. absurd (List·Memᴰ·not-nil i), tt)),
           )
 
@@ -119,7 +121,8 @@ unfolding levelsInUse
 third-level s l = go (atRest s) refl (rw (levels-counted s) at l)
   where
     go : (b : Bool) → atRest s ≡ b → 2 < cond b 2 3
-        → (atRest s ≡ false) × (drop 2 (topOf s ∷ bottomOf s ∷ cond b [] (interimOf s ∷ [])) ≡ interimOf s ∷ drop 3 (topOf s ∷ bottomOf s ∷ cond b [] (interimOf s ∷ [])))
+        → (atRest s ≡ false) × (drop 2 (topOf s ∷ bottomOf s ∷ cond b [] (interimOf s ∷ [])) ≡ interimOf s ∷ drop 3
+        (topOf s ∷ bottomOf s ∷ cond b [] (interimOf s ∷ [])))
     go true q l = absurd (omega arith)
     go false q l = (q, refl)
 

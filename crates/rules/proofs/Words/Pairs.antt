@@ -48,7 +48,8 @@ in-pairs (suc n) [] h i k = absurd (omega arith)
 in-pairs (suc n) (a ∷ []) h i k = absurd (omega arith)
 in-pairs (suc n) (a ∷ (w ∷ l)) h zero k = here refl
 in-pairs (suc n) (a ∷ (w ∷ l)) h (suc i) k =
-    let inside : In {A = Store} (word (a ∷ (w ∷ l)) (2 * suc i), word (a ∷ (w ∷ l)) (2 * suc i + 1)) (pairs n l) = rw (twice l a w i, twice-one l a w i) (in-pairs n l (omega arith) i (omega arith)) in
+    let inside : In {A = Store} (word (a ∷ (w ∷ l)) (2 * suc i), word (a ∷ (w ∷ l)) (2 * suc i + 1)) (pairs n l) =
+    rw (twice l a w i, twice-one l a w i) (in-pairs n l (omega arith) i (omega arith)) in
     there inside
 
 pub pairs-in : (n : ℕ) (l : List ℕ) (x : Store) → In x (pairs n l) → (i : ℕ) × (i < n) × (x .0 ≡ word l (2 * i))

@@ -8,13 +8,15 @@ use mathlib.Core.List.{List, [], _∷_, map, flatMap, List·Memᴰ as In}
 use mathlib.Core.Logic.{inl, inr}
 use native.Mathlib.Omega.{arith}
 use lib.Pow.{pow-pos}
-use Rattle.rules.specs.Words.{atRest, sizeOf, topOf, bottomOf, interimOf, levelsInUse, bucketsOf, slotAt, slotsIn, placeOf, placeAt, slotsOf, slotsInUse, InLevel, InUse}
+use Rattle.rules.specs.Words.{atRest, sizeOf, topOf, bottomOf, interimOf, levelsInUse, bucketsOf, slotAt, slotsIn, placeOf, placeAt, slotsOf}
+use Rattle.rules.specs.Words.{slotsInUse, InLevel, InUse}
 use Rattle.rules.specs.Soundness.{Before}
 use Rattle.rules.specs.declared.State.{State}
 use Rattle.rules.specs.declared.Level.{Level}
 use Rattle.rules.specs.declared.Place.{Place}
 use Rattle.rules.specs.declared.Slot.{Slot}
-use Rattle.rules.proofs.Basics.Lists.{map-in, in-map, flatMap-in, in-flatMap, from-in, in-from, Ascending, ascending-flatMap, ascending-map, ascending-of-map, ascending-from}
+use Rattle.rules.proofs.Basics.Lists.{map-in, in-map, flatMap-in, in-flatMap, from-in, in-from, Ascending, ascending-flatMap, ascending-map}
+use Rattle.rules.proofs.Basics.Lists.{ascending-of-map, ascending-from}
 use Rattle.rules.proofs.Words.FreeSlots.{slot-place}
 
 -- an earlier level
@@ -36,7 +38,11 @@ level-ascends l =
     (λ p q u x y i j.
     let a = slot-place p x i in
     let b = slot-place q y j in
-    inr (ap (λ (z : Place). z .level) a ∙ u .0 ∙ sym (ap (λ (z : Place). z .level) b), inl (rw (ap (λ (z : Place). z .bucket) a, ap (λ (z : Place). z .bucket) b) (u .1))))
+    inr (
+      ap (λ (z : Place). z .level) a ∙ u .0
+          ∙ sym (ap (λ (z : Place). z .level) b),
+      inl (rw (ap (λ (z : Place). z .bucket) a, ap (λ (z : Place). z .bucket) b) (u .1)),
+    ))
 
 pub slot-number : (p : Place) (x : Slot) → In x (slotsIn p) → x .slot < 4
 unfolding slotsIn slotAt
@@ -92,7 +98,8 @@ levels-ascend s = go (atRest s)
 
 -- the slots of ascending levels ascend
 pub slots-of-levels-ascend : (ls : List Level) → Ascending Lower ls → Ascending Before (flatMap slotsOf ls)
-slots-of-levels-ascend ls a = ascending-flatMap Lower Before slotsOf ls a level-ascends (λ l m u x y i j. inl (rw (slot-of-level l x i .0, slot-of-level m y j .0) u))
+slots-of-levels-ascend ls a =
+    ascending-flatMap Lower Before slotsOf ls a level-ascends (λ l m u x y i j. inl (rw (slot-of-level l x i .0, slot-of-level m y j .0) u))
 
 pub slots-ascend : (s : State) → Ascending Before (slotsInUse s)
 unfolding slotsInUse

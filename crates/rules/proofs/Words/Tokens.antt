@@ -98,9 +98,11 @@ module _ (h : Header) where
   unfolding changesTest bitOf isTaken
   changes store b e w s sl read =
       let v = tokenNumber w in
-      let r = tells-and _ _ Iff·rfl Iff·rfl .0 (below-all 4 (changesTest store b v) (below-all 16 (λ u. below 4 (changesTest store b u)) e v (number-low w)) s sl) in
+      let r = tells-and _ _ Iff·rfl Iff·rfl .0
+      (below-all 4 (changesTest store b v) (below-all 16 (λ u. below 4 (changesTest store b u)) e v (number-low w)) s sl) in
       let bits = below-all 4 (λ z. eqb (bitOf (store v s) z) (cond (eqb z s) b (bitOf v z))) (r .1) in
-      let bit : (z : ℕ) → z < 4 → bitOf (store w s) z ≡ cond (eqb z s) b (bitOf w z) = λ z zl. ap (λ (u : ℕ). bitOf u z) read ∙ eqb-true _ _ (bits z zl) ∙ rw (number-again w) in
+      let bit : (z : ℕ) → z < 4 → bitOf (store w s) z ≡ cond (eqb z s) b (bitOf w z) =
+      λ z zl. ap (λ (u : ℕ). bitOf u z) read ∙ eqb-true _ _ (bits z zl) ∙ rw (number-again w) in
       record {
         stored = rw read (ltb-true _ _ (r .0));
         here = rw (bit s sl, eq-eqb s s refl);

@@ -71,5 +71,6 @@ module _ (h : Header) where
   unfolding unusedBuckets bucketsOf unused bucketsAt
   bucket-unused j b n =
       let r = bucket-ranged (h .c) j b in
-      in-flatMap bucketsAt (in-select unused (in-from 0 (h .c + 1) (r .0) (omega arith) (omega (arith, r .1))) (rw (exponent-unused (h .state) (r .0) j (r .2) n)))
+      in-flatMap bucketsAt (in-select unused (in-from 0 (h .c + 1) (r .0) (omega arith) (omega (arith, r .1)))
+      (rw (exponent-unused (h .state) (r .0) j (r .2) n)))
       (in-from (2 ^ r .0 - 1) (2 ^ r .0) j (r .2 .0) (omega (arith, r .2, pow-pos (r .0))))

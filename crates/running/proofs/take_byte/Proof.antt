@@ -12,7 +12,8 @@ same-length : tie.Need-same-length
 same-length c = search needs
 
 returns : tie.Need-returns
-returns c = newline-taken (c .before .before .before .before .before .before .before .args .run) _ _ _ (c .before .before .before .before .before .if1 .taken) (c .before .before .take-newline .ensures)
+returns c = newline-taken (c .before .before .before .before .before .before .before .args .run) _ _ _
+    (c .before .before .before .before .before .if1 .taken) (c .before .before .take-newline .ensures)
 
 hold-requires : tie.Need-hold-requires
 hold-requires c κs = search needs

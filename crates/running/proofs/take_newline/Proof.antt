@@ -22,7 +22,11 @@ same-length : tie.Need-same-length
 same-length c = search needs
 
 returns : tie.Need-returns
-returns c = line-taken (c .before .before .before .before .before .before .before .before .before .before .before .args .run) _ _ (c .before .before .before .before .before .before .before .before .least .ensures) _ (c .before .before .before .before .before .before .parse .ensures .answer) (c .before .before .before .take-line .ensures)
+returns c =
+    let line = c .before .before .before in
+    let parsed = line .before .before .before in
+    let held = parsed .before .before in
+    line-taken (held .before .before .before .args .run) _ _ (held .least .ensures) _ (parsed .parse .ensures .answer) (line .take-line .ensures)
 
 pub take-newline-spec : {M : Type 1} → statement M
 take-newline-spec =

@@ -34,7 +34,8 @@ returns c =
     let third = c .before .before .before in
     let second = third .before .before .before in
     let first = second .before .before .before in
-    line-before _ _ (first .line .ensures .0) (line-before _ _ (second .line2 .ensures .0) (line-before _ _ (third .line3 .ensures .0) (last-line _ (c .line4 .ensures .0))))
+    line-before _ _ (first .line .ensures .0)
+    (line-before _ _ (second .line2 .ensures .0) (line-before _ _ (third .line3 .ensures .0) (last-line _ (c .line4 .ensures .0))))
 
 pub found-lines-spec : {M : Type 1} → statement M
 found-lines-spec =

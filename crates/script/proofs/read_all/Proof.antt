@@ -44,7 +44,8 @@ returns : tie.Need-returns Inv-loop μ-loop
 returns c =
     let d = c .before .before .before .before .before .before .before .before in
     let l = d .before .before .before .before .before .before in
-    ran (roomIsEnough _ (l .before .before .before .before .before .pre .0)) (d .before .before .before .before .before .before .loop .inv .4) (d .read-some .ensures) (not-going _ (c .match .keys2))
+    ran (roomIsEnough _ (l .before .before .before .before .before .pre .0)) (d .before .before .before .before .before .before .loop .inv .4)
+    (d .read-some .ensures) (not-going _ (c .match .keys2))
 
 add-parts : tie.Need-add-parts Inv-loop μ-loop
 add-parts c = search needs
@@ -55,8 +56,13 @@ loop-less c = search needs
 loop-again : tie.Need-loop-again Inv-loop μ-loop
 loop-again c =
     let d = c .before .before .before .before .before .before .before .before .before in
-    let l = d .before .before .before .before .before .before in
-    (search needs, search needs, search needs, omega (arith, d .before .before .before .before .before .loop-test .taken), behind-next (l .loop .inv .4) (d .read-some .ensures) (c .enum-told .given .1))
+    let l = d .before .before .before .before .before .before in (
+      search needs,
+      search needs,
+      search needs,
+      omega (arith, d .before .before .before .before .before .loop-test .taken),
+      behind-next (l .loop .inv .4) (d .read-some .ensures) (c .enum-told .given .1),
+    )
 
 same-length-4 : tie.Need-same-length-4 Inv-loop μ-loop
 same-length-4 c = search needs
@@ -68,7 +74,9 @@ same-length-6 : tie.Need-same-length-6 Inv-loop μ-loop
 same-length-6 c = search needs
 
 returns-2 : tie.Need-returns-2 Inv-loop μ-loop
-returns-2 c = let v = c .before .loop .inv in ran-on (roomIsEnough _ (c .before .before .before .before .before .before .pre .0)) (v .4) (omega (arith, c .loop-test .left, v .3))
+returns-2 c =
+    let v = c .before .loop .inv in
+    ran-on (roomIsEnough _ (c .before .before .before .before .before .before .pre .0)) (v .4) (omega (arith, c .loop-test .left, v .3))
 
 pub read-all-spec : {M : Type 1} → statement M
 read-all-spec =

@@ -48,8 +48,11 @@ loop-less c = search needs
 loop-again : tie.Need-loop-again Inv-loop μ-loop
 loop-again c =
     let d = c .before .before .before .before .before .before .before in
-    let l = d .before .before .before .before .before .before in
-    (search needs, search needs, taking-next (l .before .loop .inv .2) (l .loop-test .taken) (d .take-byte .ensures) (c .before .before .before .say-at .ensures))
+    let l = d .before .before .before .before .before .before in (
+      search needs,
+      search needs,
+      taking-next (l .before .loop .inv .2) (l .loop-test .taken) (d .take-byte .ensures) (c .before .before .before .say-at .ensures),
+    )
 
 same-length : tie.Need-same-length Inv-loop μ-loop
 same-length c = search needs

@@ -60,8 +60,12 @@ unfolding slotAt placeAt
 returns c =
     let d = c .before .before .before in
     let p = d .before .before in
-    let s = p .before .before .before in
-    (sym (ap itemOf (items-all _ _ (s .pre .1) ∙ d .before .loop .inv ∙ items-hit _ _ _ _ (p .before .interim .ensures .0) (p .power .ensures .0) (d .loop-test .taken) (c .before .before .token .ensures) (c .before .lowest-taken .ensures) (c .if1 .taken))), (within d, c .if1 .taken))
+    let s = p .before .before .before in (
+      sym (ap itemOf (items-all _ _ (s .pre .1) ∙ d .before .loop .inv
+          ∙ items-hit _ _ _ _ (p .before .interim .ensures .0) (p .power .ensures .0) (d .loop-test .taken) (c .before .before .token .ensures)
+          (c .before .lowest-taken .ensures) (c .if1 .taken))),
+      (within d, c .if1 .taken),
+    )
 
 add-i : tie.Need-add-i Inv-loop μ-loop
 add-i c = omega arith
@@ -73,12 +77,16 @@ loop-again : tie.Need-loop-again Inv-loop μ-loop
 loop-again c =
     let d = c .before .before .before in
     let p = d .before .before in
-    d .before .loop .inv ∙ items-pass _ _ _ _ (p .before .interim .ensures .0) (p .power .ensures .0) (d .loop-test .taken) (c .before .before .token .ensures) (c .before .lowest-taken .ensures) (c .if1 .left)
+    d .before .loop .inv ∙ items-pass _ _ _ _ (p .before .interim .ensures .0) (p .power .ensures .0) (d .loop-test .taken)
+    (c .before .before .token .ensures) (c .before .lowest-taken .ensures) (c .if1 .left)
 
 returns-2 : tie.Need-returns-2 Inv-loop μ-loop
 returns-2 c =
-    let p = c .before .before in
-    (sym (ap itemOf (items-all _ _ (p .before .before .before .pre .1) ∙ c .before .loop .inv ∙ items-over _ _ _ _ (p .before .interim .ensures .0) (p .power .ensures .0) (c .loop-test .left))), tt)
+    let p = c .before .before in (
+      sym (ap itemOf (items-all _ _ (p .before .before .before .pre .1) ∙ c .before .loop .inv
+          ∙ items-over _ _ _ _ (p .before .interim .ensures .0) (p .power .ensures .0) (c .loop-test .left))),
+      tt,
+    )
 
 pub first-item-spec : {M : Type 1} → statement M
 first-item-spec =

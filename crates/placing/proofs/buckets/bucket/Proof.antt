@@ -34,7 +34,8 @@ returns c =
     let d = c .before .before in
     let e = d .before .before in
     let f = e .before .before in
-    records _ _ (f .before .slot-of .ensures .0) (e .before .slot-of2 .ensures .0) (d .before .slot-of3 .ensures .0) (c .before .slot-of4 .ensures .0) (f .item .ensures) (e .item2 .ensures) (d .item3 .ensures) (c .item4 .ensures)
+    records _ _ (f .before .slot-of .ensures .0) (e .before .slot-of2 .ensures .0) (d .before .slot-of3 .ensures .0) (c .before .slot-of4 .ensures .0)
+    (f .item .ensures) (e .item2 .ensures) (d .item3 .ensures) (c .item4 .ensures)
 
 pub bucket-spec : {M : Type 1} → statement M
 bucket-spec =

@@ -32,8 +32,11 @@ one-place-requires-2 c κs = search needs
 returns-3 : tie.Need-returns-3
 returns-3 c =
     let q = c .before .before .before .before in
-    let p = q .before .before .before .before in
-    (c .one-place2 .ensures .0 ∙ goals-second _ _ _ (p .before .if1 .left) (p .place .ensures .0) (q .before .if2 .left) (q .place2 .ensures .0) (c .before .if3 .taken), c .one-place2 .ensures .1)
+    let p = q .before .before .before .before in (
+      c .one-place2 .ensures .0
+          ∙ goals-second _ _ _ (p .before .if1 .left) (p .place .ensures .0) (q .before .if2 .left) (q .place2 .ensures .0) (c .before .if3 .taken),
+      c .one-place2 .ensures .1,
+    )
 
 no-place-requires : tie.Need-no-place-requires
 no-place-requires c κs = search needs
@@ -41,8 +44,11 @@ no-place-requires c κs = search needs
 returns-4 : tie.Need-returns-4
 returns-4 c =
     let q = c .before .before .before .before in
-    let p = q .before .before .before .before in
-    (c .no-place .ensures .0 ∙ goals-none _ _ _ (p .before .if1 .left) (p .place .ensures .0) (q .before .if2 .left) (q .place2 .ensures .0) (c .before .if3 .left), c .no-place .ensures .1)
+    let p = q .before .before .before .before in (
+      c .no-place .ensures .0
+          ∙ goals-none _ _ _ (p .before .if1 .left) (p .place .ensures .0) (q .before .if2 .left) (q .place2 .ensures .0) (c .before .if3 .left),
+      c .no-place .ensures .1,
+    )
 
 pub goals-of-spec : {M : Type 1} → statement M
 goals-of-spec =

@@ -66,7 +66,8 @@ loop-less c = omega arith
 loop-again : tie.Need-loop-again Inv-loop μ-loop
 loop-again c =
     let d = c .before .before .before in
-    d .before .loop .inv ∙ first-pass _ past _ _ (fits (d .before .before .before)) _ (d .loop-test .taken) (not-free (c .before .free-slot .result) (c .match .keys2) _ (c .before .free-slot .ensures .0))
+    d .before .loop .inv ∙ first-pass _ past _ _ (fits (d .before .before .before)) _ (d .loop-test .taken)
+    (not-free (c .before .free-slot .result) (c .match .keys2) _ (c .before .free-slot .ensures .0))
 
 returns-2 : tie.Need-returns-2 Inv-loop μ-loop
 returns-2 c = (item-stays _ _ _ _ (c .before .loop .inv ∙ first-over _ past _ _ (fits (c .before .before .before)) _ (c .loop-test .left)), tt)

@@ -62,8 +62,10 @@ returns : tie.Need-returns Inv-loop μ-loop
 returns c =
     let d = c .before .before .before .before in
     let m = c .before .moves-of-bucket in
-    let s = somewhere (m .result) (c .match .keys2) in
-    (s ∙ sym (d .before .loop .inv ∙ first-hit _ past _ _ (fits (d .before .before .before)) _ (d .loop-test .taken) (sym (moved (c .before)) ∙ s)), m .ensures .1)
+    let s = somewhere (m .result) (c .match .keys2) in (
+      s ∙ sym (d .before .loop .inv ∙ first-hit _ past _ _ (fits (d .before .before .before)) _ (d .loop-test .taken) (sym (moved (c .before)) ∙ s)),
+      m .ensures .1,
+    )
 
 add-i : tie.Need-add-i Inv-loop μ-loop
 add-i c = omega arith
@@ -75,7 +77,8 @@ loop-again : tie.Need-loop-again Inv-loop μ-loop
 loop-again c =
     let d = c .before .before .before .before .before in
     let m = c .before .before .moves-of-bucket in
-    d .before .loop .inv ∙ first-pass _ past _ _ (fits (d .before .before .before)) _ (d .loop-test .taken) (sym (moved (c .before .before)) ∙ nowhere (m .result) (c .before .match .keys1))
+    d .before .loop .inv ∙ first-pass _ past _ _ (fits (d .before .before .before)) _ (d .loop-test .taken) (sym (moved (c .before .before))
+    ∙ nowhere (m .result) (c .before .match .keys1))
 
 returns-2 : tie.Need-returns-2 Inv-loop μ-loop
 returns-2 c = (sym (c .before .loop .inv ∙ first-over _ past _ _ (fits (c .before .before .before)) _ (c .loop-test .left)), tt)

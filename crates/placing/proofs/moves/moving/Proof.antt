@@ -48,8 +48,11 @@ returns-2 c =
     let m = c .before .moves-of-level2 in
     let d = c .before .before .before in
     let l = d .before .moves-of-level in
-    let b = d .before .before in
-    (second-part _ _ _ (b .before .top .ensures .0) (b .bottom .ensures .0) (l .result) (l .ensures .0) (nowhere (l .result) (d .match .keys1)) (m .result) (m .ensures .0) (somewhere (m .result) (c .match2 .keys2)), m .ensures .1)
+    let b = d .before .before in (
+      second-part _ _ _ (b .before .top .ensures .0) (b .bottom .ensures .0) (l .result) (l .ensures .0) (nowhere (l .result) (d .match .keys1))
+          (m .result) (m .ensures .0) (somewhere (m .result) (c .match2 .keys2)),
+      m .ensures .1,
+    )
 
 moves-of-level-requires-3 : tie.Need-moves-of-level-requires-3
 moves-of-level-requires-3 c κs = let b = c .before .before .before .before .before .before in (lower b, upper b)
@@ -61,8 +64,11 @@ returns-3 c =
     let m = e .before .moves-of-level2 in
     let d = e .before .before .before in
     let l = d .before .moves-of-level in
-    let b = d .before .before in
-    (third-part _ _ _ (b .before .top .ensures .0) (b .bottom .ensures .0) (l .result) (l .ensures .0) (nowhere (l .result) (d .match .keys1)) (m .result) (m .ensures .0) (r .result) (nowhere (m .result) (e .match2 .keys1)) (r .ensures .0), r .ensures .1)
+    let b = d .before .before in (
+      third-part _ _ _ (b .before .top .ensures .0) (b .bottom .ensures .0) (l .result) (l .ensures .0) (nowhere (l .result) (d .match .keys1))
+          (m .result) (m .ensures .0) (r .result) (nowhere (m .result) (e .match2 .keys1)) (r .ensures .0),
+      r .ensures .1,
+    )
 
 pub moving-spec : {M : Type 1} → statement M
 moving-spec =

@@ -20,14 +20,20 @@ taken-count-requires-2 c κs = search needs
 returns : tie.Need-returns
 returns c =
     let u = c .before in
-    let v = u .before .before in
-    (second-emptier _ _ _ _ (v .before .token .ensures) (v .taken-count .ensures) (u .before .token2 .ensures) (u .taken-count2 .ensures) (c .if1 .taken), v .before .before .before .pre .1)
+    let v = u .before .before in (
+      second-emptier _ _ _ _ (v .before .token .ensures) (v .taken-count .ensures) (u .before .token2 .ensures) (u .taken-count2 .ensures)
+          (c .if1 .taken),
+      v .before .before .before .pre .1,
+    )
 
 returns-2 : tie.Need-returns-2
 returns-2 c =
     let u = c .before in
-    let v = u .before .before in
-    (first-emptier _ _ _ _ (v .before .token .ensures) (v .taken-count .ensures) (u .before .token2 .ensures) (u .taken-count2 .ensures) (c .if1 .left), v .before .before .before .pre .0)
+    let v = u .before .before in (
+      first-emptier _ _ _ _ (v .before .token .ensures) (v .taken-count .ensures) (u .before .token2 .ensures) (u .taken-count2 .ensures)
+          (c .if1 .left),
+      v .before .before .before .pre .0,
+    )
 
 pub emptier-spec : {M : Type 1} → statement M
 emptier-spec =

@@ -25,7 +25,9 @@ abbrev μ-loop : tie.MeasureT-loop
 μ-loop t h key x state n answer₀ looked last i p s₀ answer s = 4 - s
 
 abbrev Inv-search : tie.InvT-search
-Inv-search t h key x state n answer₀ looked₀ last₀ i₀ answer looked last i = (answer ≡ Absent looked) × (looked ≤ i) × ((i ≡ 0 → ⊥) → last ≡ nthPlace (h .state) x (i - 1) .bucket) × (seek (hitIn t h key) 0 (probes (h .state) x) ≡ inTurns t h key (h .state) x i looked)
+Inv-search t h key x state n answer₀ looked₀ last₀ i₀ answer looked last i =
+    (answer ≡ Absent looked) × (looked ≤ i) × ((i ≡ 0 → ⊥) → last ≡ nthPlace (h .state) x (i - 1) .bucket)
+    × (seek (hitIn t h key) 0 (probes (h .state) x) ≡ inTurns t h key (h .state) x i looked)
 
 abbrev μ-search : tie.MeasureT-search
 μ-search t h key x state n answer₀ looked₀ last₀ i₀ answer looked last i = n - i
@@ -105,13 +107,20 @@ search-again c =
     let e = sym (f .is-fresh .ensures) in
     ⊎-elim
     (λ w.
-    rw (w .3, w .4)
-    (w .1 .inv .0, omega (arith, v .1), last-next _ _ _ q, v .3 ∙ turn-pass _ _ _ _ _ _ _ _ l (v .2) q (e ∙ w .0 .taken) (w .1 .inv .1 ∙ slots-over _ _ _ _ _ (w .2 .left))))
+    rw (w .3, w .4) (
+      w .1 .inv .0,
+      omega (arith, v .1),
+      last-next _ _ _ q,
+      v .3
+          ∙ turn-pass _ _ _ _ _ _ _ _ l (v .2) q (e ∙ w .0 .taken) (w .1 .inv .1 ∙ slots-over _ _ _ _ _ (w .2 .left)),
+    ))
     (λ w. rw (w .1, w .2) (v .0, omega (arith, v .1), last-next _ _ _ q, v .3 ∙ turn-skip _ _ _ _ _ _ _ _ l (v .2) q (e ∙ w .0 .left)))
     (c .if1 .came)
 
 returns : tie.Need-returns Inv-loop μ-loop Inv-search μ-search
-returns c = let v = c .before .search .inv in v .0 ∙ sym (v .3 ∙ turns-over _ _ _ _ _ _ _ (rw (← (c .before .before .place-count .ensures .0)) (c .search-test .left)))
+returns c =
+    let v = c .before .search .inv in
+    v .0 ∙ sym (v .3 ∙ turns-over _ _ _ _ _ _ _ (rw (← (c .before .before .place-count .ensures .0)) (c .search-test .left)))
 
 returns-2 : tie.Need-returns-2 Inv-loop μ-loop Inv-search μ-search
 unfolding slotAt
@@ -127,7 +136,8 @@ returns-2 c =
     (s .search .inv .3
     ∙ turn-hit _ _ _ _ _ _ _ _ l (s .search .inv .2) (p .nth-place .ensures) (sym (f .is-fresh .ensures) ∙ k .before .before .if1 .taken)
     (k .before .loop .inv .1
-    ∙ slot-hit _ _ _ _ _ (k .loop-test .taken) (b .token .ensures) (sym (c .before .is-taken .ensures) ∙ c .if3 .taken) (sym (b .before .before .key-at .ensures) ∙ b .before .if2 .taken)))
+    ∙ slot-hit _ _ _ _ _ (k .loop-test .taken) (b .token .ensures) (sym (c .before .is-taken .ensures)
+    ∙ c .if3 .taken) (sym (b .before .before .key-at .ensures) ∙ b .before .if2 .taken)))
 
 pub find-spec : {M : Type 1} → statement M
 find-spec =

@@ -24,7 +24,8 @@ returns-2 c = header-bad _ (rw (← c .before .before .decode .ensures) (sym (c 
 
 returns-3 : tie.Need-returns-3
 unfolding headerGood
-returns-3 c = header-good _ (c .before .before .decode .ensures) (rw (← c .before .before .decode .ensures) (sym (c .before .header-good .ensures) ∙ not-false _ (c .if2 .left)))
+returns-3 c = header-good _ (c .before .before .decode .ensures)
+    (rw (← c .before .before .decode .ensures) (sym (c .before .header-good .ensures) ∙ not-false _ (c .if2 .left)))
 
 pub header-gate-spec : {M : Type 1} → statement M
 header-gate-spec =

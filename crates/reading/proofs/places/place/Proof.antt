@@ -18,11 +18,16 @@ low-bits-requires : tie.Need-low-bits-requires
 low-bits-requires c κs = search needs
 
 add-t6 : tie.Need-add-t6
-add-t6 c = let m : 2 ^ c .before .before .args .l .exponent ≤ 2 ^ 20 = pow-mono (c .before .before .pre) in omega (arith, c .before .power .ensures .0, c .low-bits .ensures .1)
+add-t6 c =
+    let m : 2 ^ c .before .before .args .l .exponent ≤ 2 ^ 20 = pow-mono (c .before .before .pre) in
+    omega (arith, c .before .power .ensures .0, c .low-bits .ensures .1)
 
 returns : tie.Need-returns
 unfolding placeAt
-returns c = (rw (c .before .power .ensures .0, c .low-bits .ensures .0), omega (arith, c .before .power .ensures .0, c .before .power .ensures .1, c .low-bits .ensures .1))
+returns c = (
+  rw (c .before .power .ensures .0, c .low-bits .ensures .0),
+  omega (arith, c .before .power .ensures .0, c .before .power .ensures .1, c .low-bits .ensures .1),
+)
 
 pub place-spec : {M : Type 1} → statement M
 place-spec = tie.close (tie.spec power-requires sub-t4 low-bits-requires add-t6 returns)

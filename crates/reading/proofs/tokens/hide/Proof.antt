@@ -16,10 +16,12 @@ shl-result : tie.Need-shl-result
 shl-result c = search needs
 
 sub-result : tie.Need-sub-result
-sub-result c = rw (shifted _ (c .before .before .before .pre) .0, c .before .before .token-number .ensures .0) (taken-bit _ _ _ (c .before .before .before .pre) (sym (c .before .is-taken .ensures) ∙ c .if1 .taken))
+sub-result c = rw (shifted _ (c .before .before .before .pre) .0, c .before .before .token-number .ensures .0)
+    (taken-bit _ _ _ (c .before .before .before .pre) (sym (c .before .is-taken .ensures) ∙ c .if1 .taken))
 
 returns : tie.Need-returns
-returns c = rw (shifted _ (c .before .before .before .pre) .0, c .before .before .token-number .ensures .0) (hide-taken _ _ _ (sym (c .before .is-taken .ensures) ∙ c .if1 .taken))
+returns c = rw (shifted _ (c .before .before .before .pre) .0, c .before .before .token-number .ensures .0)
+    (hide-taken _ _ _ (sym (c .before .is-taken .ensures) ∙ c .if1 .taken))
 
 returns-2 : tie.Need-returns-2
 returns-2 c = c .before .before .token-number .ensures .0 ∙ hide-free _ _ _ (sym (c .before .is-taken .ensures) ∙ c .if1 .left)

@@ -30,7 +30,9 @@ is-taken-requires : tie.Need-is-taken-requires Inv-loop μ-loop
 is-taken-requires c κs = omega arith
 
 returns-2 : tie.Need-returns-2 Inv-loop μ-loop
-returns-2 c = let d = c .before .before in sym (d .before .loop .inv ∙ lowest-here _ _ (d .loop-test .taken) (sym (c .before .is-taken .ensures) ∙ c .if2 .taken))
+returns-2 c =
+    let d = c .before .before in
+    sym (d .before .loop .inv ∙ lowest-here _ _ (d .loop-test .taken) (sym (c .before .is-taken .ensures) ∙ c .if2 .taken))
 
 add-s : tie.Need-add-s Inv-loop μ-loop
 add-s c = omega arith

@@ -23,7 +23,8 @@ add-result : tie.Need-add-result
 add-result c = let k = shifted _ (c .before .before .before .pre) in omega (arith, k .0, k .1, c .before .before .token-number .ensures .1)
 
 returns-2 : tie.Need-returns-2
-returns-2 c = rw (shifted _ (c .before .before .before .pre) .0, c .before .before .token-number .ensures .0) (show-free _ _ _ _ (sym (c .before .is-taken .ensures) ∙ c .if1 .left))
+returns-2 c = rw (shifted _ (c .before .before .before .pre) .0, c .before .before .token-number .ensures .0)
+    (show-free _ _ _ _ (sym (c .before .is-taken .ensures) ∙ c .if1 .left))
 
 pub show-spec : {M : Type 1} → statement M
 show-spec =

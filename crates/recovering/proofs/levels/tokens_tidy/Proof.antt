@@ -44,7 +44,8 @@ returns c =
     let d = c .before .before .before in
     sym
     (d .before .loop .inv
-    ∙ all-next _ _ _ (from-next _ _ _ (d .loop-test .taken)) (tidy-test _ _ _ (c .before .before .token .ensures) (c .before .meant .ensures) ∙ ne-eqb _ _ (c .if1 .taken)))
+    ∙ all-next _ _ _ (from-next _ _ _ (d .loop-test .taken)) (tidy-test _ _ _ (c .before .before .token .ensures) (c .before .meant .ensures)
+    ∙ ne-eqb _ _ (c .if1 .taken)))
 
 add-j : tie.Need-add-j Inv-loop μ-loop
 add-j c = omega arith
@@ -56,7 +57,8 @@ loop-again : tie.Need-loop-again Inv-loop μ-loop
 loop-again c =
     let d = c .before .before .before in
     d .before .loop .inv
-    ∙ all-next _ _ _ (from-next _ _ _ (d .loop-test .taken)) (tidy-test _ _ _ (c .before .before .token .ensures) (c .before .meant .ensures) ∙ eq-eqb _ _ (c .if1 .left))
+    ∙ all-next _ _ _ (from-next _ _ _ (d .loop-test .taken)) (tidy-test _ _ _ (c .before .before .token .ensures) (c .before .meant .ensures)
+    ∙ eq-eqb _ _ (c .if1 .left))
 
 returns-2 : tie.Need-returns-2 Inv-loop μ-loop
 returns-2 c = sym (c .before .loop .inv ∙ tests-end _ _ _ _ (from-end _ _ _ (c .loop-test .left)))

@@ -53,7 +53,8 @@ loop-again c =
     let e = sym (c .before .in-use .ensures) in
     c .before .before .before .loop .inv
     ∙ all-next _ _ _ (from-next _ _ _ (c .before .before .loop-test .taken))
-    (⊎-elim (λ w. fine-empty _ _ _ (e ∙ not-true _ (w .0 .taken)) ∙ sym (w .1 .ensures) ∙ not-false _ (w .2 .left)) (λ w. fine-used _ _ _ (e ∙ not-false _ (w .left)))
+    (⊎-elim (λ w. fine-empty _ _ _ (e ∙ not-true _ (w .0 .taken)) ∙ sym (w .1 .ensures)
+    ∙ not-false _ (w .2 .left)) (λ w. fine-used _ _ _ (e ∙ not-false _ (w .left)))
     (c .if1 .came))
 
 returns-2 : tie.Need-returns-2 Inv-loop μ-loop

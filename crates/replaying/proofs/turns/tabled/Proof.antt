@@ -41,13 +41,26 @@ same-length : tie.Need-same-length
 same-length c = search needs
 
 returns-2 : tie.Need-returns-2
-returns-2 c = table-taken (c .before .before .before .before .before .before .before .before .before .before .args .p) (c .before .before .before .before .before .before .before .before .before .before .args .next) _ _ _ _ _ (rw (c .before .before .before .before .before .before .before .words-for .ensures) at (c .before .before .before .before .before .before .least .ensures)) (c .before .before .before .before .before .before .before .before .if1 .left) _ _ (c .before .before .before .before .create .ensures) (c .enum-told .given .1) (rw (c .before .before .before .before .before .before .before .words-for .ensures)) refl
+returns-2 c =
+    let created = c .before .before .before .before in
+    let lent = created .before .before in
+    let sized = lent .before in
+    let s = sized .before .before .before in
+    table-taken (s .args .p) (s .args .next) _ _ _ _ _ (rw (sized .words-for .ensures) at (lent .least .ensures)) (sized .before .if1 .left) _ _
+    (created .create .ensures) (c .enum-told .given .1) (rw (sized .words-for .ensures)) refl
 
 same-length-2 : tie.Need-same-length-2
 same-length-2 c = search needs
 
 returns-3 : tie.Need-returns-3
-returns-3 c = table-denied (c .before .before .before .before .before .before .before .before .before .before .before .before .args .p) (c .before .before .before .before .before .before .before .before .before .before .before .before .args .next) _ _ _ _ _ (rw (c .before .before .before .before .before .before .before .before .before .words-for .ensures) at (c .before .before .before .before .before .before .before .before .least .ensures)) (c .before .before .before .before .before .before .before .before .before .before .if1 .left) _ _ (c .before .before .before .before .before .before .create .ensures) (c .before .before .verdict .given .1) (c .unmade2 .ensures)
+returns-3 c =
+    let denied = c .before .before in
+    let created = denied .before .before .before .before in
+    let lent = created .before .before in
+    let sized = lent .before in
+    let s = sized .before .before .before in
+    table-denied (s .args .p) (s .args .next) _ _ _ _ _ (rw (sized .words-for .ensures) at (lent .least .ensures)) (sized .before .if1 .left) _ _
+    (created .create .ensures) (denied .verdict .given .1) (c .unmade2 .ensures)
 
 pub tabled-spec : {M : Type 1} → statement M
 tabled-spec =

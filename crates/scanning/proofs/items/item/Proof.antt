@@ -25,7 +25,8 @@ is-same-requires c κs = search needs
 returns : tie.Need-returns
 returns c =
     let l = c .before .before .before .before .before in
-    item-itself _ _ _ _ (l .before .before .key-at .ensures) (l .lookup-by .ensures .0) (c .before .before .before .end .given .1) (sym (c .before .is-same .ensures) ∙ c .if1 .taken)
+    item-itself _ _ _ _ (l .before .before .key-at .ensures) (l .lookup-by .ensures .0) (c .before .before .before .end .given .1)
+    (sym (c .before .is-same .ensures) ∙ c .if1 .taken)
 
 copied-requires : tie.Need-copied-requires
 copied-requires c κs =
@@ -40,7 +41,8 @@ returns-2 c =
     let d = c .before in
     let l = d .before .before .before .before .before in
     c .copied .ensures
-    ∙ item-copied _ _ _ _ (l .before .before .key-at .ensures) (l .lookup-by .ensures .0) (d .before .before .before .end .given .1) (l .before .hashes .ensures) (sym (d .before .is-same .ensures) ∙ d .if1 .left)
+    ∙ item-copied _ _ _ _ (l .before .before .key-at .ensures) (l .lookup-by .ensures .0) (d .before .before .before .end .given .1)
+    (l .before .hashes .ensures) (sym (d .before .is-same .ensures) ∙ d .if1 .left)
 
 returns-3 : tie.Need-returns-3
 returns-3 c =

@@ -48,7 +48,8 @@ loop-again c =
     let p = c .before .before .before .before .before .before .args .p in
     c .before .before .before .loop .inv
     ∙ fold-next _ _ _ (slots-next _ _ (c .before .before .loop-test .taken))
-    (⊎-elim (λ u. slot-taken _ _ p _ _ w (e ∙ u .0 .taken) ∙ sym (u .2 ∙ u .1 .ensures)) (λ u. slot-free _ _ p _ _ w (e ∙ u .0 .left) ∙ sym (u .1)) (c .if1 .came))
+    (⊎-elim (λ u. slot-taken _ _ p _ _ w (e ∙ u .0 .taken) ∙ sym (u .2 ∙ u .1 .ensures)) (λ u. slot-free _ _ p _ _ w (e ∙ u .0 .left)
+    ∙ sym (u .1)) (c .if1 .came))
 
 returns : tie.Need-returns Inv-loop μ-loop
 returns c = sym (c .before .loop .inv ∙ fold-end _ _ _ _ (slots-end _ _ (c .loop-test .left)))

@@ -52,7 +52,8 @@ loop-less : tie.Need-loop-less Inv-loop μ-loop
 loop-less c = omega arith
 
 loop-again : tie.Need-loop-again Inv-loop μ-loop
-loop-again c = c .before .before .loop .inv ∙ fold-next _ _ _ (from-next _ _ _ (c .before .loop-test .taken)) (sym (c .scan-bucket .ensures ∙ bucket-met _ _ _ _ _ refl))
+loop-again c = c .before .before .loop .inv
+    ∙ fold-next _ _ _ (from-next _ _ _ (c .before .loop-test .taken)) (sym (c .scan-bucket .ensures ∙ bucket-met _ _ _ _ _ refl))
 
 returns : tie.Need-returns Inv-loop μ-loop
 returns c = sym (c .before .loop .inv ∙ fold-end _ _ _ _ (from-end _ _ _ (c .loop-test .left)))

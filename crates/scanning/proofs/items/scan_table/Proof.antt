@@ -34,8 +34,11 @@ nth-level-requires c κs =
 
 scan-level-requires : tie.Need-scan-level-requires Inv-loop μ-loop
 scan-level-requires c κs =
-    let s = c .before .before .before .before .before in
-    (s .pre, exponent-fits (s .args .h .c) (s .args .h .state) (s .pre .state) (c .nth-level .result) (stands-in (levelsInUse (s .args .h .state)) (c .before .before .loop .n) (c .nth-level .ensures .0)))
+    let s = c .before .before .before .before .before in (
+      s .pre,
+      exponent-fits (s .args .h .c) (s .args .h .state) (s .pre .state) (c .nth-level .result)
+          (stands-in (levelsInUse (s .args .h .state)) (c .before .before .loop .n) (c .nth-level .ensures .0)),
+    )
 
 add-n : tie.Need-add-n Inv-loop μ-loop
 add-n c = omega arith
