@@ -37,7 +37,8 @@ shared-slice-read-if3 c = omega (arith, header-fits _ _ (begun (c .before) .pre 
 
 still-requires : tie.Need-still-requires
 still-requires c κs =
-    let p = begun (c .before .before) .pre in
+    let second = c .before .before .before in
+    let p = second .before .before .before .before .before .pre in
     rw (c .before .before .scan-table .ensures, p .1) (scan-within _ (rw (p .1) at (p .0)))
 
 returns-3 : tie.Need-returns-3
