@@ -4,7 +4,7 @@
  *
  *     collector                a table in ordinary memory, whose stores ragansils_make makes
  *     collector FILE           a table in a mapped file, which stays; each store is made by a loop that can flush it
- *     collector FILE STORES    the same, but the process ends after so many stores, as if power went: the next run recovers
+ *     collector FILE STORES    the same, but the process ends after so many stores, as if power failed: the next run recovers
  *
  * Exit status: 0 all was done; 1 a call refused what it should not, or a read or a write failed; 2 the arguments are wrong; 3 ended
  * after STORES stores.
@@ -51,7 +51,7 @@ static void flush_output(void)
     _exit(1);
 }
 
-/* As if power went: nothing is tidied up. */
+/* As if power failed: nothing is tidied up. */
 static void end_here(void)
 {
     printf("the process ends here\n");

@@ -8,7 +8,7 @@
  *
  * A change goes in two parts. A changing call only reads the table: it lists its stores, in order, as pairs of a word's index and the
  * new word. The stores are then made, by ragansils_make or by a loop of yours; all of them make a sound table out of a sound one, and
- * power may go after any: on the next start ragansils_recover lists at most three stores that bring back the map before the change or
+ * power may fail after any: on the next start ragansils_recover lists at most three stores that bring back the map before the change or
  * the map after it.
  *
  * What is asked of the caller, and C cannot check:
@@ -147,7 +147,7 @@ uint64_t ragansils_end(const uint64_t *table, size_t words, uint64_t *list, size
 
 /*
  * What a start does first. 0 stores: the table is sound. 1 store: one key stands twice with equal records, and the later goes.
- * 3 stores: an update was cut, and is made again from words 6 to 8. Making these stores gives a sound table; where power goes between
+ * 3 stores: an update was cut, and is made again from words 6 to 8. Making these stores gives a sound table; where power fails between
  * them, recover again, as often as it happens. Refusals 1, 2, 12.
  */
 uint64_t ragansils_recover(const uint64_t *table, size_t words, uint64_t *list, size_t list_words, uint64_t *stores);

@@ -85,7 +85,7 @@ static const struct change INSERT = { "insert", call_insert }, UPDATE = { "updat
                            BEGIN = { "begin", call_begin }, STEP = { "step", call_step }, END = { "end", call_end },
                            RECOVER = { "recover", call_recover };
 
-/* Makes the call with a fresh list, and looks that it answers so, lists these words and leaves the rest. */
+/* Makes the call with a fresh list, and checks that it answers so, lists these words and leaves the rest. */
 static void listed(struct change change, uint64_t key, uint64_t function, uint64_t place, uint64_t number, uint64_t count,
                    const uint64_t *expected)
 {

@@ -1,5 +1,5 @@
 -- Several calls in a row on one table, as a caller makes them: a call with a lent list, then `make` on the list as the call left it,
--- for all the stores that it reports or, where power goes, only for the first of them. What is said of several calls takes the
+-- for all the stores that it reports or, where power fails, only for the first of them. What is said of several calls takes the
 -- permitted events as a parameter.
 -- Assumes nothing.
 use Prim.Native.Nat.{ℕ, _+_, _≤_, min}

@@ -17,7 +17,7 @@ const USAGE: &str = "\
 usage: kills run FOLDER SEED TABLES MOMENTS
        kills self-test FOLDER SEED
 run kills a collector at every store of every kind of change, on so many tables of each kind, and at so many random moments; self-test
-looks that collectors with a mistake are caught. Files are kept in FOLDER.";
+checks that collectors with a mistake are caught. Files are kept in FOLDER.";
 
 type Answer = Result<(), String>;
 

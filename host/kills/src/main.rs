@@ -1,4 +1,4 @@
-//! Kills a collector process on a mapped file, at every store of every kind of change and at random moments, and looks that a fresh
+//! Kills a collector process on a mapped file, at every store of every kind of change and at random moments, and checks that a fresh
 //! process finds everything that was acknowledged.
 //!
 //! From the bottom up:

@@ -1,7 +1,7 @@
 //! A position table for a sampling profiler's collector: code address and inlining depth lead to a function and a place.
 //!
 //! The table stands in 64-bit words that are lent to it, in ordinary memory or in a mapped file, and is made for memory that keeps its
-//! words when power goes. Every change is an ordered list of at most ten word stores, and power may go after any of them.
+//! words when power fails. Every change is an ordered list of at most ten word stores, and power may fail after any of them.
 //!
 //! The work is done by the static library `collector`, written in Rattle and proved to answer as its rules say on every input; this
 //! crate is thin over its ten functions and has no other dependency. What is proved ends at the library: that stores are made in order
