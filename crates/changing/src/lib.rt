@@ -33,7 +33,7 @@ ghost use Rattle.rules.specs.declared.Call.the-variants.{Insert as insertCall, 
 ghost use Rattle.rules.specs.declared.Lookup.the-variants.{Absent};
 ghost use Rattle.rules.specs.declared.Placing.the-variants.{Move as move};
 ghost use Rattle.reading.specs.Within.{SlotWithin, PlacingWithin};
-ghost use Rattle.listing.specs.Listing.{Run, Takes};
+ghost use Rattle.listing.specs.Listing.{Room, Run, Takes};
 ghost use Rattle.listing.specs.Promises.{Changed, Did};
 
 // "delete | token cleared"
@@ -65,7 +65,7 @@ pub fn delete(t: &[u64], list: &mut [u64], key: u64) -> Change
 // "update, bucket has a free slot | three words to its lowest free slot; one token store that sets it and clears the old";
 // "update, bucket full | words 6, 7, 8; flag 1; function, place in the slot; flag 0"
 fn renewed(t: &[u64], list: &mut [u64], h: Header, x: Slot, key: u64, r: Record) -> usize
-    requires { ⌜ (20 ≤ length (now list)) × (length (now t) < 2 ^ 32) × SlotWithin (now t) x ⌝ }
+    requires { ⌜ Room (now list) 7 × (length (now t) < 2 ^ 32) × SlotWithin (now t) x ⌝ }
     ensures { λ n. ⌜ Run n (now (list .entry)) (now (list .exit)) (updateStores (now (t .entry)) h x key r) × (n ≤ 7) ⌝ }
 {
     let free = free_slot(
@@ -119,7 +119,7 @@ fn insert_by_move(
     key: u64,
     r: Record,
 ) -> usize
-    requires { ⌜ (20 ≤ length (now list)) × (length (now t) < 2 ^ 32) × PlacingWithin (now t) (move from to) ⌝ }
+    requires { ⌜ Room (now list) 9 × (length (now t) < 2 ^ 32) × PlacingWithin (now t) (move from to) ⌝ }
     ensures { λ n. ⌜ Run n (now (list .entry)) (now (list .exit)) (placingStores (now (t .entry)) h (move from to) key r) × (n ≤ 9) ⌝ }
 {
     list_placing(t, list, h, Placing::Move(from, to), from, key, r)
@@ -136,7 +136,7 @@ fn insert_stores(
     key: u64,
     r: Record,
 ) -> usize
-    requires { ⌜ (20 ≤ length (now list)) × (length (now t) < 2 ^ 32) × Takes (now t) p y ⌝ }
+    requires { ⌜ Room (now list) 9 × (length (now t) < 2 ^ 32) × Takes (now t) p y ⌝ }
     ensures { λ n. ⌜ Run n (now (list .entry)) (now (list .exit)) (placingStores (now (t .entry)) h p key r) × (n ≤ 9) ⌝ }
 {
     if let Placing::Move(from, to) = p {

@@ -15,7 +15,6 @@ use Rattle.lines.specs.declared.Name.the-variants.{Cap, Top, Mul1, Mul2, Key, F
 use Rattle.lines.specs.declared.Line.{Line}
 use Rattle.lines.specs.declared.Line.the-variants.{Number, Event, Cut, Bad}
 use Rattle.following.specs.declared.Due.the-variants.{Event as anEvent, Nothing as noMore}
-use Rattle.following.specs.declared.Cut.{Cut as CutLine}
 use Rattle.following.specs.declared.Cut.the-variants.{None as noCut, After as cutAfter}
 use Rattle.following.specs.declared.Script.{Script}
 use Rattle.following.specs.declared.Asked.{Asked}
@@ -143,7 +142,7 @@ HeaderRead = (c k mul1 mul2 : ℕ) → Asks start (numbered headerNames (c ∷ k
 abbrev pub EventsRead : Type 0
 EventsRead = (s : Script) → EventDue s → (q : Call) → Asks s (callLines q) (askEvent q noCut)
 
--- the same of the events with numbers, spelt out: key, function and place in their order
+-- the same of the events with numbers, spelled out: key, function and place in their order
 abbrev pub CallsNamed : Type 0
 CallsNamed = (s : Script) → EventDue s
     → ((key f place : ℕ) → Asks s (Event (Insert 0 noRecord) ∷ Number Key key ∷ Number Fn f ∷ Number At place ∷ [])

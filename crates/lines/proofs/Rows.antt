@@ -6,7 +6,6 @@ use mathlib.Core.Bool.{Bool, true, false, cond}
 use mathlib.Core.List.{List, [], _∷_, _++_, map, flatMap}
 use mathlib.Core.Option.{Option, none, some}
 use mathlib.Core.Logic.{⊎-elim}
-use native.Mathlib.Numerals.{add-one}
 use native.Mathlib.Nat.{eq-or-lt-of-le}
 use native.Mathlib.Omega.{arith}
 use lib.ListN.{length, take, drop, getD, replicate, drop-of-length-le, List·getD-eq-default}
@@ -26,8 +25,6 @@ use Rattle.lines.specs.declared.Start.the-variants.{Bytes, Not as NoStar
 use Rattle.lines.specs.declared.Found.{Found}
 use Rattle.lines.specs.declared.Found.the-variants.{Row, Not as NoRow}
 use Rattle.lines.proofs.Line.{the-type as line-type}
-use Rattle.lines.proofs.Decimal.{the-type as decimal-type}
-use Rattle.lines.proofs.Found.{the-type as found-type}
 
 -- ---- what a row says
 

@@ -24,10 +24,7 @@ pub fn decode(t: &[u64]) -> Header
         c: t[CAPACITY],
         mul1: t[MULTIPLIER1],
         mul2: t[MULTIPLIER2],
-        state: State {
-            k: t[STATE] % 256,
-            phase: t[STATE] / 256,
-        },
+        state: State::of_word(t[STATE]),
     }
 }
 

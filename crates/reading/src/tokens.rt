@@ -62,8 +62,8 @@ pub fn taken_count(h: Header, word: u64) -> u64
     (TAKEN_COUNTS >> (4 * token_number(word))) % 16
 }
 
-// The "lowest free slot", or 4 where there is none. Every bit is asked, from the highest down, and none ends the loop: which slot is
-// free first is not to be foreseen.
+// The "lowest free slot", or 4 where there is none. Every bit is asked, from the highest down, and none ends the loop: the processor
+// cannot predict which slot is free first.
 pub fn lowest_free(h: Header, word: u64) -> usize
     ensures { λ r. ⌜ (r ≡ lowestFree h word) × (r ≤ 4) ⌝ }
 {

@@ -2,15 +2,15 @@
 -- Assumes nothing.
 use Prim.Native.Nat.{ℕ, _≤_, _<_, min}
 use mathlib.Core.Path.{_≡_, refl, ap, _∙_}
-use mathlib.Core.List.{List, [], _∷_, _++_}
+use mathlib.Core.List.{List}
 use mathlib.Core.Logic.{⊎-elim}
 use native.Mathlib.Omega.{arith}
 use mathlib.Core.Option.{none}
-use lib.ListN.{take, drop, getD, take-append-drop}
+use lib.ListN.{take, getD, take-append-drop}
 use borrow.Author.Tests.{le-leb, lt-leb}
-use Rattle.rules.specs.Words.{Table, wordsFor}
-use Rattle.rules.specs.Answers.{Meaning, changeMeans, queryMeans, verdictMeans}
-use Rattle.rules.specs.Results.{changeResult, queryResult, createResult, makeResult}
+use Rattle.rules.specs.Words.{wordsFor}
+use Rattle.rules.specs.Answers.{Meaning, changeMeans, verdictMeans}
+use Rattle.rules.specs.Results.{changeResult, queryResult, createResult}
 use Rattle.rules.specs.Histories.{reported}
 use Rattle.rules.specs.declared.Change.{Change}
 use Rattle.rules.specs.declared.Change.the-variants.{Listed, Refused}
@@ -26,12 +26,12 @@ use Rattle.following.specs.declared.Cut.the-variants.{None as noCut, After as c
 use Rattle.following.specs.declared.Due.the-variants.{Nothing as noMore}
 use Rattle.following.specs.declared.Script.{Script}
 use Rattle.following.specs.declared.Asked.the-variants.{Table as askTable}
-use Rattle.replaying.specs.Events.{lent, queried, either, keptUnder, changeAnswer, answerTo, tableAfter}
+use Rattle.replaying.specs.Events.{lent, queried, keptUnder, changeAnswer, answerTo, tableAfter}
 use Rattle.replaying.specs.Replays.{Turned, tableOf, created, askedOf, finished, finishOf}
-use Rattle.replaying.specs.Sentences.{Tells, listAfter, Answered, ChangesAnswered, NothingAnswered, BadAnswered, EndAnswered, LetsMake}
+use Rattle.replaying.specs.Sentences.{Tells, Answered, ChangesAnswered, NothingAnswered, BadAnswered, EndAnswered, LetsMake}
 use Rattle.replaying.specs.Sentences.{CutChangesAnswered, QueriesAnswered, Verdicts, TableMade, TableNotMade}
 use Rattle.replaying.specs.declared.Answer.{Answer}
-use Rattle.replaying.specs.declared.Answer.the-variants.{Created, Changed, Kept, Found}
+use Rattle.replaying.specs.declared.Answer.the-variants.{Created, Kept}
 use Rattle.replaying.specs.declared.Replay.{Replay}
 use Rattle.replaying.proofs.Made.{after-event}
 

@@ -7,7 +7,7 @@ use mathlib.Core.List.{List, [], _∷_, _++_}
 use mathlib.Core.Bool.{Bool}
 use mathlib.Core.Logic.{_⊎_}
 use lib.ListN.{take, drop}
-use Rattle.rules.specs.Words.{Table, wordsFor}
+use Rattle.rules.specs.Words.{wordsFor}
 use Rattle.rules.specs.Answers.{changeMeans, queryMeans, verdictMeans}
 use Rattle.rules.specs.Results.{changeResult, queryResult, createResult, makeResult}
 use Rattle.rules.specs.declared.Call.{Call}

@@ -1,4 +1,4 @@
--- Lists and numbers: what holds of them whatever the rules are. Loops of the code lean on these laws.
+-- Lists and numbers, and loops along them: a search, a fold, a test of each element, the slots of a bucket.
 pub mod Lists
 pub mod Tests
 pub mod Walks

@@ -2,10 +2,20 @@
 use crate::State;
 ghost use mathlib.Core.Path.{_≡_};
 ghost use Prim.Native.Nat.{_≤_};
-ghost use Rattle.rules.specs.Words.{atRest, stateGood, stateWord};
+ghost use Rattle.rules.specs.Words.{stateOf, atRest, stateGood, stateWord};
 ghost use Rattle.rules.specs.Stores.{begunOf, endedOf};
 
 impl State {
+    // "state: k + 256·phase", read from its word
+    pub fn of_word(word: u64) -> State
+        ensures { λ r. ⌜ r ≡ stateOf word ⌝ }
+    {
+        State {
+            k: word % 256,
+            phase: word / 256,
+        }
+    }
+
     // "phase 0 at rest"
     pub fn at_rest(self) -> bool
         ensures { λ r. ⌜ r ≡ atRest self ⌝ }

@@ -20,7 +20,7 @@ use Rattle.replaying.specs.Replays.{Turned, askedOf, turnOf, finished, finishOf
 use Rattle.replaying.specs.declared.Answer.{Answer}
 use Rattle.replaying.specs.declared.Answer.the-variants.{Nothing}
 use Rattle.replaying.specs.declared.Replay.{Replay}
-use Rattle.running.specs.Runs.{heldAfter, After, byteTaken, overAt, known, endOf, fed, silent, spoken, KnownIsAll, UnknownIsNotAll, Stand}
+use Rattle.running.specs.Runs.{heldAfter, After, byteTaken, overAt, endOf, fed, silent, spoken, KnownIsAll, UnknownIsNotAll, Stand}
 use Rattle.running.specs.Runs.{afterByte, afterBytes, answersIn, PartsAreFed}
 
 -- ---- parts

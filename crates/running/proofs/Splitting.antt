@@ -2,10 +2,10 @@
 -- Assumes nothing.
 use Prim.Native.Nat.{ℕ}
 use mathlib.Core.Path.{_≡_, refl, ap, _∙_}
-use mathlib.Core.Bool.{Bool, true, cond}
+use mathlib.Core.Bool.{Bool}
 use mathlib.Core.List.{List, [], _∷_, _++_}
 use borrow.Author.Tests.{ne-eqb}
-use Rattle.running.specs.Runs.{joined, split, withEnds, NoNewline, Lines, someOf, LinesSplit}
+use Rattle.running.specs.Runs.{split, withEnds, NoNewline, someOf, LinesSplit}
 
 -- bytes that are no newline begin the first line
 split-line : (l after : List ℕ) → NoNewline l → split (l ++ (10 ∷ after)) ≡ (l ∷ split after .0, split after .1)

@@ -11,7 +11,7 @@ ghost use mathlib.Core.Path.{_≡_};
 ghost use Rattle.running.specs.Runs.{ready as readyOf, HeldIs, LineTaken, ByteTaken, known as knownOf, endOf};
 
 // As many bytes of a line as are held: one more than the longest good line has, so that so many bytes tell that a line is bad.
-pub const LINE: usize = 27;
+pub const LINE_ROOM: usize = 27;
 
 // Where a run stands: in its replay, and how many bytes of the line are held.
 pub struct Run {
@@ -32,10 +32,10 @@ pub fn ready() -> Run
 }
 
 // One byte more of a line, as far as there is place.
-fn hold(line: &mut [u8; LINE], held: usize, byte: u8) -> usize
+fn hold(line: &mut [u8; LINE_ROOM], held: usize, byte: u8) -> usize
     ensures { λ r. ⌜ HeldIs (now (line .entry)) held byte r (now (line .exit)) ⌝ }
 {
-    if held < LINE {
+    if held < LINE_ROOM {
         line[held] = byte;
         return held + 1;
     }
@@ -43,7 +43,7 @@ fn hold(line: &mut [u8; LINE], held: usize, byte: u8) -> usize
 }
 
 // "each ended by a newline"
-fn take_newline(run: Run, room: &mut [u64], line: &[u8; LINE]) -> Taken
+fn take_newline(run: Run, room: &mut [u64], line: &[u8; LINE_ROOM]) -> Taken
     ensures { λ r. ⌜ LineTaken run (now (room .entry)) (now (line .entry)) r (now (room .exit)) ⌝ }
 {
     let bytes: &[u8] = line;
@@ -62,7 +62,7 @@ fn take_newline(run: Run, room: &mut [u64], line: &[u8; LINE]) -> Taken
     }
 }
 
-pub fn take_byte(run: Run, room: &mut [u64], line: &mut [u8; LINE], byte: u8) -> Taken
+pub fn take_byte(run: Run, room: &mut [u64], line: &mut [u8; LINE_ROOM], byte: u8) -> Taken
     ensures { λ r. ⌜ ByteTaken run (now (room .entry)) (now (line .entry)) byte r (now (room .exit)) (now (line .exit)) ⌝ }
 {
     if byte == b'\n' {

@@ -23,15 +23,15 @@ underNames (n ∷ ns) [] = []
 underNames (n ∷ ns) (v ∷ vs) = (n, v) ∷ underNames ns vs
 
 -- a call's number, and its values under their names
-abbrev pub callLines : List String → ℕ → List ℕ → List Line
-callLines names number values = ("answer", number) ∷ underNames names values
+abbrev pub answerLines : List String → ℕ → List ℕ → List Line
+answerLines names number values = ("answer", number) ∷ underNames names values
 
 -- a change: "answer=0, stores=4". A query: "answer=0, fn=10, at=20, probes=1"
 abbrev pub changeLines : ℕ → List ℕ → List Line
-changeLines = callLines ("stores" ∷ [])
+changeLines = answerLines ("stores" ∷ [])
 
 abbrev pub foundLines : ℕ → List ℕ → List Line
-foundLines = callLines ("fn" ∷ "at" ∷ "probes" ∷ [])
+foundLines = answerLines ("fn" ∷ "at" ∷ "probes" ∷ [])
 
 -- a made table "made=0", and one that is not made its refusal: "After `made=13` comes `events=0`"
 abbrev pub createdLines : Verdict → List Line

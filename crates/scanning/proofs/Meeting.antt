@@ -3,7 +3,7 @@
 use Prim.Native.Nat.{ℕ, _-_}
 use mathlib.Core.Path.{_≡_, refl, sym, ap, _∙_}
 use mathlib.Core.Bool.{Bool, true, false, cond, _||_, or-false}
-use mathlib.Core.List.{List, [], _∷_, map, foldl, foldl-map}
+use mathlib.Core.List.{[], _∷_, map, foldl, foldl-map}
 use lib.Dec.{ltb, eqb}
 use borrow.Author.Tests.{eqb-true, le-ltb, eq-eqb, ne-eqb}
 use native.Mathlib.Omega.{arith}

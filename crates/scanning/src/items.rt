@@ -129,9 +129,9 @@ pub fn scan_table(t: &[u64], h: Header) -> Scan
     requires { ⌜ GoodHeader (length (now t)) h ⌝ }
     ensures { λ r. ⌜ r ≡ scanOf (now (t .entry)) h ⌝ }
 {
-    let count = level_count(h.state);
+    let levels = level_count(h.state);
     let mut all = Scan::Clear;
-    for n in 0..count {
+    for n in 0..levels {
         all = scan_level(t, h, nth_level(h.state, n), all);
     }
     all

@@ -8,7 +8,6 @@ use mathlib.Core.Logic.{⊎-elim, inl, inr}
 use native.Mathlib.Nat.{zero-add}
 use native.Mathlib.Numerals.{add-one}
 use native.Mathlib.Omega.{arith}
-use native.Mathlib.Decide.{decLe}
 use lib.ListN.{length, take, drop, getD, length-append, length-drop}
 use lib.Dec.{eqb, ltb}
 use borrow.Author.Tests.{ltb-true, ltb-false, eqb-false}
@@ -16,7 +15,7 @@ use lib.Seq.{take-suc, take-add, take-all, length-take-le}
 use denote.Enum.Declared.{tagOf}
 use types.Run.{OneOf}
 use Rattle.replaying.specs.declared.Answer.{Answer}
-use Rattle.running.specs.Runs.{lineRoom, ready, byteTaken, TakenIs, known, endOf, fed, spoken, Stand, afterByte, afterBytes, answersIn}
+use Rattle.running.specs.Runs.{lineRoom, ready, byteTaken, TakenIs, known, endOf, fed, Stand, afterByte, afterBytes, answersIn}
 use Rattle.running.specs.declared.Run.{Run}
 use Rattle.running.specs.declared.Taken.{Taken}
 use Rattle.running.proofs.Parts.{partsAreFed, after-more, answers-more, knownIsAll}

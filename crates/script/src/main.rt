@@ -4,7 +4,7 @@
 use libc::STDERR_FILENO;
 use libc::STDIN_FILENO;
 use libc::STDOUT_FILENO;
-use running::LINE;
+use running::LINE_ROOM;
 use running::Run;
 use running::end;
 use running::known;
@@ -39,7 +39,7 @@ fn pauses(run: Run, free: usize) -> bool
 fn take_some(
     start: Run,
     room: &mut [u64],
-    line: &mut [u8; LINE],
+    line: &mut [u8; LINE_ROOM],
     text: &[u8],
     out: &mut [u8],
 ) -> Took
@@ -76,7 +76,7 @@ struct Part {
 fn take_part(
     start: Run,
     room: &mut [u64],
-    line: &mut [u8; LINE],
+    line: &mut [u8; LINE_ROOM],
     part: &[u8],
     out: &mut [u8],
 ) -> Part
@@ -133,7 +133,13 @@ fn finish(run: Run, out: &mut [u8]) -> bool
 }
 
 // Takes what was read, which is nothing where the input has ended.
-fn take_read(run: Run, room: &mut [u64], line: &mut [u8; LINE], part: &[u8], out: &mut [u8]) -> Turn
+fn take_read(
+    run: Run,
+    room: &mut [u64],
+    line: &mut [u8; LINE_ROOM],
+    part: &[u8],
+    out: &mut [u8],
+) -> Turn
     requires { ⌜ 128 ≤ length (now out) ⌝ }
     ensures { λ r. ⌜ WentOn (standing run (now (room .entry)) (now (line .entry))) (now (part .entry)) r
         (standing (r .run) (now (room .exit)) (now (line .exit))) ⌝ }
@@ -168,7 +174,7 @@ fn take_read(run: Run, room: &mut [u64], line: &mut [u8; LINE], part: &[u8], out
 fn read_some(
     run: Run,
     room: &mut [u64],
-    line: &mut [u8; LINE],
+    line: &mut [u8; LINE_ROOM],
     input: &mut [u8],
     out: &mut [u8],
 ) -> Turn
@@ -194,7 +200,7 @@ fn read_some(
 }
 
 // A proved loop has to end, and nothing says that the input does. So the parts are counted, up to a number that no run comes to.
-fn read_all(room: &mut [u64], line: &mut [u8; LINE], input: &mut [u8], out: &mut [u8]) -> Turn
+fn read_all(room: &mut [u64], line: &mut [u8; LINE_ROOM], input: &mut [u8], out: &mut [u8]) -> Turn
     requires { ⌜ (wordsFor 8 ≤ length (now room)) × (128 ≤ length (now out)) ⌝ }
     ensures { λ r. ⌜ Ran (begun (now (room .entry)) (now (line .entry))) (r .outcome) (standing (r .run) (now (room .exit)) (now (line .exit))) ⌝ }
 {
@@ -237,7 +243,7 @@ fn tell(outcome: Outcome) {
 // The room holds a table of the largest cap, 8.
 fn main() {
     let mut words = [0u64; 6652];
-    let mut line = [0u8; LINE];
+    let mut line = [0u8; LINE_ROOM];
     let mut input = io::large_buffer();
     let mut out = io::large_buffer();
     let last = read_all(&mut words, &mut line, &mut input, &mut out);

@@ -21,7 +21,7 @@ renewed-requires : tie.Need-renewed-requires
 renewed-requires c κs =
     let f = c .before .before in
     let s = f .before .before .before .before .before in
-    (s .pre .0, table-small _ _ (s .pre .1), rw (f .found .given .1) at (f .before .before .lookup .ensures .1))
+    (omega (arith, s .pre .0), table-small _ _ (s .pre .1), rw (f .found .given .1) at (f .before .before .lookup .ensures .1))
 
 returns : tie.Need-returns
 returns c = let d = c .before .before in did-as (update-absent _ _ _ (d .lookup .ensures .0) _ (is-absent _ (c .before .match .keys1) .1)) (did-refuse _ _)

@@ -28,7 +28,10 @@ begun-requires : tie.Need-begun-requires
 begun-requires c κs = search needs
 
 word-requires : tie.Need-word-requires
-word-requires c κs = rw (c .begun .ensures) (omega (arith, c .before .before .before .before .before .before .before .before .before .pre .1), omega arith)
+word-requires c κs =
+    let second = c .before .before in
+    let first = second .before .before .before in
+    rw (c .begun .ensures) (omega (arith, first .before .before .before .before .pre .1), omega arith)
 
 store-requires : tie.Need-store-requires
 store-requires c κs = search needs

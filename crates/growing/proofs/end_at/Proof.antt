@@ -41,7 +41,8 @@ ended-requires c κs = search needs
 word-requires : tie.Need-word-requires
 word-requires c κs =
     let f = c .before .before .before .before in
-    let z = sizes _ _ (f .before .before .before .before .before .before .pre .1) in
+    let first = f .before in
+    let z = sizes _ _ (first .before .before .before .before .before .pre .1) in
     rw (c .ended .ensures) (omega (arith, z .most, z .cap), omega arith)
 
 store-requires : tie.Need-store-requires

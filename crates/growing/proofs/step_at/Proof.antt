@@ -45,7 +45,8 @@ step-item-requires : tie.Need-step-item-requires
 step-item-requires c κs =
     let i = c .before .before in
     let f = i .before .before in
-    let s = f .before .before .before .before .before .before in
+    let first = f .before in
+    let s = first .before .before .before .before .before in
     (s .pre .0, s .pre .1, rw (i .item .given .1) at (f .first-item .ensures .1), item-some _ (sym (f .first-item .ensures .0) ∙ i .item .given .1))
 
 same-length : tie.Need-same-length

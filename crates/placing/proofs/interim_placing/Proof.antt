@@ -33,7 +33,8 @@ bottom-requires c κs = header-state _ _ (c .before .before .before .before .bef
 
 room-requires-2 : tie.Need-room-requires-2
 room-requires-2 c κs =
-    let s = c .before .before .before .before .before .before in
+    let d = c .before .before in
+    let s = d .before .before .before .before in
     bottom-within (now (s .args .t)) _ (s .pre .0) (c .bottom .ensures .0)
 
 enum-told-2 : tie.Need-enum-told-2

@@ -3,13 +3,13 @@
 -- Assumes nothing.
 use Prim.Native.Nat.{ℕ, _+_, _*_, _≤_}
 use mathlib.Core.Path.{_≡_, refl, sym, ap, _∙_}
-use mathlib.Core.List.{[], _∷_, _++_, List·Memᴰ as In, List·Memᴰ·head as here, List·Memᴰ·tail as there, List·Memᴰ·cases-cons, List·Memᴰ·eq-of-singleton}
-use mathlib.Core.Logic.{inl, inr, ⊎-elim}
+use mathlib.Core.List.{_++_, List·Memᴰ·tail as there}
+use mathlib.Core.Logic.{inl, inr}
 use mathlib.Core.Option.{Option, none, some}
 use native.Mathlib.Omega.{arith}
 use native.Mathlib.Decide.{ℕ-discrete}
 use lib.ListN.{length}
-use Rattle.rules.specs.Words.{Table, GoodHeader, headerOf, flagOf, interim, topOf, bottomOf, interimOf, levelsInUse, InLevel, InUse, placeOf}
+use Rattle.rules.specs.Words.{Table, GoodHeader, headerOf, flagOf, interimOf, InLevel, InUse, placeOf}
 use Rattle.rules.specs.Words.{tokenWord, keyWord, functionWord, placeWord, keyIn, recordIn, tokenOf, hide, takenOf, taken}
 use Rattle.rules.specs.Placing.{freeSlot, placing}
 use Rattle.rules.specs.Stores.{putStores, clearStores, moveStores, placingStores, redoStores, updateWith, stepStores, made}

@@ -1,6 +1,6 @@
 -- The places of a key are buckets of its levels in use, and all of those lie in the table.
 -- Assumes nothing.
-use Prim.Native.Nat.{ℕ, _+_, _-_, _*_, _%_, _^_, _≤_, _<_}
+use Prim.Native.Nat.{ℕ, _+_, _-_, _*_, _%_, _≤_, _<_}
 use mathlib.Core.Path.{_≡_, refl}
 use mathlib.Core.Bool.{Bool, true, false, cond}
 use mathlib.Core.List.{[], _∷_, List·Memᴰ as In, List·Memᴰ·not-nil, List·Memᴰ·cases-cons}

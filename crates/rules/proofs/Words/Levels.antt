@@ -1,5 +1,5 @@
 -- The levels in use, in every good state: each has an exponent of at most c, no two have the same one, and so no two share a bucket.
--- The laws below the first part name no phase: what is asked of the levels is asked here.
+-- Here alone the laws know that the levels in use are the top, the bottom and, but for at rest, the interim level.
 -- Assumes nothing.
 use Prim.Native.Nat.{ℕ, zero, suc, _+_, _-_, _*_, _^_, _≤_, _<_}
 use mathlib.Core.Path.{_≡_, refl, sym, ap}

@@ -1,7 +1,7 @@
 -- "levels not in use": a bucket of the table lies in exactly one range 2^e − 1 to 2^(e+1) − 2 with e at most c, so the buckets
 -- that are listed for the exponents no level in use has are those that lie in no level in use.
 -- Assumes nothing.
-use Prim.Native.Nat.{ℕ, zero, suc, _+_, _-_, _*_, _^_, _≤_, _<_}
+use Prim.Native.Nat.{ℕ, zero, suc, _+_, _-_, _^_, _≤_, _<_}
 use mathlib.Core.Path.{_≡_, refl}
 use mathlib.Core.Bool.{Bool, true, false, not}
 use mathlib.Core.List.{List, List·Memᴰ as In}

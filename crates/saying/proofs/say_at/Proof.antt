@@ -1,6 +1,5 @@
 -- `saying::say_at` meets its contract.
 -- Assumes nothing.
-use mathlib.Core.Path.{ap, _∙_}
 use native.Mathlib.Omega.{arith}
 use Rattle.saying.proofs.LinesPut.{nothing-put, said-put}
 use borrow.Author.Needs.{needs}

@@ -1,9 +1,7 @@
 -- `placing::moves::moving` meets its contract: the first of the three parts that moves an item.
 -- Assumes nothing.
-use mathlib.Core.Path.{_≡_}
 use denote.Ref.{now}
 use borrow.Author.Needs.{needs}
-use Rattle.rules.specs.Words.{topOf, bottomOf}
 use Rattle.rules.proofs.Words.Headers.{header-state}
 use Rattle.placing.specs.Within.{LevelWithin}
 use Rattle.placing.proofs.Goals.{top-within, bottom-within}
@@ -55,7 +53,7 @@ returns-2 c =
     )
 
 moves-of-level-requires-3 : tie.Need-moves-of-level-requires-3
-moves-of-level-requires-3 c κs = let b = c .before .before .before .before .before .before in (lower b, upper b)
+moves-of-level-requires-3 c κs = let d = c .before .before .before in let b = d .before .before .before in (lower b, upper b)
 
 returns-3 : tie.Need-returns-3
 returns-3 c =

@@ -1,7 +1,6 @@
 -- `reading::header::decode` meets its contract.
 -- Assumes nothing.
-use mathlib.Core.Path.{refl}
-use Rattle.rules.specs.Words.{headerOf, stateOf}
+use Rattle.rules.specs.Words.{headerOf}
 use borrow.Author.Needs.{needs}
 use Rattle.reading.proofs.header.decode.Statement.{statement}
 use Rattle.reading.proofs.header.decode.Tie as tie
@@ -18,15 +17,15 @@ shared-slice-read-t7 c = search needs
 shared-slice-read-t9 : tie.Need-shared-slice-read-t9
 shared-slice-read-t9 c = search needs
 
-shared-slice-read-t11 : tie.Need-shared-slice-read-t11
-shared-slice-read-t11 c = search needs
+shared-slice-read-of-word : tie.Need-shared-slice-read-of-word
+shared-slice-read-of-word c = search needs
 
-shared-slice-read-t14 : tie.Need-shared-slice-read-t14
-shared-slice-read-t14 c = search needs
+of-word-requires : tie.Need-of-word-requires
+of-word-requires c κs = search needs
 
 returns : tie.Need-returns
-unfolding headerOf stateOf
-returns c = refl
+unfolding headerOf
+returns c = rw (c .of-word .ensures)
 
 pub decode-spec : {M : Type 1} → statement M
 decode-spec =
@@ -36,6 +35,6 @@ decode-spec =
     shared-slice-read-t5
     shared-slice-read-t7
     shared-slice-read-t9
-    shared-slice-read-t11
-    shared-slice-read-t14
+    shared-slice-read-of-word
+    of-word-requires
     returns)

@@ -1,6 +1,5 @@
 -- `reading::levels::nth_level` meets its contract.
 -- Assumes nothing.
-use mathlib.Core.Path.{_∙_}
 use native.Mathlib.Omega.{arith}
 use Rattle.rules.proofs.Words.States.{state-fits}
 use Rattle.rules.proofs.Words.Levels.{third-level, earlier-level}

@@ -32,7 +32,7 @@ in-use-requires : tie.Need-in-use-requires Inv-loop μ-loop
 in-use-requires c κs = header-state _ _ (c .before .before .before .before .pre)
 
 level-empty-requires : tie.Need-level-empty-requires Inv-loop μ-loop
-level-empty-requires c κs = (c .before .before .before .before .before .before .pre, omega (arith, c .before .before .loop-test .taken))
+level-empty-requires c κs = let used = c .before .before in (used .before .before .before .before .pre, omega (arith, c .before .before .loop-test .taken))
 
 returns : tie.Need-returns Inv-loop μ-loop
 returns c =

@@ -16,10 +16,10 @@ use Rattle.scanning.proofs.items.scan_table.Statement.{statement}
 use Rattle.scanning.proofs.items.scan_table.Tie as tie
 
 abbrev Inv-loop : tie.InvT-loop
-Inv-loop t h count all₀ n₀ all n = scanOf t h ≡ foldFrom (within (slotMet t h) slotsOf) all (levelsInUse (h .state)) n
+Inv-loop t h levels all₀ n₀ all n = scanOf t h ≡ foldFrom (within (slotMet t h) slotsOf) all (levelsInUse (h .state)) n
 
 abbrev μ-loop : tie.MeasureT-loop
-μ-loop t h count all₀ n₀ all n = count - n
+μ-loop t h levels all₀ n₀ all n = levels - n
 
 level-count-requires : tie.Need-level-count-requires Inv-loop μ-loop
 level-count-requires c κs = search needs

@@ -1,6 +1,5 @@
 -- `scanning::items::stands_in` meets its contract.
 -- Assumes nothing.
-use mathlib.Core.Path.{_∙_}
 use borrow.Author.Needs.{needs}
 use Rattle.scanning.proofs.Meeting.{atPlace, at-first, at-second}
 use Rattle.scanning.proofs.items.stands_in.Statement.{statement}
