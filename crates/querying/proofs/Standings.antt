@@ -8,7 +8,7 @@ use mathlib.Core.Option.{Option, none, some}
 use native.Mathlib.Omega.{arith}
 use lib.ListN.{length}
 use Rattle.rules.specs.Choice.{given}
-use Rattle.rules.specs.Words.{Table, slotAt, slotsIn, placeOf}
+use Rattle.rules.specs.Words.{Table, slots, slotAt, slotsIn, placeOf}
 use Rattle.rules.specs.Places.{holds, hitIn, standsOr, seek}
 use Rattle.rules.specs.declared.Header.{Header}
 use Rattle.rules.specs.declared.Place.{Place}
@@ -24,7 +24,7 @@ use Rattle.querying.specs.Promises.{hereOr, position}
 slot-within : (t : Table) (p : Place) (x : Slot) → BucketWithin t (p .bucket) → In x (slotsIn p) → SlotWithin t x
 unfolding slotsIn slotAt placeOf
 slot-within t p x w i =
-    let r = map-in (slotAt p) (0 ∷ 1 ∷ 2 ∷ 3 ∷ []) x i in
+    let r = map-in (slotAt p) slots x i in
     (rw (ap (λ (q : Place). q .bucket) (slot-place p x i)) w, rw (ap (λ (y : Slot). y .slot) (r .2)) (omega (arith, from-in 0 4 (r .0) (r .1))))
 
 module _ (t : Table) (h : Header) (key : ℕ) where

@@ -154,8 +154,11 @@ unusedBuckets h = flatMap (λ (e : ℕ). bucketsOf (2 ^ e)) (select (λ (e : ℕ
 unfoldable pub slotAt : Place → ℕ → Slot
 slotAt p s = record { level = p .level; bucket = p .bucket; slot = s }
 
+abbrev pub slots : List ℕ
+slots = from 0 4
+
 unfoldable pub slotsIn : Place → List Slot
-slotsIn p = map (slotAt p) (0 ∷ 1 ∷ 2 ∷ 3 ∷ [])
+slotsIn p = map (slotAt p) slots
 
 unfoldable pub placeOf : Slot → Place
 placeOf x = record { level = x .level; bucket = x .bucket }
@@ -184,8 +187,11 @@ pub record InUse (s : State) (x : Slot) : Type 0 where
 unfoldable pub tokenWord : ℕ → ℕ
 tokenWord j = 9 + 13 * j
 
+abbrev pub slotWord : ℕ → ℕ → ℕ
+slotWord j s = tokenWord j + (1 + 3 * s)
+
 unfoldable pub keyWord : Slot → ℕ
-keyWord x = tokenWord (x .bucket) + (1 + 3 * x .slot)
+keyWord x = slotWord (x .bucket) (x .slot)
 
 unfoldable pub functionWord : Slot → ℕ
 functionWord x = keyWord x + 1
@@ -204,7 +210,7 @@ tokenOf t j = word t (tokenWord j)
 
 -- the keys of bucket j's four slots
 unfoldable pub keysOf : Table → ℕ → ℕ → ℕ
-keysOf t j s = word t (tokenWord j + (1 + 3 * s))
+keysOf t j s = word t (slotWord j s)
 
 -- ---- token words: what one holds is known only here
 
@@ -223,10 +229,7 @@ show h w s key = cond (isTaken h w s) (tokenNumber w) (tokenNumber w + 2 ^ s)
 unfoldable pub hide : Header → ℕ → ℕ → ℕ
 hide h w s = cond (isTaken h w s) (tokenNumber w - 2 ^ s) (tokenNumber w)
 
--- "slots 0 to 3" of a token word: how many are taken; its "lowest free slot" and its lowest taken one, 4 where there is none
-abbrev pub slots : List ℕ
-slots = from 0 4
-
+-- how many slots of a token word are taken; its "lowest free slot" and its lowest taken one, 4 where there is none
 unfoldable pub takenOf : Header → ℕ → ℕ
 takenOf h w = length (select (isTaken h w) slots)
 

@@ -4,13 +4,13 @@
 use Prim.Native.Nat.{ℕ, _+_, _<_}
 use mathlib.Core.Path.{_≡_, ap, _∙_}
 use mathlib.Core.Bool.{Bool, true, false, not}
-use mathlib.Core.List.{[], _∷_, _++_, List·Memᴰ as In, List·Memᴰ·cases-cons, List·Memᴰ·append-cases}
+use mathlib.Core.List.{_∷_, _++_, List·Memᴰ as In, List·Memᴰ·cases-cons, List·Memᴰ·append-cases}
 use mathlib.Core.Logic.{_⊎_, inl, inr}
 use mathlib.Core.Option.{none, some}
 use native.Mathlib.Omega.{arith}
 use borrow.Author.Tests.{not-true, not-false}
 use Rattle.rules.specs.Choice.{given, firstOf}
-use Rattle.rules.specs.Words.{Table, slotAt, slotsIn, placeOf, isTaken, takenOf, taken}
+use Rattle.rules.specs.Words.{Table, slots, slotAt, slotsIn, placeOf, isTaken, takenOf, taken}
 use Rattle.rules.specs.Placing.{freeSlot}
 use Rattle.rules.specs.declared.Header.{Header}
 use Rattle.rules.specs.declared.Place.{Place}
@@ -20,7 +20,7 @@ use Rattle.rules.proofs.Basics.Lists.{ascending-after, ascending-map, a
 
 pub slot-place : (p : Place) (s : Slot) → In s (slotsIn p) → placeOf s ≡ p
 unfolding slotsIn slotAt placeOf
-slot-place p s i = let r = map-in (slotAt p) (0 ∷ 1 ∷ 2 ∷ 3 ∷ []) s i in rw (r .2)
+slot-place p s i = let r = map-in (slotAt p) slots s i in rw (r .2)
 
 -- the slots of a bucket ascend
 abbrev Below : Slot → Slot → Type 0
@@ -28,7 +28,7 @@ Below x y = x .slot < y .slot
 
 slots-below : (p : Place) → Ascending Below (slotsIn p)
 unfolding slotsIn slotAt
-slots-below p = ascending-map _<_ Below (slotAt p) (0 ∷ 1 ∷ 2 ∷ 3 ∷ []) (ascending-from 0 4) (λ x y e. e)
+slots-below p = ascending-map _<_ Below (slotAt p) slots (ascending-from 0 4) (λ x y e. e)
 
 -- the first slot of a bucket that passes a test is its lowest that does
 module _ (q : Slot → Bool) (p : Place) where

@@ -9,7 +9,7 @@ use mathlib.Core.Logic.{inl, inr}
 use native.Mathlib.Omega.{arith}
 use lib.Pow.{pow-pos}
 use Rattle.rules.specs.Words.{atRest, sizeOf, topOf, bottomOf, interimOf, levelsInUse, bucketsOf, slotAt, slotsIn, placeOf, placeAt, slotsOf}
-use Rattle.rules.specs.Words.{slotsInUse, InLevel, InUse}
+use Rattle.rules.specs.Words.{slots, slotsInUse, InLevel, InUse}
 use Rattle.rules.specs.Soundness.{Before}
 use Rattle.rules.specs.declared.State.{State}
 use Rattle.rules.specs.declared.Level.{Level}
@@ -28,7 +28,7 @@ Under p q = (p .level ≡ q .level) × (p .bucket < q .bucket)
 
 place-ascends : (p : Place) → Ascending Before (slotsIn p)
 unfolding slotsIn slotAt
-place-ascends p = ascending-map _<_ Before (slotAt p) (0 ∷ 1 ∷ 2 ∷ 3 ∷ []) (ascending-from 0 4) (λ x y e. inr (refl, inr (refl, e)))
+place-ascends p = ascending-map _<_ Before (slotAt p) slots (ascending-from 0 4) (λ x y e. inr (refl, inr (refl, e)))
 
 level-ascends : (l : Level) → Ascending Before (slotsOf l)
 unfolding slotsOf bucketsOf placeAt Under placeOf
@@ -47,7 +47,7 @@ level-ascends l =
 pub slot-number : (p : Place) (x : Slot) → In x (slotsIn p) → x .slot < 4
 unfolding slotsIn slotAt
 slot-number p x i =
-    let r = map-in (slotAt p) (0 ∷ 1 ∷ 2 ∷ 3 ∷ []) x i in
+    let r = map-in (slotAt p) slots x i in
     rw (ap (λ (z : Slot). z .slot) (r .2)) (omega (arith, from-in 0 4 (r .0) (r .1)))
 
 -- a slot of a level, by its name and range
