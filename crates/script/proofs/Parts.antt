@@ -171,9 +171,10 @@ rest-lent u part taken t = let same : take (length part - taken) (drop taken par
 
 -- more of a part is taken
 pub part-more : (s : Stand) (part : List ℕ) {u : Stand} (taken : ℕ) → taken ≤ length part → u ≡ afterBytes s (take taken part)
-    → {r : Took} {v : Stand} {out : List ℕ} → TookSome u (drop taken part) r v out
+    → {r : Took} {v : Stand} {out : List ℕ} → TookSome u (take (length part - taken) (drop taken part)) r v out
     → (taken + r .taken ≤ length part) × (v ≡ afterBytes s (take (taken + r .taken) part))
-part-more s part {u} taken within e {r} {v} t =
+part-more s part {u} taken within e {r} {v} lent =
+    let t = rest-lent u part taken lent in
     let most : r .taken ≤ length part - taken = rw (length-drop taken part) at (t .within) in
     let all : take (taken + r .taken) part ≡ take taken part ++ take (r .taken) (drop taken part) = take-add taken (r .taken) part in (
       omega (arith, most, within),

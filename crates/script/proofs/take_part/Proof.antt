@@ -36,12 +36,19 @@ part-take-some-end c = search needs
 take-some-requires : tie.Need-take-some-requires Inv-loop μ-loop
 take-some-requires c κs = search needs
 
+-- from the call of `write_all` back to that of `take_some`, and from there back to the loop
+abbrev taking : tie.After-write-all Inv-loop μ-loop → tie.After-take-some Inv-loop μ-loop
+taking c = c .before .before .before .before .before .before .before .before
+
+abbrev looping : tie.After-take-some Inv-loop μ-loop → tie.At-loop Inv-loop μ-loop
+looping c = c .before .before .before .before .before .before .before .before
+
 add-taken : tie.Need-add-taken Inv-loop μ-loop
 add-taken c =
     let d = c .before .before .before .before .before .before in
-    let l = d .before .before .before .before .before .before .before .before in
+    let l = looping d in
     let e = l .before .before .before .before in
-    let more = part-more _ _ (l .loop .taken) (l .loop .inv .2) (l .loop .inv .3) (rest-lent _ (e .args .part .now) _ (d .take-some .ensures .0)) in
+    let more = part-more _ (e .args .part .now) (l .loop .taken) (l .loop .inv .2) (l .loop .inv .3) (d .take-some .ensures .0) in
     omega (arith, more .0, e .good .1 .1 .1 .0 .0)
 
 slice-reshare-prefix-write-all : tie.Need-slice-reshare-prefix-write-all Inv-loop μ-loop
@@ -61,18 +68,18 @@ same-length-2 c = search needs
 
 returns : tie.Need-returns Inv-loop μ-loop
 returns c =
-    let d = c .before .before .before .before .before .before .before .before .before in
-    let l = d .before .before .before .before .before .before .before .before in
+    let d = taking (c .before) in
+    let l = looping d in
     let e = l .before .before .before .before in
-    let more = part-more _ _ (l .loop .taken) (l .loop .inv .2) (l .loop .inv .3) (rest-lent _ (e .args .part .now) _ (d .take-some .ensures .0)) in
+    let more = part-more _ (e .args .part .now) (l .loop .taken) (l .loop .inv .2) (l .loop .inv .3) (d .take-some .ensures .0) in
     part-unwritten (more .0) (more .1)
 
 loop-less : tie.Need-loop-less Inv-loop μ-loop
 loop-less c =
-    let d = c .before .before .before .before .before .before .before .before .before in
-    let l = d .before .before .before .before .before .before .before .before in
+    let d = taking (c .before) in
+    let l = looping d in
     let e = l .before .before .before .before in
-    let more = part-more _ _ (l .loop .taken) (l .loop .inv .2) (l .loop .inv .3) (rest-lent _ (e .args .part .now) _ (d .take-some .ensures .0)) in
+    let more = part-more _ (e .args .part .now) (l .loop .taken) (l .loop .inv .2) (l .loop .inv .3) (d .take-some .ensures .0) in
     let going = sym (d .before .before .before .before .before .before .known .ensures) ∙ d .before .before .before .before .before .if1 .left in
     let left = d .before .before .before .before .before .before .before .loop-test .taken in
     let some = some-taken _ _ _ (rest-lent _ (e .args .part .now) _ (d .take-some .ensures .0)) going (simp length-drop (omega (arith, left)))
@@ -81,10 +88,10 @@ loop-less c =
 
 loop-again : tie.Need-loop-again Inv-loop μ-loop
 loop-again c =
-    let d = c .before .before .before .before .before .before .before .before .before in
-    let l = d .before .before .before .before .before .before .before .before in
+    let d = taking (c .before) in
+    let l = looping d in
     let e = l .before .before .before .before in
-    let more = part-more _ _ (l .loop .taken) (l .loop .inv .2) (l .loop .inv .3) (rest-lent _ (e .args .part .now) _ (d .take-some .ensures .0)) in
+    let more = part-more _ (e .args .part .now) (l .loop .taken) (l .loop .inv .2) (l .loop .inv .3) (d .take-some .ensures .0) in
     (search needs, search needs, more .0, more .1)
 
 same-length-3 : tie.Need-same-length-3 Inv-loop μ-loop
