@@ -1,14 +1,15 @@
--- No second number, no second value, no second table and no second list keeps what the ten functions promise.
+-- No second number, no second value, no second table, no second list and no second lent words keep what the functions promise.
 -- Assumes nothing.
 use Prim.Native.Nat.{ℕ}
 use mathlib.Core.Path.{_≡_, sym, ap, _∙_}
-use mathlib.Core.List.{List}
+use mathlib.Core.List.{List, [], _∷_}
 use lib.ListN.{getD}
 use Rattle.rules.specs.Words.{Table}
 use Rattle.rules.specs.Answers.{Meaning}
 use Rattle.rules.specs.declared.Call.{Call}
 use Rattle.numbering.specs.Told.{told, toldWith}
 use Rattle.querying.specs.Promises.{QueriedBy}
+use Rattle.chaining.specs.Promises.{ChainedBy}
 use Rattle.making.specs.Promises.{CreatedBy, MadeBy}
 use Rattle.collector.specs.Reported.{Reported}
 
@@ -23,6 +24,12 @@ module _ (t u v : Table) (r s : ℕ) where
   queried-one key x y a b =
       let same = a .answer ∙ sym (b .answer) in
       (numbers-one same, ap (λ (m : Meaning). m .values) same, a .table ∙ sym (b .table))
+
+  pub chained-one : (address depth : ℕ) (l m n : List ℕ) (i j : ℕ) → ChainedBy t address depth l (toldWith r (i ∷ [])) u m
+      → ChainedBy t address depth l (toldWith s (j ∷ [])) v n → (r ≡ s) × (i ≡ j) × (u ≡ v) × (m ≡ n)
+  chained-one address depth l m n i j a b =
+      let same = a .answer ∙ sym (b .answer) in
+      (numbers-one same, ap (λ (z : Meaning). getD (z .values) 0 0) same, a .table ∙ sym (b .table), a .records ∙ sym (b .records))
 
   pub reported-one : (q : Call) (l m n : List ℕ) (i j : ℕ) → Reported q t l r i u m → Reported q t l s j v n → (r ≡ s) × (i ≡ j) × (u ≡ v) × (m ≡ n)
   reported-one q l m n i j a b =

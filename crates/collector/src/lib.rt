@@ -1,5 +1,6 @@
-// The ten calls for a collector written in C or Rust. Each is the call itself, with document 01's number as its result, "0 is
-// success", and the values that go with it in words that the caller lends.
+// The calls for a collector written in C or Rust. Each is the call itself, with the documents' number as its result, "0 is success", and
+// the values that go with it in words that the caller lends.
+use chaining::chain;
 use changing::delete;
 use changing::insert;
 use changing::update;
@@ -12,6 +13,7 @@ use numbering::number;
 use numbering::verdict_number;
 use querying::query;
 use recovering::recover;
+use rules::Chain;
 use rules::Change;
 use rules::Query;
 use rules::Record;
@@ -21,6 +23,7 @@ ghost use Rattle.rules.specs.Answers.{changeMeans};
 ghost use Rattle.rules.specs.declared.Call.the-variants.{Insert as insertCall, Update as updateCall, Delete as deleteCall, Begin as beginCall};
 ghost use Rattle.rules.specs.declared.Call.the-variants.{Step as stepCall, End as endCall, Recover as recoverCall};
 ghost use Rattle.querying.specs.Promises.{QueriedBy};
+ghost use Rattle.chaining.specs.Promises.{ChainedBy};
 ghost use Rattle.making.specs.Promises.{CreatedBy, MadeBy};
 ghost use Rattle.numbering.specs.Told.{told, toldWith};
 ghost use Rattle.collector.specs.Reported.{Reported};
@@ -45,6 +48,31 @@ pub extern "C" fn ragansils_query(table: &[u64], key: u64, answer: &mut [u64; 3]
         }
         Query::Unknown(refusal, looked) => {
             *answer = [0, 0, looked];
+            number(refusal)
+        }
+    }
+}
+
+// The records of the depths go to the words lent for them, the number of buckets looked at to a word of its own.
+#[no_mangle]
+pub extern "C" fn ragansils_chain(
+    table: &[u64],
+    address: u64,
+    depth: u64,
+    records: &mut [u64],
+    buckets: &mut u64,
+) -> u64
+    ensures { λ r. ⌜ ChainedBy (now (table .entry)) address depth (now (records .entry)) (toldWith r (now (buckets .exit) ∷ [])) (now (table .exit))
+        (now (records .exit)) ⌝ }
+{
+    let found = chain(table, address, depth, records);
+    match found {
+        Chain::Whole(looked) => {
+            *buckets = looked;
+            0
+        }
+        Chain::Broken(refusal, so_far) => {
+            *buckets = so_far;
             number(refusal)
         }
     }

@@ -1,4 +1,4 @@
-// Answers as document 01's numbers: "0 is success", and else the refusal's.
+// Answers as the numbers of documents 01 and 02: "0 is success", and else the refusal's.
 use rules::Change;
 use rules::Refusal;
 use rules::Verdict;
@@ -26,6 +26,8 @@ pub fn number(refusal: Refusal) -> u64
         Refusal::NoKind => 12,
         Refusal::BadCreation => 13,
         Refusal::BadMaking => 14,
+        Refusal::ShortRecords => 15,
+        Refusal::BadPosition => 16,
     }
 }
 

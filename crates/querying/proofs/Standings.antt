@@ -9,7 +9,7 @@ use native.Mathlib.Omega.{arith}
 use lib.ListN.{length}
 use Rattle.rules.specs.Choice.{given}
 use Rattle.rules.specs.Words.{Table, slots, slotAt, slotsIn, placeOf}
-use Rattle.rules.specs.Places.{holds, hitIn, standsOr, seek}
+use Rattle.rules.specs.Places.{hashesOf, placesOf, holds, hitIn, standsOr, seek, lookup}
 use Rattle.rules.specs.declared.Header.{Header}
 use Rattle.rules.specs.declared.Place.{Place}
 use Rattle.rules.specs.declared.Slot.{Slot}
@@ -17,6 +17,7 @@ use Rattle.rules.specs.declared.Lookup.{Lookup}
 use Rattle.rules.specs.declared.Lookup.the-variants.{Stands, Absent}
 use Rattle.rules.proofs.Basics.Lists.{firstOf-some, given-some, map-in, from-in}
 use Rattle.rules.proofs.Words.FreeSlots.{slot-place}
+use Rattle.rules.proofs.Places.Few.{six-at-most}
 use Rattle.reading.specs.Within.{BucketWithin, SlotWithin, AllWithin, Standing}
 use Rattle.querying.specs.Promises.{hereOr, position}
 
@@ -64,3 +65,10 @@ position-few hit (p ∷ ps) = go (hit p) (position-few hit ps)
     go : (o : Option Slot) → position hit ps ≤ length ps → hereOr o (position hit ps) ≤ suc (length ps)
     go (some x) e = omega arith
     go none e = omega arith
+
+-- "no more than four buckets, six while growing"
+pub lookup-few : (t : Table) (h : Header) (key : ℕ) → looked (lookup t h key) ≤ 6
+unfolding lookup placesOf
+lookup-few t h key =
+    let ps = placesOf h key in
+    omega (arith, seek-position (hitIn t h key) ps 0, position-few (hitIn t h key) ps, six-at-most (hashesOf h key) (h .state))

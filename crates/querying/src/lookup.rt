@@ -1,4 +1,4 @@
-// The lookup of a key: the one search that query, insert, update and delete rest on.
+// The lookup of a key: the one search that query, chain, insert, update and delete rest on.
 use super::probing::is_fresh;
 use super::probing::nth_place;
 use super::probing::place_count;

@@ -16,3 +16,6 @@ pub mod Updating
 pub mod GrowthSteps
 pub mod BeginEnd
 pub mod MadeLists
+pub mod ChainWalks
+pub mod Chains
+pub mod ChainRefusals

@@ -5,3 +5,4 @@ pub mod Recurring
 pub mod KindCuts
 pub mod SafeCuts
 pub mod MadeCuts
+pub mod ChainCuts

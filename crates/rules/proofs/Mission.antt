@@ -1,6 +1,6 @@
--- The user's three demands, proved: one theorem. Each field is the law of the same name.
+-- The user's three demands and document 02's requests, proved: one theorem. Each field is the law of the same name.
 -- Assumes nothing.
-use Rattle.rules.specs.Mission.{Demand1, Demand2, Demand3, Mission}
+use Rattle.rules.specs.Mission.{Demand1, Demand2, Demand3, InlinedCallers, Mission}
 use Rattle.rules.proofs.Tables.Sound.{soundnessIsTested}
 use Rattle.rules.proofs.Tables.Maps.{mapExists}
 use Rattle.rules.proofs.Tables.Findings.{recoverAnswers, recoveryAccepts}
@@ -21,6 +21,9 @@ use Rattle.rules.proofs.Calls.MadeLists.{makeTakesTheList}
 use Rattle.rules.proofs.Cutting.Recurring.{recoveryMayBeCut}
 use Rattle.rules.proofs.Cutting.MadeCuts.{cutsAreSafe}
 use Rattle.rules.proofs.Growth.GrowthCost.{growthBound}
+use Rattle.rules.proofs.Calls.ChainRefusals.{chainRefusals}
+use Rattle.rules.proofs.Calls.Chains.{chainWrites, chainCounts, chainLooksAtFew, chainAnswers}
+use Rattle.rules.proofs.Cutting.ChainCuts.{chainsAfterCuts}
 
 pub demand1 : Demand1
 demand1 =
@@ -66,5 +69,16 @@ demand3 =
       queryCounts = queryCounts;
     }
 
+pub inlinedCallers : InlinedCallers
+inlinedCallers =
+    record {
+      chainRefusals = chainRefusals;
+      chainWrites = chainWrites;
+      chainCounts = chainCounts;
+      chainLooksAtFew = chainLooksAtFew;
+      chainAnswers = chainAnswers;
+      chainsAfterCuts = chainsAfterCuts;
+    }
+
 pub mission : Mission
-mission = record { anyInput = demand1; plainMap = demand2; safeCuts = demand3 }
+mission = record { anyInput = demand1; plainMap = demand2; safeCuts = demand3; inlinedCallers = inlinedCallers }

@@ -1,4 +1,5 @@
--- Document 01, "Refusal numbers": what each case of an answer means as this paper's number and values.
+-- Document 01, "Refusal numbers": what each case of an answer means as this paper's number and values; with the numbers that document 02
+-- adds.
 -- Assumes nothing.
 use Prim.Native.Nat.{ℕ}
 use mathlib.Core.Path.{_≡_}
@@ -13,11 +14,14 @@ use Rattle.rules.specs.declared.Finding.the-variants.{Sound, Doubled, Fl
 use Rattle.rules.specs.declared.Refusal.{Refusal}
 use Rattle.rules.specs.declared.Refusal.the-variants.{BadHeader, ShortList, FlagSet, KeyPresent, KeyAbsent, NoPlace, AlreadyGrowing, NotGrowing}
 use Rattle.rules.specs.declared.Refusal.the-variants.{AtCapacity, InterimTaken, InterimEmpty, NoKind, BadCreation, BadMaking}
+use Rattle.rules.specs.declared.Refusal.the-variants.{ShortRecords, BadPosition}
 use Rattle.rules.specs.declared.Change.{Change}
 use Rattle.rules.specs.declared.Change.the-variants.{Listed, Refused}
 use Rattle.rules.specs.declared.Stepped.{Stepped}
 use Rattle.rules.specs.declared.Query.{Query}
 use Rattle.rules.specs.declared.Query.the-variants.{Known, Unknown}
+use Rattle.rules.specs.declared.Chain.{Chain}
+use Rattle.rules.specs.declared.Chain.the-variants.{Whole, Broken}
 use Rattle.rules.specs.declared.Verdict.{Verdict}
 use Rattle.rules.specs.declared.Verdict.the-variants.{Done, Denied}
 
@@ -37,6 +41,9 @@ numberOf InterimEmpty = 11  -- "interim empty"
 numberOf NoKind = 12  -- "none of the three kinds above"
 numberOf BadCreation = 13  -- "c, first k (1 to c), length or a multiplier bad"
 numberOf BadMaking = 14  -- "n pairs are not in the list, or an index among them is outside the table"
+-- document 02, request a)
+numberOf ShortRecords = 15  -- "fewer than 2(d + 1) words"
+numberOf BadPosition = 16  -- "an address of 2^56 or more, or a depth above 255"
 
 -- this paper's number, "0 is success", and the values beside it
 pub record Meaning : Type 0 where
@@ -52,6 +59,11 @@ changeMeans (Refused r) = record { number = numberOf r; values = 0 ∷ [] }
 abbrev pub queryMeans : Query → Meaning
 queryMeans (Known r count) = record { number = 0; values = r .function ∷ r .place ∷ count ∷ [] }
 queryMeans (Unknown r count) = record { number = numberOf r; values = 0 ∷ 0 ∷ count ∷ [] }
+
+-- the chain of inlined callers: its count
+abbrev pub chainMeans : Chain → Meaning
+chainMeans (Whole count) = record { number = 0; values = count ∷ [] }
+chainMeans (Broken r count) = record { number = numberOf r; values = count ∷ [] }
 
 abbrev pub verdictMeans : Verdict → Meaning
 verdictMeans Done = record { number = 0; values = [] }

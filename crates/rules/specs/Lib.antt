@@ -7,8 +7,11 @@ pub mod Soundness
 pub mod Answers
 pub mod Calls
 pub mod Results
+pub mod Chains
 pub mod NoPlace
 pub mod Histories
 pub mod Demands
+pub mod ChainSentences
 pub mod Mission
 pub mod Examples
+pub mod ChainCases

@@ -1,5 +1,6 @@
--- What is proved of the user's three demands, in one place, sentence by sentence. Each field of a demand is a statement of `Demands`,
--- which says it in full. One law proves them all: `mission`, in proofs/Mission.
+-- What is proved of the user's three demands and of document 02's requests, in one place, sentence by sentence. Each field of a demand is a
+-- statement of `Demands`, and each field of request a) one of `ChainSentences`, which say it in full. One law proves them all: `mission`, in
+-- proofs/Mission.
 -- That the code does what the rules say is promised call by call, in the `ensures` of each.
 -- Assumes nothing.
 use Rattle.rules.specs.Demands.{ChangeAnswers, CreateAnswers, MakeAnswers, RefusalsInOrder, StepIsACall, QueryIsACall, StoresInside}
@@ -7,6 +8,7 @@ use Rattle.rules.specs.Demands.{TokenStoresLow, SoundnessIsTested, MapEx
 use Rattle.rules.specs.Demands.{DeleteAnswers, BeginAnswers, StepAnswers, EndAnswers, RecoverAnswers, StoresAsWritten, StoreNumbers}
 use Rattle.rules.specs.Demands.{MakeTakesTheList, CutsAreSafe, RecoveryMayBeCut, RecoveryAccepts, GrowthBound, QueryCounts, ProbesAreFew}
 use Rattle.rules.specs.Demands.{ProbesAreDistinct}
+use Rattle.rules.specs.ChainSentences.{ChainRefusals, ChainWrites, ChainCounts, ChainLooksAtFew, ChainAnswers, ChainsAfterCuts}
 
 pub record Demand1 : Type 0 where
   -- "Any words, keys and lengths may be handed in. Every call ends, stays within its buffers and checks its own input."
@@ -56,8 +58,25 @@ pub record Demand3 : Type 0 where
   pub probesAreDistinct : ProbesAreDistinct
   pub queryCounts : QueryCounts
 
--- the user's three demands
+-- request a), "Show the inlined callers."
+pub record InlinedCallers : Type 0 where
+  -- "fewer than 2(d + 1) words give a new refusal 15, and an address of 2^56 or more, or a depth above 255, gives 16. These are checked
+  -- after 1 and 3, 16 before 15. The first missing depth gives 5"
+  pub chainRefusals : ChainRefusals
+  -- "Given an address and a depth d from 0 to 255, return the records of depth d, then each smaller depth down to 0. .. The records go to
+  -- lent words, two each"; "nothing is written; success writes just those words"
+  pub chainWrites : ChainWrites
+  -- "The count is the sum of the queries' probe counts down to the last depth asked, the missing one included, and 0 with other refusals"
+  pub chainCounts : ChainCounts
+  -- "never more than 4(d + 1) at rest or 6(d + 1) otherwise"
+  pub chainLooksAtFew : ChainLooksAtFew
+  -- on a sound table it answers as the map does; so also after every cut, once recovered
+  pub chainAnswers : ChainAnswers
+  pub chainsAfterCuts : ChainsAfterCuts
+
+-- the user's three demands, and document 02's requests
 pub record Mission : Type 0 where
   pub anyInput : Demand1
   pub plainMap : Demand2
   pub safeCuts : Demand3
+  pub inlinedCallers : InlinedCallers

@@ -29,3 +29,10 @@ pub const BUCKET_WORDS: usize = 13;
 pub const FIRST_SLOT: usize = 1;
 
 pub const SLOT_WORDS: usize = 3;
+
+// "A key is address·256 + inlining depth": the depths of an address, the largest of them, and the addresses that leave room for them, 2^56.
+pub const DEPTHS: u64 = 256;
+
+pub const LARGEST_DEPTH: u64 = 255;
+
+pub const ADDRESSES: u64 = 1 << 56;

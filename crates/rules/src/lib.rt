@@ -1,4 +1,4 @@
-// The types that the rules of document 01 and the code share: what the header says, where an item stands,
+// The types that the rules of documents 01 and 02 and the code share: what the header says, where an item stands,
 // the calls, and what each call answers. The only code is that of a state (`phases`); specs/ has the rules, and proofs/ the laws about
 // them.
 pub mod layout;
@@ -84,7 +84,7 @@ pub enum Finding {
     Neither,
 }
 
-// The refusals, in the order of their numbers.
+// The refusals, in the order of their numbers: document 01's fourteen, then those of document 02.
 pub enum Refusal {
     BadHeader,
     ShortList,
@@ -100,6 +100,8 @@ pub enum Refusal {
     NoKind,
     BadCreation,
     BadMaking,
+    ShortRecords,
+    BadPosition,
 }
 
 // What insert, update, delete, begin, end and recover answer: how many stores they listed, or why they listed none.
@@ -119,6 +121,13 @@ pub struct Stepped {
 pub enum Query {
     Known(Record, u64),
     Unknown(Refusal, u64),
+}
+
+// What the chain of inlined callers answers: that every depth has its record, or why no record was written; and the number of buckets
+// looked at.
+pub enum Chain {
+    Whole(u64),
+    Broken(Refusal, u64),
 }
 
 // What create and make answer.

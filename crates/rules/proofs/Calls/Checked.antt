@@ -1,9 +1,9 @@
--- The tests that come first: what lists stores has passed them.
+-- The tests that come first: what lists stores has passed them; and tests after tests.
 -- Assumes nothing.
 use Prim.Native.Nat.{ℕ}
-use mathlib.Core.Path.{_≡_, refl}
+use mathlib.Core.Path.{_≡_, refl, ap}
 use mathlib.Core.Bool.{Bool, true, false, cond}
-use mathlib.Core.List.{List, [], _∷_, List·Memᴰ as In, List·Memᴰ·not-nil, List·Memᴰ·cases-cons}
+use mathlib.Core.List.{List, [], _∷_, _++_, List·Memᴰ as In, List·Memᴰ·not-nil, List·Memᴰ·cases-cons}
 use mathlib.Core.Logic.{⊎-elim}
 use native.Mathlib.Omega.{arith}
 use Rattle.rules.specs.Stores.{Store}
@@ -27,3 +27,9 @@ module _ (o : Outcome) (xs : List Store) where
           → (checked refused ts o ≡ listed xs → In x ts → x .0 ≡ true) → x .0 ≡ true
       go true q e k = ⊎-elim (λ (h : x ≡ y). rw h q) (λ (h : In x ts). k e h) (List·Memᴰ·cases-cons i)
       go false q e k = absurd (let z : _≡_ {A = ℕ} 0 1 = cc in omega arith)
+
+-- some tests, then others
+pub checked-append : {A : Type 0} (refuse : Refusal → A) (ts us : List (Bool × Refusal)) (a : A)
+    → checked refuse (ts ++ us) a ≡ checked refuse ts (checked refuse us a)
+checked-append refuse [] us a = refl
+checked-append refuse (x ∷ ts) us a = ap (λ (b : _). cond (x .0) b (refuse (x .1))) (checked-append refuse ts us a)

@@ -33,7 +33,7 @@ module _ (xs : List Store) (l : List ℕ) where
   unfolding written
   written-length h = length-front l (flat xs) (2 * length xs) (flat-length xs ∙ sym (length-take-le (2 * length xs) l h))
 
-  written-rest : drop (2 * length xs) (written xs l) ≡ drop (2 * length xs) l
+  pub written-rest : drop (2 * length xs) (written xs l) ≡ drop (2 * length xs) l
   unfolding written
   written-rest = drop-at (flat xs) (drop (2 * length xs) l) (2 * length xs) (flat-length xs)
 

@@ -11,7 +11,8 @@ use Rattle.rules.specs.Words.{Table}
 use Rattle.rules.specs.Stores.{Store, clearStores, redoStores}
 use Rattle.rules.specs.Calls.{placedBy, recoverOf}
 use Rattle.rules.specs.Results.{changeOf, queryAt}
-use Rattle.rules.specs.Answers.{numberOf, Meaning, changeMeans, queryMeans, verdictMeans, lookupMeans, placingMeans, findingMeans, LookupTells}
+use Rattle.rules.specs.Answers.{numberOf, Meaning, changeMeans, queryMeans, chainMeans, verdictMeans, lookupMeans, placingMeans, findingMeans}
+use Rattle.rules.specs.Answers.{LookupTells}
 use Rattle.rules.specs.Answers.{PlacingTells, FindingTells, steppedMeans}
 use Rattle.rules.specs.declared.Header.{Header}
 use Rattle.rules.specs.declared.Slot.{Slot}
@@ -24,11 +25,14 @@ use Rattle.rules.specs.declared.Finding.the-variants.{Sound, Doubled, Fl
 use Rattle.rules.specs.declared.Refusal.{Refusal}
 use Rattle.rules.specs.declared.Refusal.the-variants.{BadHeader, ShortList, FlagSet, KeyPresent, KeyAbsent, NoPlace, AlreadyGrowing, NotGrowing}
 use Rattle.rules.specs.declared.Refusal.the-variants.{AtCapacity, InterimTaken, InterimEmpty, NoKind, BadCreation, BadMaking}
+use Rattle.rules.specs.declared.Refusal.the-variants.{ShortRecords, BadPosition}
 use Rattle.rules.specs.declared.Change.{Change}
 use Rattle.rules.specs.declared.Change.the-variants.{Listed, Refused}
 use Rattle.rules.specs.declared.Stepped.{Stepped}
 use Rattle.rules.specs.declared.Query.{Query}
 use Rattle.rules.specs.declared.Query.the-variants.{Known, Unknown}
+use Rattle.rules.specs.declared.Chain.{Chain}
+use Rattle.rules.specs.declared.Chain.the-variants.{Whole, Broken}
 use Rattle.rules.specs.declared.Verdict.{Verdict}
 use Rattle.rules.specs.declared.Verdict.the-variants.{Done, Denied}
 
@@ -42,9 +46,9 @@ told f back h a b e = sym (h a) ∙ ap back e ∙ h b
 abbrev pub refusals : List Refusal
 refusals =
     BadHeader ∷ ShortList ∷ FlagSet ∷ KeyPresent ∷ KeyAbsent ∷ NoPlace ∷ AlreadyGrowing ∷ NotGrowing ∷ AtCapacity ∷ InterimTaken
-    ∷ InterimEmpty ∷ NoKind ∷ BadCreation ∷ BadMaking ∷ []
+    ∷ InterimEmpty ∷ NoKind ∷ BadCreation ∷ BadMaking ∷ ShortRecords ∷ BadPosition ∷ []
 
-pub numbers : map numberOf refusals ≡ 1 ∷ 2 ∷ 3 ∷ 4 ∷ 5 ∷ 6 ∷ 7 ∷ 8 ∷ 9 ∷ 10 ∷ 11 ∷ 12 ∷ 13 ∷ 14 ∷ []
+pub numbers : map numberOf refusals ≡ 1 ∷ 2 ∷ 3 ∷ 4 ∷ 5 ∷ 6 ∷ 7 ∷ 8 ∷ 9 ∷ 10 ∷ 11 ∷ 12 ∷ 13 ∷ 14 ∷ 15 ∷ 16 ∷ []
 numbers = refl
 
 readRefusal : ℕ → Refusal
@@ -66,6 +70,8 @@ refusal-back InterimEmpty = refl
 refusal-back NoKind = refl
 refusal-back BadCreation = refl
 refusal-back BadMaking = refl
+refusal-back ShortRecords = refl
+refusal-back BadPosition = refl
 
 pub refusal-one : (r s : Refusal) → numberOf r ≡ numberOf s → r ≡ s
 refusal-one r s e = told numberOf readRefusal refusal-back r s e
@@ -86,6 +92,8 @@ refusal-number InterimEmpty = refl
 refusal-number NoKind = refl
 refusal-number BadCreation = refl
 refusal-number BadMaking = refl
+refusal-number ShortRecords = refl
+refusal-number BadPosition = refl
 
 -- ---- answers
 
@@ -119,6 +127,17 @@ query-back (Unknown r n) = rw (refusal-number r, refusal-back r)
 
 pub query-one : (a b : Query) → queryMeans a ≡ queryMeans b → a ≡ b
 query-one a b e = told queryMeans readQuery query-back a b e
+
+readChain : Meaning → Chain
+readChain m = byNumber m (Whole (value m 0)) (λ (r : Refusal). Broken r (value m 0))
+
+chain-back : (a : Chain) → readChain (chainMeans a) ≡ a
+unfolding readChain byNumber value
+chain-back (Whole n) = refl
+chain-back (Broken r n) = rw (refusal-number r, refusal-back r)
+
+pub chain-one : (a b : Chain) → chainMeans a ≡ chainMeans b → a ≡ b
+chain-one a b e = told chainMeans readChain chain-back a b e
 
 readVerdict : Meaning → Verdict
 readVerdict m = byNumber m Done Denied

@@ -30,7 +30,7 @@ use Rattle.rules.proofs.Places.Lookups.{lookup-stands, lookup-absent, l
 
 module _ (t : Table) (key : ℕ) where
   -- a query of a table with a good header and no flag answers by the lookup
-  query-by-lookup : GoodHeader (length t) (headerOf t) → flagOf t ≡ 0 → queryResult t key ≡ queryAt t (lookup t (headerOf t) key)
+  pub query-by-lookup : GoodHeader (length t) (headerOf t) → flagOf t ≡ 0 → queryResult t key ≡ queryAt t (lookup t (headerOf t) key)
   unfolding queryResult queryTests headerGood flagClear
   query-by-lookup g e = rw (header-passes (length t) (headerOf t) g, eq-eqb _ _ e)
 

@@ -44,12 +44,12 @@ use Rattle.rules.proofs.Places.Lookups.{lookup-stands, lookup-absent, h
 -- ---- a test refuses where its reason holds
 
 -- the first of some reasons that holds refuses: `FirstRefuses` under a name that stays shut, so that the reasons are read off it
-unfoldable ByFirst : List (Type 0 × Refusal) → Outcome → Type 0
+unfoldable pub ByFirst : List (Type 0 × Refusal) → Outcome → Type 0
 ByFirst fs o = FirstRefuses fs o
 
 module _ (b : Bool) (r : Refusal) (fs : List (Type 0 × Refusal)) (o : Outcome) where
   -- the reason holds exactly where the test fails
-  by-test : (F : Type 0) → (b ≡ true → F → ⊥) → (b ≡ false → F) → ByFirst fs o → ByFirst ((F, r) ∷ fs) (cond b o (refused r))
+  pub by-test : (F : Type 0) → (b ≡ true → F → ⊥) → (b ≡ false → F) → ByFirst fs o → ByFirst ((F, r) ∷ fs) (cond b o (refused r))
   unfolding ByFirst
   by-test F pass fail k = go b refl
     where
@@ -76,7 +76,7 @@ accepted stores = (stores, refl)
 -- ---- tests 1, 2 and 3
 
 module _ (t : Table) where
-  good-header-or : (fs : List (Type 0 × Refusal)) (o : Outcome) → ByFirst fs o → ByFirst (badHeader t ∷ fs) (cond (headerGood t) o (refused BadHeader))
+  pub good-header-or : (fs : List (Type 0 × Refusal)) (o : Outcome) → ByFirst fs o → ByFirst (badHeader t ∷ fs) (cond (headerGood t) o (refused BadHeader))
   unfolding headerGood
   good-header-or fs o = unless (headerGood t) BadHeader fs o (HeaderWords t) (Iff·trans (header-tells (length t) (headerOf t)) (header-words t))
 
@@ -85,7 +85,7 @@ module _ (t : Table) where
   unfolding listLong
   long-list-or n fs o = by-test (listLong n) ShortList fs o (n < 20) (λ e l. omega (arith, leb-true 20 n e)) (λ e. leb-false 20 n e)
 
-  clear-flag-or : (fs : List (Type 0 × Refusal)) (o : Outcome) → ByFirst fs o → ByFirst (flagNotZero t ∷ fs) (cond (flagClear t) o (refused FlagSet))
+  pub clear-flag-or : (fs : List (Type 0 × Refusal)) (o : Outcome) → ByFirst fs o → ByFirst (flagNotZero t ∷ fs) (cond (flagClear t) o (refused FlagSet))
   unfolding flagClear flagOf
   clear-flag-or fs o = unless (flagClear t) FlagSet fs o (word t 5 ≡ 0) (tells-eq _ _)
 
@@ -97,12 +97,12 @@ module _ (t : Table) where
   -- ---- what each call finds
 
   -- the key stands in a probed bucket exactly where the lookup finds it
-  held : (key : ℕ) (x : Slot) (n : ℕ) → lookup t (headerOf t) key ≡ Stands x n → Held t key
+  pub held : (key : ℕ) (x : Slot) (n : ℕ) → lookup t (headerOf t) key ≡ Stands x n → Held t key
   held key x n e =
       let s = lookup-stands t key x n e .0 in
       (s .place, x, holder-among t key x s, s .here, s .holding)
 
-  not-held : (key n : ℕ) → lookup t (headerOf t) key ≡ Absent n → Held t key → ⊥
+  pub not-held : (key n : ℕ) → lookup t (headerOf t) key ≡ Absent n → Held t key → ⊥
   not-held key n e (p, x, i, j, y) = never y (lookup-absent t (headerOf t) key n e .1 p i x j)
 
   -- query, update and delete: "key absent"
