@@ -1,7 +1,8 @@
-//! The ten calls over raw words. A changing call only reads the table and
+//! The eleven calls over raw words. A changing call only reads the table and
 //! lists its stores; `make` makes them.
 
-use crate::layout::{table_words, word, Slot, LEAST_LIST_WORDS};
+use crate::layout::{key_of, table_words, word, Slot, LEAST_LIST_WORDS};
+use crate::layout::{ADDRESS_LIMIT, LARGEST_DEPTH, WORDS_PER_CHAIN_RECORD};
 use crate::placing::{find_placing, Placing};
 use crate::recovery::{judge, Kind};
 use crate::refusal::{Refusal, SUCCESS};
@@ -41,6 +42,29 @@ pub fn query(table: &[u64], key: u64) -> (u64, [u64; 3]) {
         }
         None => (Refusal::KeyAbsent.number(), [0, 0, search.probes]),
     }
+}
+
+/// Answers a number and the count of buckets looked at. Success writes the records of
+/// "depth d, then each smaller depth down to 0": function and place, one after the other.
+pub fn chain(table: &[u64], address: u64, depth: u64, records: &mut [u64]) -> (u64, u64) {
+    if let Err(refusal) = check_chain(table, address, depth, records.len() as u64) {
+        return (refusal.number(), 0);
+    }
+    let mut found = vec![];
+    let mut count = 0;
+    for asked in (0..=depth).rev() {
+        let (number, [function, place, probes]) = query(table, key_of(address, asked));
+        // "the sum of the queries' probe counts down to the last depth asked, the missing one included".
+        count += probes;
+        if number != SUCCESS {
+            // "The first missing depth gives 5 and nothing is written".
+            return (number, count);
+        }
+        found.extend([function, place]);
+    }
+    // "success writes just those words".
+    records[..found.len()].copy_from_slice(&found);
+    (SUCCESS, count)
 }
 
 pub fn insert(table: &[u64], key: u64, function: u64, place: u64, list: &mut [u64]) -> (u64, u64) {
@@ -168,6 +192,18 @@ fn refuse_flag(table: Table) -> Result<Table, Refusal> {
         0 => Ok(table),
         _ => Err(Refusal::FlagNotZero),
     }
+}
+
+/// What refuses a chain before any query. "These are checked after 1 and 3, 16 before 15."
+fn check_chain(table: &[u64], address: u64, depth: u64, lent_words: u64) -> Result<(), Refusal> {
+    Table::read(table).and_then(refuse_flag)?;
+    if address >= ADDRESS_LIMIT || depth > LARGEST_DEPTH {
+        return Err(Refusal::AddressOrDepthTooLarge);
+    }
+    if lent_words < WORDS_PER_CHAIN_RECORD * (depth + 1) {
+        return Err(Refusal::ShortRecords);
+    }
+    Ok(())
 }
 
 /// The stores that bring a new record in, wherever it finds its place.

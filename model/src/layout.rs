@@ -12,6 +12,12 @@ pub const SLOTS_PER_BUCKET: usize = 4;
 /// The shortest list a changing call or recovery takes: ten pairs.
 pub const LEAST_LIST_WORDS: usize = 20;
 
+/// The first address that is too large for a chain.
+pub const ADDRESS_LIMIT: u64 = 1 << 56;
+pub const LARGEST_DEPTH: u64 = 255;
+/// A record of a chain is a function and a place: "two each".
+pub const WORDS_PER_CHAIN_RECORD: u64 = 2;
+
 /// Indexes of the header words.
 pub mod word {
     pub const FORM: usize = 0;
@@ -32,6 +38,11 @@ pub fn table_words(c: u64) -> Option<usize> {
     }
     let buckets = (1usize << (c + 1)) - 1;
     Some(HEADER_WORDS + WORDS_PER_BUCKET * buckets)
+}
+
+/// "A key is address·256 + inlining depth"; below the two limits this never overflows.
+pub fn key_of(address: u64, depth: u64) -> u64 {
+    address * 256 + depth
 }
 
 /// The word index of a bucket's token word.

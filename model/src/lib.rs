@@ -1,4 +1,5 @@
-//! An independent model of the level hashing table of document 01, the paper that fixes the table and its calls.
+//! An independent model of the level hashing table of document 01, the paper that fixes the table and its calls,
+//! with request a) of document 02, the inlined callers of an address.
 //!
 //! From the bottom up:
 //! - `layout`: where words, buckets, slots and levels stand;
@@ -6,12 +7,12 @@
 //! - `table`: reading a table whose header is good;
 //! - `placing`: where a new item would go;
 //! - `recovery`: which of the three kinds a table is, and what is unsound;
-//! - `calls`: the ten calls, over raw words;
+//! - `calls`: the eleven calls, over raw words;
 //! - `event`: the changing calls and recovery, as values;
 //! - `script_lines`: reading the lines of a script;
 //! - `script`: the script program.
 //!
-//! NOTES.md tells how document 01 was read where it leaves a doubt.
+//! NOTES.md tells how the documents were read where they leave a doubt.
 
 #![forbid(unsafe_code)]
 
@@ -25,7 +26,7 @@ mod script;
 mod script_lines;
 mod table;
 
-pub use calls::{begin, create, delete, end, insert, make, query, recover, step, update};
+pub use calls::{begin, chain, create, delete, end, insert, make, query, recover, step, update};
 pub use event::Event;
 pub use layout::{table_words, word, Level, Slot, LEAST_LIST_WORDS, SLOTS_PER_BUCKET};
 pub use recovery::{keys_in_several_slots, misplaced_items, untidy_buckets, update_target};

@@ -1,4 +1,4 @@
-//! The refusal numbers of document 01.
+//! The refusal numbers of document 01, and 15 and 16 of document 02, request a).
 
 /// The number that stands for "not refused".
 pub const SUCCESS: u64 = 0;
@@ -19,6 +19,8 @@ pub enum Refusal {
     NotRecoverable = 12,
     BadCreation = 13,
     BadStores = 14,
+    ShortRecords = 15,
+    AddressOrDepthTooLarge = 16,
 }
 
 impl Refusal {

@@ -5,15 +5,6 @@ mod common;
 use common::*;
 use ragansils_model::*;
 
-/// Puts a taken item anywhere, fit or not.
-fn put(story: &mut Story, bucket: usize, number: usize, record: [u64; 3]) {
-    let slot = Slot { bucket, number };
-    story.table[slot.key_word()] = record[0];
-    story.table[slot.function_word()] = record[1];
-    story.table[slot.place_word()] = record[2];
-    story.table[slot.token_word()] |= slot.token_bit();
-}
-
 #[test]
 fn tokens_are_read_modulo_16_and_stored_below() {
     let mut story = Story::marked();
@@ -169,13 +160,7 @@ fn update_works_in_the_interim_level() {
 
 #[test]
 fn garbage_is_always_answered() {
-    let mut word_of_garbage = 88172645463325252u64;
-    let mut garbage = move || {
-        word_of_garbage ^= word_of_garbage << 13;
-        word_of_garbage ^= word_of_garbage >> 7;
-        word_of_garbage ^= word_of_garbage << 17;
-        word_of_garbage
-    };
+    let mut garbage = garbage_words();
     for round in 0..2000 {
         let mut table: Vec<u64> = (0..100).map(|_| garbage()).collect();
         if round % 4 != 0 {
@@ -183,6 +168,7 @@ fn garbage_is_always_answered() {
         }
         let key = garbage();
         query(&table, key);
+        chain(&table, key / 256, key % 256, &mut [0; 512]);
         for event in [insert_event(key, 1, 2), update_event(key, 1, 2), Event::Delete { key }]
             .into_iter()
             .chain([Event::Begin, Event::Step, Event::End, Event::Recover])

@@ -61,6 +61,13 @@ impl Story {
     pub fn query(&self, key: u64) -> (u64, [u64; 3]) {
         query(&self.table, key)
     }
+
+    /// The number, the count and the lent words at exit; each was `UNTOUCHED` before.
+    pub fn chain(&self, address: u64, depth: u64, lent_words: usize) -> (u64, u64, Vec<u64>) {
+        let mut records = vec![UNTOUCHED; lent_words];
+        let (number, count) = chain(&self.table, address, depth, &mut records);
+        (number, count, records)
+    }
 }
 
 pub fn insert_event(key: u64, function: u64, place: u64) -> Event {
@@ -69,4 +76,24 @@ pub fn insert_event(key: u64, function: u64, place: u64) -> Event {
 
 pub fn update_event(key: u64, function: u64, place: u64) -> Event {
     Event::Update { key, function, place }
+}
+
+/// Puts a taken item anywhere, fit or not.
+pub fn put(story: &mut Story, bucket: usize, number: usize, record: [u64; 3]) {
+    let slot = Slot { bucket, number };
+    story.table[slot.key_word()] = record[0];
+    story.table[slot.function_word()] = record[1];
+    story.table[slot.place_word()] = record[2];
+    story.table[slot.token_word()] |= slot.token_bit();
+}
+
+/// Words without a pattern, the same ones in each run.
+pub fn garbage_words() -> impl FnMut() -> u64 {
+    let mut word_of_garbage = 88172645463325252u64;
+    move || {
+        word_of_garbage ^= word_of_garbage << 13;
+        word_of_garbage ^= word_of_garbage >> 7;
+        word_of_garbage ^= word_of_garbage << 17;
+        word_of_garbage
+    }
 }
