@@ -1,10 +1,10 @@
 /*
  * Ragansils: a position table in lent 64-bit words. Code address and inlining depth lead to a function and a place.
  *
- * The ten functions of the static library `collector` (`rt staticlib collector` writes target/staticlib/libcollector.a), for C99 and
- * C++ on x86-64. Each is proved to end, to stay within its buffers and to answer as below on every input, however damaged the words
- * that it is lent; what each leaves in every buffer is part of that proof. On a sound table query, insert, update and delete answer as
- * a plain map does, and growing keeps the map.
+ * The eleven functions of the static library `collector` (`rt staticlib collector` writes target/staticlib/libcollector.a), for C99
+ * and C++ on x86-64. Each is proved to end, to stay within its buffers and to answer as below on every input, however damaged the words
+ * that it is lent; what each leaves in every buffer is part of that proof. On a sound table query, chain, insert, update and delete
+ * answer as a plain map does, and growing keeps the map.
  *
  * A change goes in two parts. A changing call only reads the table: it lists its stores, in order, as pairs of a word's index and the
  * new word. The stores are then made, by ragansils_make or by a loop of yours; all of them make a sound table out of a sound one, and
@@ -15,8 +15,8 @@
  * - A pointer is aligned, and valid for as many words as the length beside it says; no pointer is NULL, not even with a length of 0.
  * - No two buffers of one call overlap.
  * - Stores are made whole and in the order of the list, each once, before the next change is listed; no other store goes to the table.
- * - From the listing of a change to its last store no other thread lists, stores or queries; queries alone may go side by side. The
- *   functions keep nothing between calls.
+ * - From the listing of a change to its last store no other thread lists, stores or looks up; queries and chains alone may go side by
+ *   side. The functions keep nothing between calls.
  *
  * What is left to the caller: cache flush instructions and fences, which a platform needs so that stores reach its memory in order;
  * locks; and creating again a table whose creation was cut, which no recovery mends.
@@ -33,8 +33,8 @@ extern "C" {
 #endif
 
 /*
- * What a function answers: 0, or why it refused. A refusal changes neither table nor list; it writes 0 to *stores, and to a query's
- * answer what stands there.
+ * What a function answers: 0, or why it refused. A refusal changes no table, list or records; it writes 0 to *stores, and to a query's
+ * answer and a chain's *buckets what stands there.
  */
 enum ragansils_refusal {
     RAGANSILS_DONE = 0,
@@ -42,7 +42,7 @@ enum ragansils_refusal {
     RAGANSILS_SHORT_LIST = 2,      /* list shorter than 20 words: the changing calls and recover */
     RAGANSILS_FLAG_SET = 3,        /* update flag not 0, so recover first: all but create, make and recover */
     RAGANSILS_KEY_PRESENT = 4,     /* insert */
-    RAGANSILS_KEY_ABSENT = 5,      /* query, update, delete */
+    RAGANSILS_KEY_ABSENT = 5,      /* query, update, delete; at some depth: chain */
     RAGANSILS_NO_PLACE = 6,        /* insert: grow, or go without; step: delete something, or try later */
     RAGANSILS_ALREADY_GROWING = 7, /* begin */
     RAGANSILS_NOT_GROWING = 8,     /* step, end */
@@ -51,9 +51,11 @@ enum ragansils_refusal {
     RAGANSILS_INTERIM_EMPTY = 11,  /* nothing left to move, so end: step */
     RAGANSILS_NO_KIND = 12,        /* none of the three kinds of table that recovery accepts: recover */
     RAGANSILS_BAD_CREATION = 13,   /* c, first k (1 to c), length or a multiplier bad: create */
-    RAGANSILS_BAD_MAKING = 14      /* n pairs are not in the list, or an index among them is outside the table: make */
+    RAGANSILS_BAD_MAKING = 14,     /* n pairs are not in the list, or an index among them is outside the table: make */
+    RAGANSILS_SHORT_RECORDS = 15,  /* fewer than 2 (depth + 1) words lent for the records: chain */
+    RAGANSILS_BAD_POSITION = 16    /* address of 2^56 or more, or depth above 255: chain */
 };
-/* Where several would hold: 1, 2, 3, then the rest; insert 4 before 6, begin 7 before 9, step and end 8 first. */
+/* Where several would hold: 1, 2, 3, then the rest; insert 4 before 6, begin 7 before 9, step and end 8 first, chain 16, 15, 5. */
 
 /* The capacity exponent c is 1 to this. */
 #define RAGANSILS_LARGEST_CAPACITY 20
@@ -76,13 +78,22 @@ enum ragansils_refusal {
 /* The words of a query's answer. */
 #define RAGANSILS_ANSWER_WORDS 3
 
+/* An inlining depth is 0 to this. At depth 0 stands the function that the address lies in; what stands at 1 was inlined into it, and so on. */
+#define RAGANSILS_LARGEST_DEPTH 255
+
+/*
+ * The words of a chain's records, 2 (depth + 1); 0 where the depth is not 0 to 255. Of a depth of eight bits a compiler would warn that
+ * it is always below 256: hence the division.
+ */
+#define RAGANSILS_CHAIN_WORDS(depth) ((uint64_t)(depth) / (RAGANSILS_LARGEST_DEPTH + 1) == 0 ? 2 * ((size_t)(depth) + 1) : (size_t)0)
+
 /*
  * Makes the key address * 256 + depth, and answers whether there is one: an address of 2^56 or more, or a depth above 255, has none,
  * and *key stays. The table itself takes any 64-bit key.
  */
 static inline bool ragansils_key(uint64_t address, uint64_t depth, uint64_t *key)
 {
-    if (address >> 56 != 0 || depth > 255)
+    if (address >> 56 != 0 || depth > RAGANSILS_LARGEST_DEPTH)
         return false;
     *key = address << 8 | depth;
     return true;
@@ -100,6 +111,17 @@ uint64_t ragansils_create(uint64_t *table, size_t words, uint64_t c, uint64_t k,
  * the table grows. With refusal 5 answer is 0, 0 and the number of all buckets where the key may stand; with 1 or 3 three zeros.
  */
 uint64_t ragansils_query(const uint64_t *table, size_t words, uint64_t key, uint64_t answer[RAGANSILS_ANSWER_WORDS]);
+
+/*
+ * Looks up the frames at an address, the innermost first: the record of this depth, then of each smaller one down to 0, as queries of
+ * their keys would find them. Each is two words, function and place. They go to the first 2 (depth + 1) words of records, and the rest
+ * stays. *buckets is the sum of what the queries look at: at most 4 (depth + 1), or 6 (depth + 1) while the table grows.
+ *
+ * With refusal 5, at the first depth that has no record, *buckets is the sum down to that depth, its own query included; with 1, 3, 16
+ * or 15 it is 0. No refusal changes records. The table is only read.
+ */
+uint64_t ragansils_chain(const uint64_t *table, size_t words, uint64_t address, uint64_t depth, uint64_t *records, size_t record_words,
+                         uint64_t *buckets);
 
 /*
  * The seven functions below list stores. On success *stores is their number, at most ten, the first 2 * *stores words of the list hold

@@ -1,7 +1,7 @@
 /*
- * Calls each of the ten functions through include/ragansils.h, on the marked examples of document 01, the paper that fixes the table,
- * and meets each refusal number. The answers differ for any two arguments taken for each other. Says how many checks there were; exit
- * status 0 only where all held.
+ * Calls each of the eleven functions through include/ragansils.h, and meets each refusal number: the ten of document 01, the paper that
+ * fixes the table, on its marked examples, and the chain. The answers differ for any two arguments taken for each other. Says how many
+ * checks there were; exit status 0 only where all held.
  */
 #include <inttypes.h>
 #include <stdio.h>
@@ -18,10 +18,18 @@
 #define LENT_LIST (RAGANSILS_LIST_WORDS + 4)
 #define UNTOUCHED UINT64_C(0x5a5a0bad0bada5a5)
 
-/* A run with fewer has left something out. */
-#define LEAST_CHECKS 100
+/* The words of the longest chain, and some around them, to see that those stay. */
+#define LONGEST_CHAIN RAGANSILS_CHAIN_WORDS(RAGANSILS_LARGEST_DEPTH)
+#define AROUND 4
 
-static uint64_t table[WORDS], list[LENT_LIST], stores;
+/* The first address that has no key. */
+#define NO_ADDRESS (UINT64_C(1) << 56)
+
+/* A run with fewer has left something out. */
+#define LEAST_CHECKS 400
+
+static uint64_t table[WORDS], list[LENT_LIST], stores, lent[AROUND + LONGEST_CHAIN + AROUND];
+static uint64_t *const records = lent + AROUND;
 static unsigned checks, failures;
 
 static void check(bool held, const char *what)
@@ -132,17 +140,34 @@ static void asked(uint64_t key, uint64_t number, uint64_t function, uint64_t pla
     all_untouched(answer, RAGANSILS_ANSWER_WORDS, RAGANSILS_ANSWER_WORDS + 1, "the word behind the answer stays");
 }
 
+/* Asks for a chain, and checks that it answers so, writes these records and leaves all words around them. */
+static void chained(uint64_t address, uint64_t depth, size_t record_words, uint64_t number, uint64_t buckets, const uint64_t *expected)
+{
+    uint64_t before[WORDS], answer[] = { UNTOUCHED, UNTOUCHED, UNTOUCHED };
+    size_t written = number == RAGANSILS_DONE ? RAGANSILS_CHAIN_WORDS(depth) : 0;
+    memcpy(before, table, sizeof table);
+    untouch(lent, AROUND + LONGEST_CHAIN + AROUND);
+    check(ragansils_chain(table, WORDS, address, depth, records, record_words, &answer[1]) == number, "chain");
+    check(answer[0] == UNTOUCHED && answer[1] == buckets && answer[2] == UNTOUCHED, "the chain's buckets");
+    check(written == 0 || memcmp(records, expected, written * sizeof *records) == 0, "the chain's records");
+    all_untouched(lent, 0, AROUND, "the words before the records stay");
+    all_untouched(records, written, LONGEST_CHAIN + AROUND, "the words behind the records stay");
+    check(memcmp(before, table, sizeof table) == 0, "a chain only reads the table");
+}
+
 /* ---- the checks ---- */
 
 static void sizes_and_keys(void)
 {
     check(RAGANSILS_WORDS(1) == 48 && RAGANSILS_WORDS(2) == 100 && RAGANSILS_WORDS(8) == 6652, "the words of a table");
     check(RAGANSILS_WORDS(0) == 0 && RAGANSILS_WORDS(21) == 0, "no words for a bad c");
+    check(RAGANSILS_CHAIN_WORDS(0) == 2 && RAGANSILS_CHAIN_WORDS(4) == 10 && LONGEST_CHAIN == 512, "the words of a chain");
+    check(RAGANSILS_CHAIN_WORDS(256) == 0 && RAGANSILS_CHAIN_WORDS(UINT64_MAX) == 0, "no words for a bad depth");
     uint64_t key = UNTOUCHED;
-    check(!ragansils_key(UINT64_C(1) << 56, 0, &key) && !ragansils_key(0, 256, &key), "a key that there is not");
+    check(!ragansils_key(NO_ADDRESS, 0, &key) && !ragansils_key(0, 256, &key), "a key that there is not");
     check(key == UNTOUCHED, "no key, nothing written");
     check(ragansils_key(16, 3, &key) && key == 16 * 256 + 3, "a key");
-    check(ragansils_key((UINT64_C(1) << 56) - 1, 255, &key) && key == UINT64_MAX, "the last key");
+    check(ragansils_key(NO_ADDRESS - 1, 255, &key) && key == UINT64_MAX, "the last key");
 }
 
 static void creation(void)
@@ -226,6 +251,90 @@ static void growth(void)
         check(ragansils_query(table, WORDS, key, list) == RAGANSILS_DONE && list[0] == 100 + key && list[1] == 200 + key, "grown");
 }
 
+/* Depths 0 to 3 of address 0 and 0 to 1 of address 16: at rest each is found in the first bucket that is looked at. */
+static void table_with_chains(void)
+{
+    fresh_table();
+    insert_keys(0, 3, 1);
+    insert_keys(16 * 256, 16 * 256 + 1, 1);
+}
+
+static void chains(void)
+{
+    const uint64_t four[] = { 103, 203, 102, 202, 101, 201, 100, 200 }, two[] = { 4197, 4297, 4196, 4296 };
+    table_with_chains();
+    chained(0, 3, 8, RAGANSILS_DONE, 4, four);
+    chained(0, 3, LONGEST_CHAIN, RAGANSILS_DONE, 4, four);
+    chained(0, 2, 7, RAGANSILS_DONE, 3, four + 2);
+    chained(0, 0, 2, RAGANSILS_DONE, 1, four + 6);
+    chained(16, 1, 4, RAGANSILS_DONE, 2, two);
+
+    /* An absent key of this table has two buckets. */
+    chained(0, 4, 10, RAGANSILS_KEY_ABSENT, 2, NULL);
+    chained(1, 0, 2, RAGANSILS_KEY_ABSENT, 2, NULL);
+    made(DELETE, 1, 0, 0);
+    chained(0, 3, 8, RAGANSILS_KEY_ABSENT, 4, NULL);
+    made(DELETE, 16 * 256, 0, 0);
+    chained(16, 1, 4, RAGANSILS_KEY_ABSENT, 3, NULL);
+    made(DELETE, 3, 0, 0);
+    chained(0, 3, 8, RAGANSILS_KEY_ABSENT, 2, NULL);
+}
+
+/* Most of these would be refused for a later reason too. The key of the first one, cut to 64 bits, would be there. */
+static void refused_chains(void)
+{
+    table_with_chains();
+    chained(NO_ADDRESS, 3, 8, RAGANSILS_BAD_POSITION, 0, NULL);
+    chained(0, 4, 9, RAGANSILS_SHORT_RECORDS, 0, NULL);
+    chained(0, 4, 0, RAGANSILS_SHORT_RECORDS, 0, NULL);
+    chained(1, 0, 1, RAGANSILS_SHORT_RECORDS, 0, NULL);
+    chained(0, 255, LONGEST_CHAIN - 1, RAGANSILS_SHORT_RECORDS, 0, NULL);
+    chained(NO_ADDRESS, 0, 1, RAGANSILS_BAD_POSITION, 0, NULL);
+    chained(UINT64_MAX, 3, 0, RAGANSILS_BAD_POSITION, 0, NULL);
+    chained(0, 256, LONGEST_CHAIN, RAGANSILS_BAD_POSITION, 0, NULL);
+    chained(0, UINT64_MAX, 0, RAGANSILS_BAD_POSITION, 0, NULL);
+    table[5] = 1;
+    chained(0, 3, 8, RAGANSILS_FLAG_SET, 0, NULL);
+    chained(NO_ADDRESS, 256, 0, RAGANSILS_FLAG_SET, 0, NULL);
+    table[0] = 2;
+    chained(NO_ADDRESS, 256, 0, RAGANSILS_BAD_HEADER, 0, NULL);
+}
+
+static void chain_while_growing(void)
+{
+    const uint64_t four[] = { 103, 203, 102, 202, 101, 201, 100, 200 };
+    table_with_chains();
+    made(BEGIN, 0, 0, 0);
+    /* An odd key has two buckets of the new top, an even one has one; the old top is the bottom now. */
+    chained(0, 3, 8, RAGANSILS_DONE, 3 + 2 + 3 + 2, four);
+    chained(0, 5, 12, RAGANSILS_KEY_ABSENT, 4, NULL);
+}
+
+/* All depths of the last address that has keys. */
+static void longest_chain(void)
+{
+    static uint64_t large[RAGANSILS_WORDS(7)];
+    const size_t words = RAGANSILS_WORDS(7);
+    uint64_t key, buckets, looked = 0, answer[RAGANSILS_ANSWER_WORDS];
+    bool filled = ragansils_create(large, words, 7, 6, RAGANSILS_MULTIPLIER_1, RAGANSILS_MULTIPLIER_2) == RAGANSILS_DONE;
+    for (uint64_t depth = 0; depth <= RAGANSILS_LARGEST_DEPTH; depth++) {
+        filled = filled && ragansils_key(NO_ADDRESS - 1, depth, &key) &&
+                 ragansils_insert(large, words, key, 1000 + depth, 7 * depth, list, RAGANSILS_LIST_WORDS, &stores) == RAGANSILS_DONE &&
+                 ragansils_make(large, words, list, RAGANSILS_LIST_WORDS, stores) == RAGANSILS_DONE;
+    }
+    check(filled, "the table of the longest chain");
+    check(ragansils_chain(large, words, NO_ADDRESS - 1, 255, records, LONGEST_CHAIN, &buckets) == RAGANSILS_DONE, "the longest chain");
+    bool same = true;
+    for (uint64_t depth = 0; depth <= RAGANSILS_LARGEST_DEPTH; depth++) {
+        const uint64_t *record = &records[2 * (RAGANSILS_LARGEST_DEPTH - depth)];
+        same = same && record[0] == 1000 + depth && record[1] == 7 * depth;
+        same = same && ragansils_query(large, words, (NO_ADDRESS - 1) * 256 + depth, answer) == RAGANSILS_DONE;
+        looked += answer[2];
+    }
+    check(same, "the records of the longest chain");
+    check(buckets == looked && looked > 256 && looked <= 4 * 256, "the buckets of the longest chain");
+}
+
 /* That each length is taken for the length of its own buffer. */
 static void lengths(void)
 {
@@ -239,6 +348,8 @@ static void lengths(void)
     }
     all_untouched(list, 0, LENT_LIST, "a refusal writes no list");
     check(ragansils_query(table, WORDS - 1, 1, answer) == RAGANSILS_BAD_HEADER, "a query of a table that is too short");
+    check(ragansils_chain(table, WORDS - 1, 0, 0, records, LONGEST_CHAIN, &stores) == RAGANSILS_BAD_HEADER && stores == 0,
+          "a chain of a table that is too short");
     check(ragansils_make(table, WORDS, pair, 2, 2) == RAGANSILS_BAD_MAKING, "make of more pairs than there are");
     check(ragansils_make(table, WORDS - 1, pair, 2, 1) == RAGANSILS_BAD_MAKING, "make outside the table");
     check(table[WORDS - 1] == 0, "a refused make stores nothing");
@@ -252,8 +363,12 @@ int main(void)
     one_position();
     cut_update();
     growth();
+    chains();
+    refused_chains();
+    chain_while_growing();
+    longest_chain();
     lengths();
-    if (printf("%u checks of the ten functions from C, %u failed\n", checks, failures) < 0 || fflush(stdout) != 0) {
+    if (printf("%u checks of the eleven functions from C, %u failed\n", checks, failures) < 0 || fflush(stdout) != 0) {
         fprintf(stderr, "calls: standard output could not be written\n");
         return 1;
     }

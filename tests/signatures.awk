@@ -1,9 +1,11 @@
 # Writes the exported functions of a source as C declarations, one to a line: of crates/collector (Rattle), where lent words are one
 # parameter, and of the extern block of the Rust crate, where they are two.
 
-# the length that goes with lent words
+# the length that goes with lent words: of 'list' it is 'list_words', of 'records' 'record_words'
 function length_name(name) {
-    return name == "table" ? "words" : name "_words"
+    if (name == "table") return "words"
+    sub(/s$/, "", name)
+    return name "_words"
 }
 
 function c_parameter(name, type) {
