@@ -1,4 +1,4 @@
-//! The ten functions over slices: each is one call of the library and nothing else.
+//! The eleven functions over slices: each is one call of the library and nothing else.
 //!
 //! [`Table`](crate::Table) is the way to use them in a collector. Here a changing call is in two parts, as the library has it: the call
 //! only reads the table and lists its stores, and something else makes them.
@@ -23,7 +23,7 @@
 
 use crate::raw;
 use crate::stores::LIST_WORDS;
-use crate::{Creation, Key, Lookup, Record, Refusal, StoreList};
+use crate::{Chain, Creation, Key, Lookup, Record, Refusal, StoreList};
 
 /// Zeroes all words and writes the header of an empty table. Refusal: `BadCreation`.
 pub fn create(words: &mut [u64], creation: &Creation) -> Result<(), Refusal> {
@@ -45,6 +45,41 @@ pub fn query(words: &[u64], key: Key) -> Result<Lookup, Refusal> {
     }
     Refusal::check(number)?;
     Ok(Lookup { record: Some(Record { function, place }), buckets })
+}
+
+/// Looks up the frames at an address, the innermost first: the record of this depth, then of each smaller one down to 0. They go to the
+/// first of the lent records, and the rest stays. A refusal leaves all of them as they were: `BadHeader`, `FlagSet`, `BadPosition` for an
+/// address of 2^56 or more or a depth above 255, `ShortRecords`, and `KeyAbsent` at the first depth that has no record. The number of
+/// buckets looked at is told with a refusal too.
+///
+/// ```
+/// use ragansils::{calls, Creation, Key, Record, Refusal};
+///
+/// let creation = Creation { capacity: 2, first_top: 1, multipliers: [4294967297, 12884901889] };
+/// let mut words = vec![0; creation.words().unwrap()];
+/// calls::create(&mut words, &creation)?;
+/// for (depth, function) in [(0, 7), (1, 8)] {
+///     let list = calls::insert(&words, Key::new(16, depth).unwrap(), Record { function, place: 20 })?;
+///     calls::make(&mut words, list.words(), list.count())?;
+/// }
+///
+/// let mut lent = [Record::default(); 3];
+/// let chain = calls::chain(&words, 16, 1, &mut lent);
+/// assert_eq!(chain.records?, [Record { function: 8, place: 20 }, Record { function: 7, place: 20 }]);
+/// let chain = calls::chain(&words, 16, 2, &mut lent);
+/// assert_eq!((chain.records, chain.buckets), (Err(Refusal::KeyAbsent), 2));
+/// # Ok::<(), Refusal>(())
+/// ```
+#[inline]
+pub fn chain<'r>(words: &[u64], address: u64, depth: u64, records: &'r mut [Record]) -> Chain<'r> {
+    let mut buckets = 0;
+    let (table, length) = (words.as_ptr(), words.len());
+    let (lent, lent_words) = (records.as_mut_ptr().cast::<u64>(), 2 * records.len());
+    // SAFETY: the table's pointer is valid for the slice's length, and the records' for two words each; the three buffers lie apart.
+    let number =
+        unsafe { raw::ragansils_chain(table, length, address, depth, lent, lent_words, &mut buckets) };
+    let records = Refusal::check(number).map(|()| &records[..=depth as usize]);
+    Chain { records, buckets }
 }
 
 /// Lists the stores that bring a key in. Refusals: `BadHeader`, `FlagSet`, `KeyPresent`, `NoPlace`.

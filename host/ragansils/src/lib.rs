@@ -4,15 +4,16 @@
 //! words when power fails. Every change is an ordered list of at most ten word stores, and power may fail after any of them.
 //!
 //! The work is done by the static library `collector`, written in Rattle and proved to answer as its rules say on every input; this
-//! crate is thin over its ten functions and has no other dependency. What is proved ends at the library: that stores are made in order
+//! crate is thin over its eleven functions and has no other dependency. What is proved ends at the library: that stores are made in order
 //! is this crate's own part, and is tested.
 //!
 //! From the bottom up:
-//! - [`raw`]: the ten functions, unsafe;
+//! - [`raw`]: the eleven functions, unsafe;
 //! - [`calls`]: the same over slices, safe;
-//! - [`Key`], [`Record`], [`Lookup`], [`Creation`], [`Refusal`]: what goes in and comes out;
+//! - [`Key`], [`Record`], [`Lookup`], [`Chain`], [`Creation`], [`Refusal`]: what goes in and comes out;
 //! - [`StoreList`], [`Platform`]: stores, and what a platform does after each;
-//! - [`Table`]: a table that makes its own stores, and grows in small parts ([`Growth`]);
+//! - [`Table`]: a table that makes its own stores, grows in small parts ([`Growth`]) and tells the inlined frames at an address
+//!   ([`Frames`]);
 //! - [`MappedFile`]: words in a file, with [`words_of`] and [`bytes_of`] for a file that is only read.
 //!
 //! ```
@@ -39,6 +40,7 @@
 mod bytes;
 pub mod calls;
 mod creation;
+mod frames;
 mod growth;
 #[cfg(all(target_os = "linux", target_pointer_width = "64"))]
 mod mapped;
@@ -50,10 +52,11 @@ mod table;
 
 pub use bytes::{bytes_of, words_of};
 pub use creation::{Creation, MULTIPLIER_1, MULTIPLIER_2};
+pub use frames::Frames;
 pub use growth::Growth;
 #[cfg(all(target_os = "linux", target_pointer_width = "64"))]
 pub use mapped::{FileError, MappedFile};
-pub use position::{Key, Lookup, Record};
+pub use position::{Chain, Key, Lookup, Record};
 pub use refusal::{Refusal, UnknownNumber};
 pub use stores::{OrdinaryMemory, Platform, Store, StoreList};
 pub use table::Table;

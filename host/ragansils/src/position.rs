@@ -1,5 +1,7 @@
 //! What is looked up, and what is found.
 
+use crate::Refusal;
+
 /// A key: a code address and an inlining depth, as address · 256 + depth. The table takes any 64-bit key.
 ///
 /// ```
@@ -45,7 +47,9 @@ impl From<u64> for Key {
 }
 
 /// What a key leads to: any two words, for instance the number of a function and a source line.
-#[derive(Clone, Copy, Debug, PartialEq, Eq, Hash)]
+// Two words in this order, as the library writes them: records are lent to it.
+#[repr(C)]
+#[derive(Clone, Copy, Debug, Default, PartialEq, Eq, Hash)]
 pub struct Record {
     /// The function.
     pub function: u64,
@@ -59,5 +63,15 @@ pub struct Lookup {
     /// The key's record; none where the key is absent.
     pub record: Option<Record>,
     /// The number of buckets looked at: at most four, or six while the table grows.
+    pub buckets: u64,
+}
+
+/// A chain's answer.
+#[derive(Clone, Copy, Debug, PartialEq, Eq)]
+pub struct Chain<'r> {
+    /// The records of all frames, the innermost first, or why there are none.
+    pub records: Result<&'r [Record], Refusal>,
+    /// The number of buckets looked at: at most four for each depth, or six while the table grows. With `KeyAbsent` the depth that has no
+    /// record is the last that was looked for. With any other refusal the number is 0.
     pub buckets: u64,
 }

@@ -1,12 +1,21 @@
-//! The ten functions of the static library `collector`, as `include/ragansils.h` declares them.
+//! The eleven functions of the static library `collector`, as `include/ragansils.h` declares them.
 //!
 //! They are unsafe for what a compiler cannot see: a pointer must be aligned and valid for as many words as the length beside it says,
-//! and no two buffers of a call may overlap. [`calls`](crate::calls) has the same ten over slices.
+//! and no two buffers of a call may overlap. [`calls`](crate::calls) has the same over slices.
 #![allow(missing_docs)] // include/ragansils.h says what each answers and leaves; `calls` says it for Rust
 
 extern "C" {
     pub fn ragansils_create(table: *mut u64, words: usize, c: u64, k: u64, mul1: u64, mul2: u64) -> u64;
     pub fn ragansils_query(table: *const u64, words: usize, key: u64, answer: *mut [u64; 3]) -> u64;
+    pub fn ragansils_chain(
+        table: *const u64,
+        words: usize,
+        address: u64,
+        depth: u64,
+        records: *mut u64,
+        record_words: usize,
+        buckets: *mut u64,
+    ) -> u64;
     pub fn ragansils_insert(
         table: *const u64,
         words: usize,

@@ -26,7 +26,7 @@ pub enum Refusal {
     FlagSet = 3,
     /// Insert: the key is present.
     KeyPresent = 4,
-    /// Update and delete: the key is absent.
+    /// Update and delete: the key is absent. Chain: one of the depths has no record.
     KeyAbsent = 5,
     /// Insert and growth step: there is no place. The table may grow, something may be deleted, or the step may be tried later.
     NoPlace = 6,
@@ -46,6 +46,10 @@ pub enum Refusal {
     BadCreation = 13,
     /// Making: the stores are not in the list, or one is outside the table.
     BadMaking = 14,
+    /// Chain: fewer records are lent than there are depths to look for.
+    ShortRecords = 15,
+    /// Chain: the address is 2^56 or more, or the depth above 255.
+    BadPosition = 16,
 }
 
 /// A number that is no refusal's.
@@ -54,7 +58,7 @@ pub struct UnknownNumber(pub u64);
 
 impl Refusal {
     /// Every refusal, by its number.
-    pub const ALL: [Refusal; 14] = [
+    pub const ALL: [Refusal; 16] = [
         Refusal::BadHeader,
         Refusal::ShortList,
         Refusal::FlagSet,
@@ -69,6 +73,8 @@ impl Refusal {
         Refusal::NoKind,
         Refusal::BadCreation,
         Refusal::BadMaking,
+        Refusal::ShortRecords,
+        Refusal::BadPosition,
     ];
 
     /// The number of the C interface.
@@ -100,6 +106,8 @@ impl Refusal {
             Refusal::NoKind => "the table is none of the kinds that recovery accepts",
             Refusal::BadCreation => "capacity exponent, first top, length or a multiplier are bad",
             Refusal::BadMaking => "the stores are not in the list, or one is outside the table",
+            Refusal::ShortRecords => "fewer records are lent than there are depths",
+            Refusal::BadPosition => "the address is 2^56 or more, or the depth above 255",
         }
     }
 }

@@ -1,7 +1,7 @@
 //! A table that makes its own stores.
 
 use crate::stores::make_in_order;
-use crate::{calls, Creation, Key, Lookup, Platform, Record, Refusal, StoreList};
+use crate::{calls, Creation, Frames, Key, Lookup, Platform, Record, Refusal, StoreList};
 
 /// A position table over words that it is lent: a `&mut [u64]`, a `Vec<u64>`, or a [`MappedFile`](crate::MappedFile).
 ///
@@ -56,6 +56,13 @@ impl<W: AsRef<[u64]> + AsMut<[u64]>, P: Platform> Table<W, P> {
     #[inline]
     pub fn query(&self, key: Key) -> Result<Lookup, Refusal> {
         calls::query(self.words(), key)
+    }
+
+    /// Looks up the frames at an address, the innermost first, from this inlining depth down to depth 0. Refusals: `KeyAbsent` where one
+    /// of these depths has no record, `BadPosition` for an address of 2^56 or more; `BadHeader` and `FlagSet` as for a query.
+    #[inline]
+    pub fn frames(&self, address: u64, depth: u8) -> Result<Frames, Refusal> {
+        Frames::look_up(self.words(), address, depth)
     }
 
     /// Brings a key in that is absent, by 4 stores or 9, and answers their number. Refusals: `KeyPresent`, and `NoPlace`, where

@@ -233,10 +233,10 @@ fn a_growth_without_a_place_goes_on_once_there_is_one() {
 }
 
 #[test]
-fn refusals_have_the_numbers_1_to_14() {
+fn refusals_have_the_numbers_1_to_16() {
     let numbers = Refusal::ALL.map(Refusal::number);
-    assert_eq!(numbers.to_vec(), (1..=14).collect::<Vec<u64>>());
-    assert!([0, 15, u64::MAX].into_iter().all(|number| Refusal::try_from(number).is_err()));
+    assert_eq!(numbers.to_vec(), (1..=16).collect::<Vec<u64>>());
+    assert!([0, 17, u64::MAX].into_iter().all(|number| Refusal::try_from(number).is_err()));
 }
 
 #[test]
