@@ -1,6 +1,6 @@
 /*
- * A small collector in C: it loads the positions of a module into the table, answers samples, loads the module again with its lines
- * moved, and unloads a part of it.
+ * A small collector in C: it loads the positions of a module into the table, answers samples by one frame and by all that were inlined
+ * there, loads the module again with its lines moved, and unloads a part of it.
  *
  *     collector                a table in ordinary memory, whose stores ragansils_make makes
  *     collector FILE           a table in a mapped file, which stays; each store is made by a loop that can flush it
@@ -24,7 +24,7 @@
 
 #include "ragansils.h"
 
-enum { CAPACITY = 4, FIRST_TOP = 1, FUNCTIONS = 12, DEPTHS = 3 };
+enum { CAPACITY = 4, FIRST_TOP = 1, FUNCTIONS = 12, DEPTHS = 3, INNERMOST = DEPTHS - 1 };
 
 struct collector {
     uint64_t *table;
@@ -174,15 +174,27 @@ static void learn(struct collector *collector, struct counts *counts, uint64_t k
         must("growth", number);
 }
 
-/* The key of one instruction of one function of our module, at one inlining depth. */
+/* Where one instruction of one function of our module is. */
+static uint64_t address_of(uint64_t function)
+{
+    return UINT64_C(0x555500001000) + 64 * function;
+}
+
+/* Its key at one inlining depth. */
 static uint64_t key_of(uint64_t function, uint64_t depth)
 {
-    uint64_t address = UINT64_C(0x555500001000) + 64 * function, key;
+    uint64_t address = address_of(function), key;
     if (!ragansils_key(address, depth, &key)) {
         fprintf(stderr, "collector: address %" PRIu64 " at depth %" PRIu64 " has no key\n", address, depth);
         exit(1);
     }
     return key;
+}
+
+/* The function at that depth: the module's own at 0, and above it what the compiler inlined there. */
+static uint64_t function_at(uint64_t function, uint64_t depth)
+{
+    return function + 100 * depth;
 }
 
 /* The source line of that instruction, in a module whose lines have moved by so many. */
@@ -195,7 +207,7 @@ static void load_module(struct collector *collector, struct counts *counts, uint
 {
     for (uint64_t function = 1; function <= FUNCTIONS; function++)
         for (uint64_t depth = 0; depth < DEPTHS; depth++)
-            learn(collector, counts, key_of(function, depth), function, line_of(function, depth, moved));
+            learn(collector, counts, key_of(function, depth), function_at(function, depth), line_of(function, depth, moved));
 }
 
 static void unload_function(struct collector *collector, struct counts *counts, uint64_t function)
@@ -219,12 +231,31 @@ static void answer_sample(const struct collector *collector, uint64_t function, 
         must("query", number);
 }
 
+/* All frames of a sample, the innermost first. Where one of them is missing there are none: a gap would name a wrong caller. */
+static void answer_with_frames(const struct collector *collector, uint64_t function)
+{
+    uint64_t records[RAGANSILS_CHAIN_WORDS(INNERMOST)], buckets;
+    uint64_t number = ragansils_chain(collector->table, collector->words, address_of(function), INNERMOST, records,
+                                      RAGANSILS_CHAIN_WORDS(INNERMOST), &buckets);
+    if (number == RAGANSILS_KEY_ABSENT) {
+        printf("  frames of a sample of function %" PRIu64 ": not known\n", function);
+        return;
+    }
+    must("chain", number);
+    printf("  frames of a sample of function %" PRIu64 ", the innermost first:\n", function);
+    for (size_t frame = 0; frame < DEPTHS; frame++) {
+        const uint64_t *record = &records[2 * frame];
+        printf("    function %" PRIu64 ", line %" PRIu64 "%s\n", record[0], record[1], frame + 1 < DEPTHS ? ", inlined into" : "");
+    }
+}
+
 static void answer_samples(const struct collector *collector, const char *when)
 {
     printf("%s:\n", when);
     answer_sample(collector, 1, 0);
-    answer_sample(collector, FUNCTIONS, DEPTHS - 1);
+    answer_sample(collector, FUNCTIONS, INNERMOST);
     answer_sample(collector, FUNCTIONS + 1, 0);
+    answer_with_frames(collector, 1);
 }
 
 /* ---- where the table stands ---- */
