@@ -17,7 +17,7 @@ const USUAL_C: u64 = 12;
 const RECOVERED: [u64; 5] = [6, 8, 10, 12, 14];
 const LOAD: f64 = 0.8;
 const CALLS: usize = 2_000;
-const SEED: u64 = 7;
+pub const SEED: u64 = 7;
 
 /// Of one call; of a recovery, for one word of the table.
 pub struct Count {
@@ -49,13 +49,18 @@ pub fn count_all(folder: &Path) -> Result<Vec<Counted>, String> {
 }
 
 fn count(operation: Operation, side: &str, c: u64, folder: &Path) -> Result<Count, String> {
+    count_run(&["counted", operation.name(), side, &c.to_string()], folder)
+}
+
+/// What one call costs in a run of this program with these arguments; the run writes how many calls it made.
+pub fn count_run(arguments: &[&str], folder: &Path) -> Result<Count, String> {
     let file = folder.join("callgrind.out");
     let program = std::env::current_exe().map_err(|error| format!("no path to this program: {error}"))?;
     let output = Command::new("valgrind")
         .args(["--tool=callgrind", "--branch-sim=yes", "--toggle-collect=counted_calls"])
         .arg(format!("--callgrind-out-file={}", file.display()))
         .arg(program)
-        .args(["counted", operation.name(), side, &c.to_string()])
+        .args(arguments)
         .output()
         .map_err(|error| format!("valgrind could not be run: {error}"))?;
     let written = String::from_utf8_lossy(&output.stdout).trim().to_string();
@@ -86,26 +91,21 @@ fn totals(text: &str, calls: f64) -> Result<Count, String> {
     }
 }
 
-/// What `counted_calls` is handed.
-pub struct Lent<'a> {
-    peer: &'a mut dyn Peer,
-    operation: Operation,
-    keys: &'a [u64],
-    answers: u64,
-}
-
-/// What callgrind counts and nothing else, by its name.
+/// What callgrind counts and nothing else, by its name. The answers are stored here, so that a run is no jump out of it.
 #[no_mangle]
 #[inline(never)]
-pub fn counted_calls(lent: &mut Lent) {
-    let Lent { peer, operation, keys, answers } = lent;
-    *answers = match operation {
+pub fn counted_calls(run: &mut dyn FnMut() -> u64, answers: &mut u64) {
+    *answers = run();
+}
+
+fn call_all(operation: Operation, peer: &mut dyn Peer, keys: &[u64]) -> u64 {
+    match operation {
         Operation::PositiveQuery | Operation::NegativeQuery => peer.get_all(keys),
         Operation::Insert => peer.insert_all(keys),
         Operation::Delete => peer.remove_all(keys),
         Operation::UpdateBeside | Operation::UpdateLogged => peer.update_all(keys),
         Operation::Recovery => peer.recover().into(),
-    };
+    }
 }
 
 /// Runs one operation of one side, under valgrind, and answers how many calls it was, or words that it recovered.
@@ -121,9 +121,9 @@ pub fn run_counted(name: &str, side: &str, c: u64) -> Result<usize, String> {
     filled.fill(items)?;
     let peer = filled.peers.first_mut().ok_or_else(|| format!("no side {side}"))?;
     let chosen = keys_for(operation, &mut random, &keys, items, peer.words().ok_or("no words")?);
-    let mut lent = Lent { peer: peer.as_mut(), operation, keys: &chosen, answers: 0 };
-    counted_calls(&mut lent);
-    match (lent.answers, operation) {
+    let mut answers = 0;
+    counted_calls(&mut || call_all(operation, peer.as_mut(), &chosen), &mut answers);
+    match (answers, operation) {
         (0, _) => Err(format!("{name} by the {side} did nothing")),
         (_, Operation::Recovery) => Ok(table_words(c).unwrap_or(0)),
         _ => Ok(chosen.len()),

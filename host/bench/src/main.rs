@@ -3,12 +3,13 @@
 //! From the bottom up:
 //! - `peers`: what is measured;
 //! - `clock`, `rounds`: how it is timed, and what is said of the times;
-//! - `operations`, `recovery`, `growth`: what is timed; `instructions`: what valgrind counts of it;
+//! - `operations`, `recovery`, `growth`, `chains`: what is timed; `instructions`: what valgrind counts of it;
 //! - `plan`, `run`: how much, and all of it;
 //! - `svg`, `chart`, `plots`, `report`: what is written of it.
 //!
 //! The keys, the level tables and all counts that need no clock are host/counts'.
 
+mod chains;
 mod chart;
 mod clock;
 mod growth;
@@ -30,36 +31,47 @@ use std::time::Instant;
 use ragansils_compare::random::Random;
 use ragansils_compare::{program, say};
 
+use crate::chains::Chains;
 use crate::run::{Results, Run};
 
-const USAGE: &str = "usage: ragansils-bench quick|full SEED OUT-FOLDER LMDB-FOLDER";
+const USAGE: &str =
+    "usage: ragansils-bench quick|full SEED OUT-FOLDER LMDB-FOLDER   or   ragansils-bench chains SEED OUT-FOLDER";
 
 fn main() -> ExitCode {
-    program::run(|arguments| command(arguments).map(|text| say!("{text}")))
+    program::run(command)
 }
 
-fn command(arguments: &[String]) -> Result<String, String> {
+fn command(arguments: &[String]) -> Result<(), String> {
     let words: Vec<&str> = arguments.iter().map(String::as_str).collect();
     match words[..] {
-        // By the program itself, under valgrind.
+        // These two by the program itself, under valgrind.
         ["counted", operation, side, c] => {
-            let c = c.parse().map_err(|_| USAGE.to_string())?;
-            instructions::run_counted(operation, side, c).map(|calls| calls.to_string())
+            say!("{}", instructions::run_counted(operation, side, number(c)?)?);
+            Ok(())
         }
-        [extent, seed, out, lmdb] => {
-            let plan = match extent {
-                "quick" => &plan::QUICK,
-                "full" => &plan::FULL,
-                _ => return Err(USAGE.to_string()),
-            };
-            let seed = seed.parse().map_err(|_| USAGE.to_string())?;
-            bench(plan, seed, Path::new(out), Path::new(lmdb))
+        ["counted-frames", way, depths] => {
+            say!("{}", chains::run_counted(way, number(depths)?)?);
+            Ok(())
         }
+        ["chains", seed, out] => chains_alone(number(seed)?, Path::new(out)),
+        ["quick", seed, out, lmdb] => bench(&plan::QUICK, number(seed)?, Path::new(out), Path::new(lmdb)),
+        ["full", seed, out, lmdb] => bench(&plan::FULL, number(seed)?, Path::new(out), Path::new(lmdb)),
         _ => Err(USAGE.to_string()),
     }
 }
 
-fn bench(plan: &plan::Plan, seed: u64, out: &Path, lmdb: &Path) -> Result<String, String> {
+fn number(text: &str) -> Result<u64, String> {
+    text.parse().map_err(|_| USAGE.to_string())
+}
+
+/// Writes the section, and then says where a chain costs more than it may.
+fn chains_alone(seed: u64, out: &Path) -> Result<(), String> {
+    let chains = chains::measure(seed, out)?;
+    program::say(report::chain_table(&chains));
+    chains.iter().try_for_each(Chains::check)
+}
+
+fn bench(plan: &plan::Plan, seed: u64, out: &Path, lmdb: &Path) -> Result<(), String> {
     let (random, begun, results) = (Random::new(seed), Instant::now(), Results::default());
     let mut run = Run { plan, random, folder: lmdb, begun, results };
     run.everything(seed, out)?;
@@ -73,5 +85,6 @@ fn bench(plan: &plan::Plan, seed: u64, out: &Path, lmdb: &Path) -> Result<String
     let figures = report::figures(&run.results, seed);
     write("figures.md", &figures)?;
     write("rounds.txt", &report::every_round(&run.results))?;
-    Ok(report::targets(&run.results))
+    say!("{}", report::targets(&run.results));
+    Ok(())
 }

@@ -5,6 +5,7 @@ use ragansils_counts::Middle;
 use ragansils_model::table_words;
 use ragansils_twin::TWIN_COMPILER;
 
+use crate::chains::{self, Chains, CHAIN, QUERIES};
 use crate::instructions;
 use crate::operations::Operation;
 use crate::peers::{LIBRARY, LISTING_TWIN, TWIN};
@@ -34,6 +35,7 @@ pub fn figures(results: &Results, seed: u64) -> String {
         peer_tables(results),
         recovery_table(results),
         growth_table(results),
+        chain_table(&results.chains),
         results.counts.sections(),
     ]
     .join("\n")
@@ -49,8 +51,9 @@ pub fn every_round(results: &Results) -> String {
         &results.growth,
         &results.more_growth,
     ];
+    let chains = results.chains.iter().map(|chains| &chains.times);
     let mut text = String::new();
-    for measured in parts.iter().copied().flatten() {
+    for measured in parts.iter().copied().flatten().chain(chains) {
         for series in &measured.series {
             let rounds: Vec<String> = series.rounds.iter().map(|time| format!("{time:.1}")).collect();
             let (c, operation, peer) = (measured.c, &measured.operation, series.peer);
@@ -282,6 +285,41 @@ fn growth_table(results: &Results) -> String {
         Some(row)
     });
     table("### One whole growth, begun at load 0.8", &names, rows)
+}
+
+pub fn chain_table(all: &[Chains]) -> String {
+    let rows = all.iter().filter_map(|chains| {
+        let middle = chains.times.ratio(CHAIN, QUERIES)?;
+        let [chain, queries] = &chains.instructions;
+        Some(vec![
+            chains.depths.to_string(),
+            time(&chains.times, CHAIN, 1.0),
+            time(&chains.times, QUERIES, 1.0),
+            ratio(middle),
+            bounds(middle),
+            three_digits(chain.instructions),
+            three_digits(queries.instructions),
+            format!("**{:.2}**", chain.instructions / queries.instructions),
+            if chains.check().is_ok() { "met" } else { "missed" }.to_string(),
+        ])
+    });
+    let limit = format!("at most {:.2}", chains::LIMIT);
+    let names = [
+        "depths",
+        "chain, ns",
+        "queries, ns",
+        "ratio",
+        "middle half",
+        "instructions, chain",
+        "instructions, queries",
+        "ratio",
+        &limit,
+    ];
+    let title = format!(
+        "### Chains\n\nAll frames at an address: one chain, and beside it a query for each of its depths; {}.",
+        chains::about()
+    );
+    table(&title, &heads(&names), rows)
 }
 
 #[cfg(test)]

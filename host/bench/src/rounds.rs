@@ -45,29 +45,45 @@ impl Measured {
 
 /// The series of some operations that are measured together, as an insert and the delete that takes it back.
 pub struct Rounds<const N: usize> {
+    names: Vec<&'static str>,
     series: [Vec<Series>; N],
 }
 
 impl<const N: usize> Rounds<N> {
     pub fn new(peers: &[Box<dyn Peer>]) -> Rounds<N> {
-        let empty = |_| peers.iter().map(|peer| Series { peer: peer.name(), rounds: vec![] }).collect();
-        Rounds { series: [(); N].map(empty) }
+        Rounds::named(peers.iter().map(|peer| peer.name()).collect())
     }
 
-    /// One round: each peer in turn, another one first each time. `run` gives nanoseconds for one of each operation, and a
-    /// sum of the answers, in which all peers must agree.
+    /// Of others than peers.
+    pub fn named(names: Vec<&'static str>) -> Rounds<N> {
+        let empty = |_| names.iter().map(|&peer| Series { peer, rounds: vec![] }).collect();
+        let series = [(); N].map(empty);
+        Rounds { names, series }
+    }
+
+    /// One round of the peers.
     pub fn round(
         &mut self,
         number: usize,
         peers: &mut [Box<dyn Peer>],
         mut run: impl FnMut(&mut dyn Peer) -> ([f64; N], u64),
     ) -> Result<(), String> {
+        self.turns(number, |at| run(peers[at].as_mut()))
+    }
+
+    /// One round: each in turn, another one first each time. `run` is told whose turn it is; it gives nanoseconds for one of each
+    /// operation, and a sum of the answers, in which all must agree.
+    pub fn turns(
+        &mut self,
+        number: usize,
+        mut run: impl FnMut(usize) -> ([f64; N], u64),
+    ) -> Result<(), String> {
         let mut agreed = None;
-        for turn in 0..peers.len() {
-            let at = (number + turn) % peers.len();
-            let (times, answers) = run(peers[at].as_mut());
+        for turn in 0..self.names.len() {
+            let at = (number + turn) % self.names.len();
+            let (times, answers) = run(at);
             if *agreed.get_or_insert(answers) != answers {
-                return Err(format!("{} does not answer as the peers before it", peers[at].name()));
+                return Err(format!("{} does not answer as what was measured before it", self.names[at]));
             }
             // The first round warms up.
             if number > 0 {

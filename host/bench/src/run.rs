@@ -9,6 +9,7 @@ use ragansils_compare::random::Random;
 use ragansils_counts::plan::{HIGH_LOAD, LOADS};
 use ragansils_counts::{full_size, half_way, items_at, last_growth, slots_of, Counts, Keys, Kind};
 
+use crate::chains::{self, Chains};
 use crate::growth::whole;
 use crate::instructions::{count_all, Counted};
 use crate::operations::Filled;
@@ -36,6 +37,7 @@ pub struct Results {
     pub more_growth: Vec<Measured>,
     pub counts: Counts,
     pub instructions: Vec<Counted>,
+    pub chains: Vec<Chains>,
 }
 
 impl Results {
@@ -77,6 +79,8 @@ impl Run<'_> {
         self.results.counts = Counts::count(seed, &self.plan.counts, |part| self.say(part))?;
         self.say("instructions");
         self.results.instructions = count_all(callgrind_folder)?;
+        self.say("chains");
+        self.results.chains = chains::measure(seed, callgrind_folder)?;
         for &c in self.plan.counts.capacities {
             self.at_rest(c, Kind::Random)?;
             self.growing(c, Kind::Random)?;

@@ -58,11 +58,26 @@ impl Keys {
     }
 }
 
+/// So many code addresses, each once.
+pub fn sampled_addresses(random: &mut Random, count: usize) -> Vec<u64> {
+    let mut address = CODE_START;
+    let mut addresses = Vec::with_capacity(count);
+    while addresses.len() < count {
+        address = next_address(random, address);
+        addresses.push(address);
+    }
+    addresses
+}
+
+fn next_address(random: &mut Random, before: u64) -> u64 {
+    before + 1 + random.below(LONGEST_GAP)
+}
+
 fn sampled_positions(random: &mut Random, count: usize) -> Vec<u64> {
     let mut address = CODE_START;
     let mut keys = Vec::with_capacity(count + MOST_DEPTHS as usize);
     while keys.len() < count {
-        address += 1 + random.below(LONGEST_GAP);
+        address = next_address(random, address);
         let depths = 1 + random.below(MOST_DEPTHS);
         keys.extend((0..depths).map(|depth| address * 256 + depth));
     }
@@ -74,7 +89,7 @@ pub fn draw(random: &mut Random, keys: &[u64], length: usize) -> Vec<u64> {
     (0..length).map(|_| random.pick(keys)).collect()
 }
 
-fn shuffle(random: &mut Random, keys: &mut [u64]) {
+pub fn shuffle(random: &mut Random, keys: &mut [u64]) {
     for end in (1..keys.len()).rev() {
         keys.swap(end, random.index(end + 1));
     }

@@ -27,7 +27,7 @@ pub use counts::Counts;
 pub use fillings::{Bin, Fillings, BINS};
 pub use growing::{half_way, last_growth};
 pub use growths::Growth;
-pub use keys::{draw, Keys, Kind};
+pub use keys::{draw, sampled_addresses, shuffle, Keys, Kind};
 pub use level::{full_size, items_at, record_of, slots_of, LevelTable, Record};
 pub use middle::Middle;
 pub use probes::Probes;

@@ -28,6 +28,17 @@ impl Proved {
         self.stores
     }
 
+    /// The chain of an address: the number, and the buckets looked at.
+    #[inline(always)]
+    pub fn chain(&self, table: &[u64], address: u64, depth: u64, records: &mut [u64]) -> (u64, u64) {
+        let (words, length) = (table.as_ptr(), table.len());
+        let (lent, lent_length, mut buckets) = (records.as_mut_ptr(), records.len(), 0);
+        // SAFETY: each pointer is valid for the length beside it, and no two buffers overlap.
+        let number =
+            unsafe { raw::ragansils_chain(words, length, address, depth, lent, lent_length, &mut buckets) };
+        (number, buckets)
+    }
+
     /// Makes the first `n` of the stores listed last.
     #[inline(always)]
     pub fn make(&self, table: &mut [u64], n: u64) -> u64 {
