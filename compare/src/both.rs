@@ -13,8 +13,8 @@ use crate::tally::Tally;
 pub enum Check {
     /// The library answers as the model does.
     Call,
-    /// The table is sound: a query answers as the plain map does, and each cut
-    /// of a change leaves the map before or after it.
+    /// The table is sound: a query or a chain answers as the plain map does, and
+    /// each cut of a change leaves the map before or after it.
     SoundTable,
 }
 

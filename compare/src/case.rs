@@ -1,12 +1,15 @@
 //! One call over given words, and what it answers in the model.
 
 use ragansils_model as model;
-use ragansils_model::Event;
+use ragansils_model::{Event, Table};
+
+use crate::chain::Chain;
 
 #[derive(Clone, Copy, Debug, PartialEq, Eq)]
 pub enum Call {
     Create { c: u64, k: u64, mul1: u64, mul2: u64 },
     Query { key: u64 },
+    Chain(Chain),
     Change(Event),
     Make { n: u64 },
 }
@@ -15,6 +18,7 @@ pub enum Call {
 pub struct Case {
     pub call: Call,
     pub table: Vec<u64>,
+    /// The words lent beside the table: a list of stores, or those for the records of a chain.
     pub list: Vec<u64>,
 }
 
@@ -22,7 +26,7 @@ pub struct Case {
 #[derive(Clone, Debug, PartialEq, Eq)]
 pub struct Outcome {
     pub number: u64,
-    /// The query's three words, a changing call's number of stores, else nothing.
+    /// The query's three words, the chain's count of buckets, a changing call's number of stores, else nothing.
     pub answer: Vec<u64>,
     pub table: Vec<u64>,
     pub list: Vec<u64>,
@@ -33,6 +37,7 @@ impl Call {
         match self {
             Call::Create { .. } => "create",
             Call::Query { .. } => "query",
+            Call::Chain(_) => "chain",
             Call::Make { .. } => "make",
             Call::Change(event) => event_name(event),
         }
@@ -42,9 +47,14 @@ impl Call {
         match self {
             Call::Create { .. } | Call::Make { .. } => 0,
             Call::Query { .. } => 3,
-            Call::Change(_) => 1,
+            Call::Chain(_) | Call::Change(_) => 1,
         }
     }
+}
+
+/// Whether words are those of a table that grows.
+pub fn is_growing(table: &[u64]) -> bool {
+    Table::read(table).map_or(false, |table| table.state.growing)
 }
 
 /// The name scripts and counts use.
@@ -75,6 +85,10 @@ pub fn run_model(case: &Case) -> Outcome {
         Call::Query { key } => {
             let (number, answer) = model::query(&table, key);
             (number, answer.to_vec())
+        }
+        Call::Chain(Chain { address, depth }) => {
+            let (number, buckets) = model::chain(&table, address, depth, &mut list);
+            (number, vec![buckets])
         }
         Call::Change(event) => {
             let (number, stores) = event.list_stores(&table, &mut list);

@@ -8,6 +8,7 @@ use ragansils_model::Event;
 
 use crate::both::Check;
 use crate::case::{Call, Case};
+use crate::chain::Chain;
 
 pub fn write_case(check: Check, case: &Case) -> String {
     let mut text = String::new();
@@ -34,6 +35,7 @@ fn arguments(call: Call) -> Vec<(&'static str, u64)> {
         }
         Call::Make { n } => vec![("n", n)],
         Call::Query { key } => vec![("key", key)],
+        Call::Chain(Chain { address, depth }) => vec![("address", address), ("depth", depth)],
         Call::Change(event) => event_arguments(event),
     }
 }
@@ -80,6 +82,7 @@ pub fn read_call(op: &str, number: impl Fn(&str) -> Result<u64, String>) -> Resu
         }
         "make" => return Ok(Call::Make { n: number("n")? }),
         "query" => return Ok(Call::Query { key: number("key")? }),
+        "chain" => return Ok(Call::Chain(Chain { address: number("address")?, depth: number("depth")? })),
         "insert" => Event::Insert { key: number("key")?, function: number("fn")?, place: number("at")? },
         "update" => Event::Update { key: number("key")?, function: number("fn")?, place: number("at")? },
         "delete" => Event::Delete { key: number("key")? },
@@ -103,6 +106,7 @@ mod tests {
             Call::Create { c: 1, k: 2, mul1: 3, mul2: 4 },
             Call::Make { n: 5 },
             Call::Query { key: 6 },
+            Call::Chain(Chain { address: u64::MAX, depth: 7 }),
             Call::Change(insert),
             Call::Change(Event::Update { key: 1, function: 2, place: 3 }),
             Call::Change(Event::Delete { key: 1 }),

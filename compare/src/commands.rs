@@ -8,6 +8,8 @@ use std::time::{Duration, Instant, SystemTime, UNIX_EPOCH};
 use crate::both::{Both, Check, Finding};
 use crate::case::Case;
 use crate::case_text::{read_case, write_case};
+use crate::chain::DEPTH_LIMIT;
+use crate::chain_tally::{KINDS_OF_SOUND_TABLES, MORE_KINDS_OF_OTHER_WORDS};
 use crate::corners;
 use crate::program;
 use crate::random::Random;
@@ -28,7 +30,7 @@ compare corners <INPUT
 (FILE after --trace keeps the case the library was given last, for when it crashes;
  a long run without --program makes no scripts)";
 
-/// From these sizes on, a refusal number that was never seen fails the run.
+/// From these sizes on, a refusal number or a kind of chain that was never seen fails the run.
 const FULL_SIZE_CALLS: u64 = 100_000;
 const FULL_SIZE_SCRIPTS: u64 = 1_000;
 
@@ -36,9 +38,9 @@ const FULL_SIZE_SCRIPTS: u64 = 1_000;
 const ROUND_CALLS: u64 = 1_000_000;
 const ROUND_SCRIPTS: u64 = 1_500;
 
-/// Scripts make good tables, lend good lists and make good stores: no 1, 2 or 14.
+/// Scripts make good tables, lend good lists, make good stores and ask for no chain: no 1, 2, 14, 15 or 16.
 const REFUSALS_OF_SCRIPTS: std::ops::RangeInclusive<u64> = 3..=13;
-const REFUSALS_OF_CALLS: std::ops::RangeInclusive<u64> = 1..=14;
+const REFUSALS_OF_CALLS: std::ops::RangeInclusive<u64> = 1..=16;
 
 type Answer = Result<(), String>;
 
@@ -101,6 +103,7 @@ fn words_run(seed: u64, calls: u64, trace: Option<&Path>) -> Answer {
     demand_some(tally.total_calls, "calls")?;
     if calls >= FULL_SIZE_CALLS {
         demand_refusals(&tally, REFUSALS_OF_CALLS)?;
+        demand_chains(&tally)?;
     }
     say_alike();
     Ok(())
@@ -141,6 +144,7 @@ fn long_run(minutes: u32, seed: u64, program: Option<&Path>) -> Answer {
     say!("rounds: {rounds}");
     tally.print();
     demand_refusals(&tally, REFUSALS_OF_CALLS)?;
+    demand_chains(&tally)?;
     say_alike();
     Ok(())
 }
@@ -166,6 +170,21 @@ fn demand_refusals(tally: &Tally, possible: std::ops::RangeInclusive<u64>) -> An
     } else {
         Err(format!("refusal numbers never seen: {unseen:?}"))
     }
+}
+
+/// That some other call met a refusal shows nothing of chains.
+fn demand_chains(tally: &Tally) -> Answer {
+    let (sound, other) = (&tally.chains_of_sound_tables, &tally.chains_of_other_words);
+    let of_sound_tables = sound.unseen(KINDS_OF_SOUND_TABLES);
+    let of_other_words = other.unseen(KINDS_OF_SOUND_TABLES.into_iter().chain(MORE_KINDS_OF_OTHER_WORDS));
+    if !of_sound_tables.is_empty() || !of_other_words.is_empty() {
+        let unseen = format!("{of_sound_tables:?} of sound tables, {of_other_words:?} of other words");
+        return Err(format!("chains never seen: {unseen}"));
+    }
+    if sound.longest < DEPTH_LIMIT {
+        return Err(format!("the longest whole chain of a sound table had only {} depths", sound.longest));
+    }
+    Ok(())
 }
 
 fn check_case(check: Check, case: &Case) -> Result<(), Finding> {

@@ -3,12 +3,13 @@
 
 use ragansils_model::{make, word, Event, Level, Slot, State, Table, LEAST_LIST_WORDS, SLOTS_PER_BUCKET};
 
+use crate::chain::{key_of, Chain};
 use crate::history::any_item;
 use crate::random::Random;
 
 type Kind = fn(&mut Random, &mut [u64]);
 
-const KINDS: [Kind; 22] = [
+const KINDS: [Kind; 24] = [
     any_word,
     header_word,
     token_above_15,
@@ -31,6 +32,8 @@ const KINDS: [Kind; 22] = [
     room_for_one_item,
     room_for_one_item,
     half_made_change,
+    few_depths_of_one_address,
+    few_depths_of_one_address,
 ];
 
 pub fn damage(random: &mut Random, words: &mut Vec<u64>) {
@@ -233,6 +236,19 @@ fn crowd(random: &mut Random, words: &mut [u64]) {
             }
         }
         words[token_word(bucket)] = if random.one_in(room) { random.below(16) } else { 15 };
+    }
+}
+
+/// All keys are of one address and of few depths, so that many a chain is whole, with keys that stand twice or out of place.
+pub fn few_depths_of_one_address(random: &mut Random, words: &mut [u64]) {
+    let first_key = any_item(random, words).map_or(random.word(), |slot| words[slot.key_word()]);
+    let address = Chain::of_key(first_key).address;
+    // Without depth 0 every chain is broken, and often only there.
+    let (lowest, depths) = (random.below(2), 1 + random.below(8));
+    for bucket in levels_in_use(words).iter().flat_map(|level| level.buckets()) {
+        for slot in Slot::all_of(bucket) {
+            words[slot.key_word()] = key_of(address, lowest + random.below(depths));
+        }
     }
 }
 

@@ -32,7 +32,7 @@ impl Setting {
     }
 
     /// The slots of top and bottom when the table is as large as it can be.
-    fn most_items(self) -> u64 {
+    pub fn most_items(self) -> u64 {
         6 << self.c
     }
 }
@@ -71,6 +71,11 @@ impl Keys {
             _ => random.word(),
         };
         Keys { pool: (0..count).map(|index| key(index, random)).collect() }
+    }
+
+    /// Keys that come as often as each of the others.
+    pub fn add(&mut self, keys: impl Iterator<Item = u64>) {
+        self.pool.extend(keys);
     }
 
     pub fn pick(&self, random: &mut Random) -> u64 {

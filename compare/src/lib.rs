@@ -3,12 +3,14 @@
 //!
 //! From the bottom up:
 //! - `random`: numbers from a seed;
+//! - `chain`: the chain of an address;
 //! - `case`, `case_text`: one call over given words, and its text form;
 //! - `library`: the proved library behind its C interface;
-//! - `tally`: what a run has seen;
+//! - `tally`: what a run has seen; `chain_tally`: of chains;
 //! - `both`: a case through library and model;
 //! - `plain_map`, `sound_tables`: sound tables against a plain map, with every cut;
-//! - `history`, `damage`: where tables come from;
+//! - `history`, `damage`: where tables come from; `random_chains`: which chains are put in and asked for;
+//! - `wild`: cases over words that no history made;
 //! - `words`: the run over raw words;
 //! - `script_text`, `script_damage`, `scripts`: the run of scripts;
 //! - `corners`: the model's answers to the input of the proved program `corners`;
@@ -18,6 +20,8 @@
 mod both;
 pub mod case;
 pub mod case_text;
+pub mod chain;
+mod chain_tally;
 pub mod commands;
 mod corners;
 pub mod damage;
@@ -26,6 +30,7 @@ pub mod library;
 pub mod plain_map;
 pub mod program;
 pub mod random;
+mod random_chains;
 pub mod runner;
 mod script_damage;
 mod script_text;
@@ -33,4 +38,7 @@ mod scripts;
 mod shrink;
 mod sound_tables;
 mod tally;
+#[cfg(test)]
+mod test_table;
+mod wild;
 mod words;

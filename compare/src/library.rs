@@ -5,8 +5,12 @@ use ragansils::raw;
 use ragansils_model::Event;
 
 use crate::case::{Call, Case, Outcome};
+use crate::chain::{Chain, DEPTH_LIMIT};
 
 const GUARD_WORDS: usize = 16;
+
+/// Around the words lent for a chain: as many as the longest one takes, so that where it is written to fewer words no crash hides it.
+const GUARD_WORDS_OF_CHAINS: usize = 2 * DEPTH_LIMIT as usize;
 
 /// What answer buffers hold before a call, to see that each word is written.
 const UNWRITTEN: u64 = 0x5a5a_0bad_0bad_a5a5;
@@ -14,33 +18,39 @@ const UNWRITTEN: u64 = 0x5a5a_0bad_0bad_a5a5;
 /// Words lent to the library, with guard words on both sides.
 struct Guarded {
     words: Vec<u64>,
+    /// How many guard words stand on each side.
+    guard: usize,
 }
 
 impl Guarded {
     fn new(content: &[u64]) -> Guarded {
-        let mut words: Vec<u64> = (0..GUARD_WORDS).map(guard_word).collect();
+        Guarded::between(GUARD_WORDS, content)
+    }
+
+    fn between(guard: usize, content: &[u64]) -> Guarded {
+        let mut words: Vec<u64> = (0..guard).map(guard_word).collect();
         words.extend_from_slice(content);
-        words.extend((0..GUARD_WORDS).map(guard_word));
-        Guarded { words }
+        words.extend((0..guard).map(guard_word));
+        Guarded { words, guard }
     }
 
     fn length(&self) -> usize {
-        self.words.len() - 2 * GUARD_WORDS
+        self.words.len() - 2 * self.guard
     }
 
     /// Both kinds of pointer come from the one writable buffer, so that even a
     /// library that breaks its promise to only read is seen, not undefined.
     fn pointer(&mut self) -> *mut u64 {
-        self.words[GUARD_WORDS..].as_mut_ptr()
+        self.words[self.guard..].as_mut_ptr()
     }
 
     fn content(&self) -> &[u64] {
-        &self.words[GUARD_WORDS..][..self.length()]
+        &self.words[self.guard..][..self.length()]
     }
 
     fn intact(&self) -> bool {
-        let before = &self.words[..GUARD_WORDS];
-        let after = &self.words[GUARD_WORDS + self.length()..];
+        let before = &self.words[..self.guard];
+        let after = &self.words[self.guard + self.length()..];
         [before, after].iter().all(|side| side.iter().enumerate().all(|(i, &w)| w == guard_word(i)))
     }
 }
@@ -52,16 +62,17 @@ fn guard_word(index: usize) -> u64 {
 struct Lent {
     table: Guarded,
     list: Guarded,
-    /// The query's answer, or the number of stores.
+    /// The query's answer, the chain's count of buckets, or the number of stores.
     answer: Guarded,
 }
 
 /// Runs a case through the library; an error says which guard words were touched.
 pub fn run(case: &Case) -> Result<Outcome, String> {
     let answer_words = case.call.answer_words();
+    let list_guard = if matches!(case.call, Call::Chain(_)) { GUARD_WORDS_OF_CHAINS } else { GUARD_WORDS };
     let mut lent = Lent {
         table: Guarded::new(&case.table),
-        list: Guarded::new(&case.list),
+        list: Guarded::between(list_guard, &case.list),
         answer: Guarded::new(&vec![UNWRITTEN; answer_words]),
     };
     let number = call_library(case.call, &mut lent);
@@ -88,6 +99,9 @@ fn call_library(call: Call, lent: &mut Lent) -> u64 {
         match call {
             Call::Create { c, k, mul1, mul2 } => raw::ragansils_create(table, words, c, k, mul1, mul2),
             Call::Query { key } => raw::ragansils_query(table, words, key, answer.cast()),
+            Call::Chain(Chain { address, depth }) => {
+                raw::ragansils_chain(table, words, address, depth, list, list_words, answer)
+            }
             Call::Make { n } => raw::ragansils_make(table, words, list, list_words, n),
             Call::Change(event) => list_event(event, table, words, list, list_words, answer),
         }

@@ -4,6 +4,8 @@ use std::collections::HashMap;
 
 use ragansils_model::{Event, Table};
 
+use crate::chain::Chain;
+
 /// Function and place by key.
 pub type PlainMap = HashMap<u64, [u64; 2]>;
 
@@ -50,5 +52,40 @@ pub fn query_fits(map: &PlainMap, key: u64, number: u64, answer: &[u64]) -> bool
     match map.get(&key) {
         Some(record) => number == 0 && answer[..2] == record[..],
         None => number == 5 && answer[..2] == [0, 0],
+    }
+}
+
+/// What a sound table of this map answers to a chain with so many words lent: the words of its records, or a refusal.
+pub fn chain_answer(map: &PlainMap, chain: Chain, lent_words: usize) -> Result<Vec<u64>, u64> {
+    if !chain.is_within_bounds() {
+        return Err(16);
+    }
+    if lent_words < chain.record_words() {
+        return Err(15);
+    }
+    let records: Option<Vec<[u64; 2]>> = chain.keys().map(|key| map.get(&key).copied()).collect();
+    records.map(|records| records.concat()).ok_or(5)
+}
+
+/// The depths that a chain is followed through: all, or those down to the first that the map has not.
+pub fn depths_asked(map: &PlainMap, chain: Chain) -> u64 {
+    let first_missing = chain.keys().position(|key| !map.contains_key(&key));
+    first_missing.map_or(chain.depth + 1, |present| present as u64 + 1)
+}
+
+#[cfg(test)]
+mod tests {
+    use super::*;
+
+    #[test]
+    fn a_chain_has_the_records_of_the_map_or_a_refusal() {
+        let map = PlainMap::from([(256, [1, 2]), (257, [3, 4]), (259, [5, 6])]);
+        let answer = |address, depth, words| chain_answer(&map, Chain { address, depth }, words);
+        assert_eq!(answer(1, 0, 2), Ok(vec![1, 2]));
+        assert_eq!(answer(1, 1, 5), Ok(vec![3, 4, 1, 2]));
+        assert_eq!((answer(1, 1, 3), answer(1, 2, 5), answer(1, 2, 6)), (Err(15), Err(15), Err(5)));
+        assert_eq!((answer(1, 3, 8), answer(1, 256, 0), answer(1 << 56, 0, 2)), (Err(5), Err(16), Err(16)));
+        let asked = |depth| depths_asked(&map, Chain { address: 1, depth });
+        assert_eq!((asked(1), asked(2), asked(3)), (2, 1, 2));
     }
 }

@@ -3,6 +3,7 @@
 use ragansils_model::Event;
 
 use crate::case::{Call, Case};
+use crate::chain::Chain;
 
 /// Zeroes and shortens whatever the failure does not need.
 pub fn shrink_case(mut case: Case, fails: impl Fn(&Case) -> bool) -> Case {
@@ -52,6 +53,7 @@ fn arguments(call: &mut Call) -> Vec<&mut u64> {
     match call {
         Call::Create { c, k, mul1, mul2 } => vec![c, k, mul1, mul2],
         Call::Query { key } | Call::Change(Event::Delete { key }) => vec![key],
+        Call::Chain(Chain { address, depth }) => vec![address, depth],
         Call::Change(Event::Insert { key, function, place } | Event::Update { key, function, place }) => {
             vec![key, function, place]
         }

@@ -1,10 +1,11 @@
-//! Sound tables against the plain map: queries, and changes that are cut after
+//! Sound tables against the plain map: queries, chains, and changes that are cut after
 //! every number of stores and recovered, the recovery cut too.
 
-use ragansils_model::{Event, LEAST_LIST_WORDS};
+use ragansils_model::{Event, LEAST_LIST_WORDS, SUCCESS};
 
 use crate::both::{Both, Check, Finding};
-use crate::case::{Call, Case, Outcome};
+use crate::case::{is_growing, Call, Case, Outcome};
+use crate::chain::Chain;
 use crate::plain_map::{self, PlainMap};
 
 /// The list lent to recoveries: longer than need be, and not zero.
@@ -60,12 +61,36 @@ pub fn check_query(both: &mut Both, case: &Case, key: u64, map: &PlainMap) -> Re
     Err(finding(case, format!("the plain map has {:?} for this key", map.get(&key))))
 }
 
+/// Checks one chain of a sound table whose map is `map`.
+pub fn check_chain(both: &mut Both, case: &Case, chain: Chain, map: &PlainMap) -> Result<(), Finding> {
+    let outcome = both.run(case)?;
+    both.tally.chains_of_sound_tables.count(case, outcome.number);
+    let expected = plain_map::chain_answer(map, chain, case.list.len());
+    let number = expected.as_ref().err().copied().unwrap_or(SUCCESS);
+    if outcome.number != number {
+        return Err(finding(case, format!("answer {}, but {number} by the plain map", outcome.number)));
+    }
+    let records = expected.unwrap_or_default();
+    if outcome.list != [&records[..], &case.list[records.len()..]].concat() {
+        return Err(finding(case, "the lent words are not those of the plain map".to_string()));
+    }
+    let depths = if [SUCCESS, 5].contains(&number) { plain_map::depths_asked(map, chain) } else { 0 };
+    // A key may stand in two buckets of each level in use.
+    let most_buckets = if is_growing(&case.table) { 6 } else { 4 };
+    let buckets = outcome.answer[0];
+    if (depths..=most_buckets * depths).contains(&buckets) {
+        return Ok(());
+    }
+    Err(finding(case, format!("{buckets} buckets were looked at for {depths} depths")))
+}
+
 /// Checks a case of its own, where it is one of a sound table: the plain map is the table's.
 pub fn check_alone(both: &mut Both, case: &Case) -> Result<(), Finding> {
     let recovery = Event::Recover.list_stores(&case.table, &mut RECOVERY_LIST.clone());
     let map = plain_map::of_table(&case.table).filter(|_| recovery == (0, 0));
     match (map, case.call) {
         (Some(map), Call::Query { key }) => check_query(both, case, key, &map),
+        (Some(map), Call::Chain(chain)) => check_chain(both, case, chain, &map),
         (Some(map), Call::Change(event)) if case.list.len() >= LEAST_LIST_WORDS => {
             check_change(both, case, event, &map, Depth::EveryCut).map(|_| ())
         }
@@ -154,13 +179,12 @@ impl Change<'_, '_> {
 mod tests {
     use super::*;
     use crate::tally::Tally;
-    use ragansils_model::{create, table_words};
+    use crate::test_table::table_of;
 
     /// A wrong plain map must be found, or no right one would mean anything.
     #[test]
     fn a_wrong_map_is_found() {
-        let mut table = vec![0; table_words(2).unwrap()];
-        create(&mut table, 2, 1, 1 << 32 | 1, 3 << 32 | 1);
+        let table = table_of(&[]);
         let event = Event::Insert { key: 1, function: 10, place: 20 };
         let case = Case { call: Call::Change(event), table, list: vec![0; 20] };
         let mut tally = Tally::default();
@@ -171,5 +195,27 @@ mod tests {
         assert!(!check(PlainMap::from([(1, [10, 20])]), Depth::WholeOnly));
         assert!(!check(PlainMap::from([(2, [10, 20])]), Depth::WholeOnly));
         assert!(!check(PlainMap::from([(2, [10, 20])]), Depth::EveryCut));
+    }
+
+    #[test]
+    fn a_wrong_map_is_found_by_a_chain() {
+        let table = table_of(&[[256, 10, 20], [257, 30, 40]]);
+        let map = PlainMap::from([(256, [10, 20]), (257, [30, 40])]);
+        let mut tally = Tally::default();
+        let mut both = Both::new(&mut tally);
+        let mut check = |map: &PlainMap, depth, words| {
+            let chain = Chain { address: 1, depth };
+            let case = Case { call: Call::Chain(chain), table: table.clone(), list: vec![7; words] };
+            check_chain(&mut both, &case, chain, map).is_ok()
+        };
+
+        for (depth, words) in [(1, 4), (1, 5), (0, 2), (1, 3), (2, 6), (256, 512)] {
+            assert!(check(&map, depth, words));
+        }
+        let with = |key, function, place| plain_map::after(&map, Event::Insert { key, function, place });
+        let (swapped, longer) = (with(257, 40, 30), with(258, 50, 60));
+        assert!(!check(&swapped, 1, 4) && check(&swapped, 0, 2));
+        assert!(!check(&longer, 2, 6) && check(&longer, 1, 4));
+        assert!(!check(&PlainMap::new(), 0, 2));
     }
 }

@@ -4,6 +4,7 @@ use std::collections::BTreeMap;
 use std::fmt::Display;
 
 use crate::case::{Case, Outcome};
+use crate::chain_tally::ChainTally;
 use crate::say;
 
 type Counts = BTreeMap<String, u64>;
@@ -16,6 +17,8 @@ pub struct Tally {
     refusals: BTreeMap<u64, u64>,
     recoveries: Counts,
     bad_lines: Counts,
+    pub chains_of_sound_tables: ChainTally,
+    pub chains_of_other_words: ChainTally,
     pub total_calls: u64,
     pub cuts: u64,
     pub recovery_cuts: u64,
@@ -28,13 +31,13 @@ impl Tally {
         self.count_answered(case.call.name(), outcome.number, outcome.stores());
     }
 
-    /// Counts a call of the library or an event of a script. `stores` is of no matter for a query.
+    /// Counts a call of the library or an event of a script. `stores` is of no matter for a query or a chain.
     pub fn count_answered(&mut self, name: &str, number: u64, stores: u64) {
         add(&mut self.calls, name);
         self.count_refusal(number);
         match name {
             "recover" => add(&mut self.recoveries, recovery_kind(number, stores)),
-            "query" | "create" | "make" => {}
+            "query" | "chain" | "create" | "make" => {}
             _ if number == 0 => add(&mut self.lists, &format!("{name} of {stores}")),
             _ => {}
         }
@@ -63,6 +66,20 @@ impl Tally {
         say!("cuts made: {}; recoveries cut: {}", self.cuts, self.recovery_cuts);
         print_counts("recoveries by kind", &self.recoveries);
         print_counts("bad lines by kind", &self.bad_lines);
+        self.print_chains();
+    }
+
+    fn print_chains(&self) {
+        let (sound, other) = (&self.chains_of_sound_tables, &self.chains_of_other_words);
+        print_counts("chains of sound tables", &sound.kinds);
+        print_counts("chains of other words", &other.kinds);
+        if sound.longest + other.longest > 0 {
+            say!(
+                "depths of the longest whole chain: {} of sound tables, {} of other words",
+                sound.longest,
+                other.longest
+            );
+        }
     }
 }
 

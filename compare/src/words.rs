@@ -4,24 +4,62 @@
 use ragansils_model::{table_words, Event, LEAST_LIST_WORDS};
 
 use crate::both::{Both, Finding};
-use crate::case::{Call, Case};
+use crate::case::{is_growing, Call, Case};
+use crate::chain::{key_of, Chain};
 use crate::damage;
 use crate::history::{next_event, Keys, Mood, Setting};
 use crate::plain_map::PlainMap;
 use crate::random::Random;
-use crate::sound_tables::{check_change, check_query, Depth};
+use crate::random_chains::{chain_near, chains_of_history, lent_words, longest_chain};
+use crate::sound_tables::{check_chain, check_change, check_query, Changed, Depth};
+use crate::wild::{any_list, wild_calls};
 
 /// At this capacity a single cut costs as much as a small history.
 const LARGE_CAPACITY: u64 = 8;
+
+/// One history in so many, the first among them, has the longest chain there is.
+const LONGEST_CHAIN_ONE_IN: u64 = 4;
+/// It takes 256 slots: the smaller of these capacities has 384, and half of them before it grows.
+const CAPACITIES_OF_LONGEST_CHAIN: [u64; 2] = [6, 7];
+const EVENTS_OF_LONGEST_CHAIN: u64 = 20;
 
 /// Makes at least `calls` more calls of the library.
 pub fn run(seed: u64, calls: u64, both: &mut Both) -> Result<(), Finding> {
     let mut random = Random::new(seed);
     let enough = both.tally.total_calls + calls;
-    while both.tally.total_calls < enough {
-        History::start(&mut random, both)?.play(both, enough)?;
+    for number in 0.. {
+        if both.tally.total_calls >= enough {
+            break;
+        }
+        if number % LONGEST_CHAIN_ONE_IN == 0 {
+            history_of_longest_chain(&mut random, both, enough)?;
+        }
+        let setting = Setting::random(&mut random);
+        let chains = chains_of_history(&mut random, setting);
+        // Long enough to grow to the top and be full there, most times.
+        let events = 10 + random.below(40 << setting.c);
+        History::start(&mut random, setting, chains, both)?.play(both, events, enough)?;
     }
     Ok(())
+}
+
+/// The table grows while the chain is put in, or once it is whole.
+fn history_of_longest_chain(random: &mut Random, both: &mut Both, enough_calls: u64) -> Result<(), Finding> {
+    let c = random.pick(&CAPACITIES_OF_LONGEST_CHAIN);
+    // By the upper bit the depths go through all buckets; else some multipliers would have no room for them.
+    let mut multiplier = || random.word() | 1 << 32 | 1;
+    let setting = Setting { c, k: c - 1, mul1: multiplier(), mul2: multiplier() };
+    let chain = longest_chain(random);
+    let mut history = History::start(random, setting, vec![chain], both)?;
+    history.put_chain(both, chain)?;
+    history.change(both, Event::Begin, Depth::WholeOnly)?;
+    history.finish_growth(both)?;
+    // So often that it is lent enough words at least once.
+    for _ in 0..10 {
+        history.ask_for(both, chain)?;
+    }
+    history.ask_for_broken(both, chain)?;
+    history.play(both, EVENTS_OF_LONGEST_CHAIN, enough_calls)
 }
 
 /// A sound table in the middle of its life, with the plain map beside it.
@@ -29,6 +67,8 @@ struct History {
     random: Random,
     setting: Setting,
     keys: Keys,
+    /// Those that are put in now and then.
+    chains: Vec<Chain>,
     mood: Mood,
     table: Vec<u64>,
     map: PlainMap,
@@ -36,27 +76,31 @@ struct History {
 }
 
 impl History {
-    fn start(random: &mut Random, both: &mut Both) -> Result<History, Finding> {
-        let setting = Setting::random(random);
+    fn start(
+        random: &mut Random,
+        setting: Setting,
+        chains: Vec<Chain>,
+        both: &mut Both,
+    ) -> Result<History, Finding> {
         let Setting { c, k, mul1, mul2 } = setting;
         let garbage = random.words(table_words(c).unwrap_or(0));
         let case = Case { call: Call::Create { c, k, mul1, mul2 }, table: garbage, list: vec![] };
         let table = both.run(&case)?.table;
-        let keys = Keys::random(random, setting);
-        let mut own_random = Random::new(random.word());
-        let mood = Mood::random(&mut own_random);
-        Ok(History { random: own_random, setting, keys, mood, table, map: PlainMap::new(), last_number: 0 })
+        let mut keys = Keys::random(random, setting);
+        keys.add(chains.iter().flat_map(|chain| chain.keys()));
+        let mut random = Random::new(random.word());
+        let mood = Mood::random(&mut random);
+        Ok(History { random, setting, keys, chains, mood, table, map: PlainMap::new(), last_number: 0 })
     }
 
-    fn play(&mut self, both: &mut Both, enough_calls: u64) -> Result<(), Finding> {
-        // Long enough to grow to the top and be full there, most times.
-        let events = 10 + self.random.below(40 << self.setting.c);
+    fn play(&mut self, both: &mut Both, events: u64, enough_calls: u64) -> Result<(), Finding> {
         for _ in 0..events {
             if both.tally.total_calls >= enough_calls {
                 break;
             }
             self.one_event(both)?;
             self.some_queries(both)?;
+            self.some_chains(both)?;
             if self.random.one_in(4) {
                 self.damaged_calls(both)?;
                 wild_calls(&mut self.random, both)?;
@@ -69,18 +113,26 @@ impl History {
     }
 
     fn one_event(&mut self, both: &mut Both) -> Result<(), Finding> {
-        let random = &mut self.random;
-        let event = next_event(random, &self.table, &self.keys, self.mood, self.last_number);
-        let list_words = LEAST_LIST_WORDS + random.index(5);
-        let list = random.words(list_words);
-        let case = Case { call: Call::Change(event), table: self.table.clone(), list };
-        let shallow = self.setting.c >= LARGE_CAPACITY && !random.one_in(30);
+        let event = next_event(&mut self.random, &self.table, &self.keys, self.mood, self.last_number);
+        let shallow = self.setting.c >= LARGE_CAPACITY && !self.random.one_in(30);
         let depth = if shallow { Depth::WholeOnly } else { Depth::EveryCut };
-        let changed = check_change(both, &case, event, &self.map, depth)?;
+        self.change(both, event, depth)
+    }
+
+    fn change(&mut self, both: &mut Both, event: Event, depth: Depth) -> Result<(), Finding> {
+        let changed = self.changed(both, event, depth)?;
         self.table = changed.table;
         self.map = changed.map;
         self.last_number = changed.number;
         Ok(())
+    }
+
+    /// What an event would make of the table.
+    fn changed(&mut self, both: &mut Both, event: Event, depth: Depth) -> Result<Changed, Finding> {
+        let list_words = LEAST_LIST_WORDS + self.random.index(5);
+        let list = self.random.words(list_words);
+        let case = Case { call: Call::Change(event), table: self.table.clone(), list };
+        check_change(both, &case, event, &self.map, depth)
     }
 
     fn some_queries(&mut self, both: &mut Both) -> Result<(), Finding> {
@@ -93,14 +145,97 @@ impl History {
         Ok(())
     }
 
+    /// One that may be there, and now and then one that is put in.
+    fn some_chains(&mut self, both: &mut Both) -> Result<(), Finding> {
+        let table = self.table.clone();
+        let likely = self.likely_chain(&table);
+        self.ask_for(both, likely)?;
+        if self.random.one_in(12) {
+            let chain = self.random.pick(&self.chains);
+            self.put_chain(both, chain)?;
+            self.ask_for_broken(both, chain)?;
+        }
+        Ok(())
+    }
+
+    /// A chain that a table may have, whole or in part.
+    fn likely_chain(&mut self, table: &[u64]) -> Chain {
+        if self.random.one_in(4) {
+            return self.random.pick(&self.chains);
+        }
+        let key = self.keys.pick_likely(&mut self.random, table);
+        chain_near(&mut self.random, table, key)
+    }
+
+    fn ask_for(&mut self, both: &mut Both, chain: Chain) -> Result<(), Finding> {
+        ask_chain(&mut self.random, both, chain, &self.table, &self.map)
+    }
+
+    /// Puts in what a chain lacks, from its last depth up or from its first down, and asks for it on the way. It stays broken
+    /// where even growth makes no room.
+    fn put_chain(&mut self, both: &mut Both, chain: Chain) -> Result<(), Finding> {
+        let mut keys: Vec<u64> = chain.keys().filter(|key| !self.map.contains_key(key)).collect();
+        if self.random.one_in(2) {
+            keys.reverse();
+        }
+        for key in keys {
+            let (function, place) = (self.random.any_word(), self.random.any_word());
+            let insert = Event::Insert { key, function, place };
+            self.change(both, insert, Depth::WholeOnly)?;
+            if self.last_number == 6 {
+                self.finish_growth(both)?;
+                self.change(both, Event::Begin, Depth::WholeOnly)?;
+                self.change(both, insert, Depth::WholeOnly)?;
+            }
+            if self.last_number != 0 {
+                break;
+            }
+            if self.random.one_in(6) {
+                self.ask_for(both, chain)?;
+            }
+        }
+        self.ask_for(both, chain)
+    }
+
+    /// Steps to the end of a growth, as far as there is room; chains are asked for on the way.
+    fn finish_growth(&mut self, both: &mut Both) -> Result<(), Finding> {
+        while is_growing(&self.table) {
+            self.change(both, Event::Step, Depth::WholeOnly)?;
+            if self.last_number == 11 {
+                self.change(both, Event::End, Depth::WholeOnly)?;
+            } else if self.last_number != 0 {
+                break;
+            }
+            if self.random.one_in(6) {
+                let chain = self.random.pick(&self.chains);
+                self.ask_for(both, chain)?;
+            }
+        }
+        Ok(())
+    }
+
+    /// Asks for a chain that lacks its first depth, its last one, or any; the table keeps it.
+    fn ask_for_broken(&mut self, both: &mut Both, chain: Chain) -> Result<(), Finding> {
+        for missing in [chain.depth, 0, self.random.below(chain.depth + 1)] {
+            let delete = Event::Delete { key: key_of(chain.address, missing) };
+            let changed = self.changed(both, delete, Depth::WholeOnly)?;
+            ask_chain(&mut self.random, both, chain, &changed.table, &changed.map)?;
+        }
+        Ok(())
+    }
+
     /// Every call on a damaged copy of the table.
     fn damaged_calls(&mut self, both: &mut Both) -> Result<(), Finding> {
         let mut table = self.table.clone();
         damage::damage(&mut self.random, &mut table);
         for call in self.every_call(&table) {
-            let list = any_list(&mut self.random);
+            let list = match call {
+                Call::Chain(chain) => lent_words(&mut self.random, chain),
+                _ => any_list(&mut self.random),
+            };
             let case = Case { call, table: table.clone(), list };
             let outcome = both.run(&case)?;
+            both.tally.chains_of_other_words.count(&case, outcome.number);
             let listed = matches!(call, Call::Change(_)) && outcome.number == 0;
             if listed && self.random.one_in(4) {
                 // The damage lives on under the next calls.
@@ -113,6 +248,7 @@ impl History {
 
     fn every_call(&mut self, table: &[u64]) -> Vec<Call> {
         let (absent, also_absent) = (self.random.word(), self.random.word());
+        let chains = [self.likely_chain(table), self.likely_chain(table)];
         let mut key = || self.keys.pick_likely(&mut self.random, table);
         let (function, place) = (key(), key());
         let mut calls = vec![Call::Query { key: key() }, Call::Query { key: key() }];
@@ -128,6 +264,7 @@ impl History {
             Event::End,
         ];
         calls.extend(events.map(Call::Change));
+        calls.extend(chains.map(Call::Chain));
         // No order is the usual one, as some change the table.
         let turns = self.random.index(calls.len());
         calls.rotate_left(turns);
@@ -135,99 +272,13 @@ impl History {
     }
 }
 
-/// A list of any length from 0 to 24, mostly one that is long enough.
-fn any_list(random: &mut Random) -> Vec<u64> {
-    let words = if random.one_in(6) { random.index(25) } else { LEAST_LIST_WORDS + random.index(5) };
-    random.words(words)
-}
-
-/// Creations, makings and all other calls over words that no history made.
-fn wild_calls(random: &mut Random, both: &mut Both) -> Result<(), Finding> {
-    both.run(&wild_creation(random))?;
-    both.run(&wild_making(random))?;
-    let table = wild_table(random);
-    let (key, function, place) = (random.any_word(), random.any_word(), random.any_word());
-    let call = random.pick(&[
-        Call::Query { key },
-        Call::Change(Event::Insert { key, function, place }),
-        Call::Change(Event::Update { key, function, place }),
-        Call::Change(Event::Delete { key }),
-        Call::Change(Event::Begin),
-        Call::Change(Event::Step),
-        Call::Change(Event::End),
-        Call::Change(Event::Recover),
-    ]);
-    both.run(&Case { call, table, list: any_list(random) })?;
-    Ok(())
-}
-
-fn wild_creation(random: &mut Random) -> Case {
-    let c = match random.below(8) {
-        0 => 0,
-        1 => 9 + random.below(14),
-        2 => random.any_word(),
-        _ => 1 + random.below(8),
-    };
-    let k = match random.below(6) {
-        0 => 0,
-        1 => c.wrapping_add(1),
-        2 => random.any_word(),
-        _ => 1 + random.below(c.clamp(1, 20)),
-    };
-    let mut multiplier = || if random.one_in(6) { random.any_word() } else { random.word() | 1 };
-    let (mul1, mul2) = (multiplier(), multiplier());
-    // Right lengths of large tables would cost more than they show.
-    let right = table_words(c).filter(|_| c <= 10).unwrap_or(22);
-    let length = if random.one_in(5) { nearby_length(random, right) } else { right };
-    Case { call: Call::Create { c, k, mul1, mul2 }, table: random.words(length), list: vec![] }
-}
-
-fn wild_making(random: &mut Random) -> Case {
-    let table_length = random.index(60);
-    let list_length = random.index(25);
-    let table = random.words(table_length);
-    let mut list = random.words(list_length);
-    let pairs = list_length as u64 / 2;
-    let wild_pair = random.below(2 * pairs + 1) as usize;
-    for (pair, index) in list.iter_mut().step_by(2).enumerate() {
-        // At most one index is wild, so that the others do not hide it.
-        *index = match random.below(4) {
-            _ if pair != wild_pair => random.below((table_length as u64).max(1)),
-            0 => table_length as u64,
-            1 => random.below(60) + random.pick(&[1 << 32, 1 << 61, 1 << 63]),
-            _ => random.any_word(),
-        };
-    }
-    let n = match random.below(6) {
-        0 => random.any_word(),
-        1 => pairs + random.below(3),
-        2 => random.below(pairs + 1) + random.pick(&[1 << 32, 1 << 60, 1 << 63]),
-        _ => random.below(pairs + 1),
-    };
-    Case { call: Call::Make { n }, table, list }
-}
-
-/// Garbage of any length, or of a right length behind a header that is nearly good.
-fn wild_table(random: &mut Random) -> Vec<u64> {
-    let c = 1 + random.below(5);
-    let right = table_words(c).unwrap_or(0);
-    let length = if random.one_in(4) { nearby_length(random, right) } else { right };
-    let mut table = random.words(length);
-    let state = 1 + random.below(c) + 256 * random.below(2);
-    let header = [1, c, random.word() | 1, random.word() | 1, state, 0];
-    for (table_word, good) in table.iter_mut().zip(header) {
-        if !random.one_in(20) {
-            *table_word = good;
-        }
-    }
-    table
-}
-
-fn nearby_length(random: &mut Random, right: usize) -> usize {
-    match random.below(4) {
-        0 => right - 1,
-        1 => right + 1,
-        2 => random.index(10),
-        _ => random.index(right + 14),
-    }
+fn ask_chain(
+    random: &mut Random,
+    both: &mut Both,
+    chain: Chain,
+    table: &[u64],
+    map: &PlainMap,
+) -> Result<(), Finding> {
+    let case = Case { call: Call::Chain(chain), table: table.to_vec(), list: lent_words(random, chain) };
+    check_chain(both, &case, chain, map)
 }
