@@ -5,11 +5,9 @@ use mathlib.Core.Path.{_≡_, refl, sym, ap, _∙_}
 use mathlib.Core.Bool.{Bool, true, false}
 use mathlib.Core.List.{List, [], _∷_, map}
 use native.Mathlib.Omega.{arith}
-use denote.Enum.Declared.{tagOf}
-use types.Run.{OneOf}
 use lib.ListN.{length, length-map}
 use borrow.Author.Tests.{le-leb, lt-leb}
-use Rattle.rules.specs.Words.{Table, headerOf, GoodHeader}
+use Rattle.rules.specs.Words.{Table, headerOf}
 use Rattle.rules.specs.Answers.{chainMeans}
 use Rattle.rules.specs.Calls.{queryTests, checked}
 use Rattle.rules.specs.Chains.{positionGood, recordsLong, positionTests, chainTests, Walk, found, missing, walk, queryOf, twoWords, chainOf, chainResult}
@@ -22,10 +20,9 @@ use Rattle.rules.proofs.Basics.Tests.{tells-lt, tells-le, tells-and}
 use Rattle.rules.proofs.Calls.Checked.{checked-append}
 use Rattle.rules.proofs.Calls.Meanings.{chain-one}
 use Rattle.rules.proofs.Calls.ChainWalks.{WalkBy, walk-by}
-use Rattle.reading.specs.Gates.{gateOf, Ready}
+use Rattle.reading.specs.Gates.{gateOf}
 use Rattle.reading.specs.declared.gate.Gate.{Gate}
 use Rattle.reading.specs.declared.gate.Gate.the-variants.{Open, Shut}
-use Rattle.reading.proofs.gate.Gate.{the-type as gate-type}
 use Rattle.reading.proofs.Gated.{gate-open, gate-shut}
 use Rattle.listing.proofs.Runs.{front}
 use Rattle.chaining.specs.Walks.{answered, laidAt, Walked, chainIn, ChainedAt}
@@ -68,15 +65,6 @@ module _ (t : Table) (address depth : ℕ) (l : List ℕ) where
           }
 
 -- ---- the tests 1 and 3
-
--- a gate by the number of its case
-pub is-open : (g : Gate) → OneOf (0 ∷ []) (tagOf gate-type g) → (h : Header) × (g ≡ Open h)
-is-open (Open h) e = (h, refl)
-is-open (Shut r) e = absurd (omega arith)
-
--- the header of a ready table is good
-pub open-ready : (t : Table) (g : Gate) {h : Header} → Ready t g → g ≡ Open h → GoodHeader (length t) (headerOf t)
-open-ready t g y q = let k = rw q at y in rw (k .0) at (k .1)
 
 module _ (t : Table) (address depth : ℕ) (l : List ℕ) where
   behind : chainResult t address depth l ≡ checked (λ (r : Refusal). (Broken r 0, l)) (queryTests t) (chainIn t address depth l)

@@ -6,11 +6,8 @@ use mathlib.Core.Bool.{Bool, true, false}
 use mathlib.Core.List.{List, [], _∷_, map}
 use native.Mathlib.Omega.{arith}
 use native.Mathlib.Numerals.{unary-clauses}
-use lib.ListN.{length, set}
-use lib.Seq.{sets, set-comm}
-use Rattle.rules.specs.Words.{Table, wordsFor, headerOf, GoodHeader, recordIn}
+use Rattle.rules.specs.Words.{Table, headerOf, recordIn}
 use Rattle.rules.specs.Places.{lookup}
-use Rattle.rules.specs.Stores.{Store, flat}
 use Rattle.rules.specs.Answers.{LookupTells}
 use Rattle.rules.specs.Chains.{keyOf, Walk, found, missing, before, walk, queryOf, twoWords}
 use Rattle.rules.specs.declared.Header.{Header}
@@ -24,24 +21,8 @@ use Rattle.rules.specs.declared.Query.the-variants.{Known, Unknown}
 use Rattle.rules.proofs.Calls.Meanings.{lookup-told-by}
 use Rattle.querying.proofs.Standings.{looked, lookup-few}
 use Rattle.listing.specs.Listing.{listedAt}
+use Rattle.listing.proofs.Runs.{pair-before}
 use Rattle.chaining.specs.Walks.{putAt, Walked}
-
--- ---- pairs written on the way back
-
-set-before : (ws l : List ℕ) (i j x : ℕ) → i < j → set (sets l j ws) i x ≡ sets (set l i x) j ws
-set-before [] l i j x h = refl
-set-before (w ∷ ws) l i j x h =
-    set-before ws (set l j w) i (suc j) x (omega arith)
-    ∙ ap (λ (k : List ℕ). sets k (suc j) ws) (set-comm l j i w x (λ e. absurd (omega arith)))
-
--- pair i after those behind it
-pair-before : (l : List ℕ) (i : ℕ) (x : Store) (xs : List Store) → listedAt (listedAt l (i + 1) xs) i (x ∷ []) ≡ listedAt l i (x ∷ xs)
-unfolding listedAt
-pair-before l i x xs =
-    let e : 2 * (i + 1) ≡ suc (suc (2 * i)) = omega arith in
-    rw e
-    (ap (λ (k : List ℕ). set k (suc (2 * i)) (x .1)) (set-before (flat xs) l (2 * i) (suc (suc (2 * i))) (x .0) (omega arith))
-    ∙ set-before (flat xs) (set l (2 * i) (x .0)) (suc (2 * i)) (suc (suc (2 * i))) (x .1) (omega arith))
 
 -- ---- one depth
 
@@ -81,10 +62,6 @@ gap asks zero l i start k = rw k (record { answer = refl; count = refl; records 
 gap asks (suc d) l i start k = rw k (record { answer = refl; count = refl; records = refl })
 
 -- ---- the query of a depth
-
-pub nine-words : (t : Table) → GoodHeader (length t) (headerOf t) → 9 ≤ length t
-unfolding wordsFor
-nine-words t g = omega (arith, g .long)
 
 -- the key of an address at a depth
 key-of : (key : ℕ) → keyOf (key / 256) (key % 256) ≡ key

@@ -1,12 +1,12 @@
 -- Stores written one after the other are written as one run, and a run from the front is what the rules call written.
 -- Assumes nothing.
-use Prim.Native.Nat.{ℕ, suc, _+_, _*_, _≤_}
-use mathlib.Core.Path.{_≡_, refl}
+use Prim.Native.Nat.{ℕ, suc, _+_, _*_, _≤_, _<_}
+use mathlib.Core.Path.{_≡_, refl, ap, _∙_}
 use mathlib.Core.List.{List, [], _∷_, _++_}
 use native.Mathlib.Nat.{add-zero, zero-add}
 use native.Mathlib.Omega.{arith}
 use lib.ListN.{length, set}
-use lib.Seq.{sets, sets-eq}
+use lib.Seq.{sets, sets-eq, set-comm}
 use Rattle.rules.specs.Stores.{Store, flat, written}
 use Rattle.listing.specs.Listing.{Room, listedAt}
 
@@ -42,6 +42,23 @@ unfolding listedAt written
 front l xs h =
     let k : 0 + length (flat xs) ≤ length l = omega (arith, flat-length xs) in
     rw (sets-eq (flat xs) l 0 k, zero-add, flat-length xs)
+
+-- ---- pairs written from the last to the first
+
+set-before : (ws l : List ℕ) (i j x : ℕ) → i < j → set (sets l j ws) i x ≡ sets (set l i x) j ws
+set-before [] l i j x h = refl
+set-before (w ∷ ws) l i j x h =
+    set-before ws (set l j w) i (suc j) x (omega arith)
+    ∙ ap (λ (k : List ℕ). sets k (suc j) ws) (set-comm l j i w x (λ e. absurd (omega arith)))
+
+-- pair i after those behind it
+pub pair-before : (l : List ℕ) (i : ℕ) (x : Store) (xs : List Store) → listedAt (listedAt l (i + 1) xs) i (x ∷ []) ≡ listedAt l i (x ∷ xs)
+unfolding listedAt
+pair-before l i x xs =
+    let e : 2 * (i + 1) ≡ suc (suc (2 * i)) = omega arith in
+    rw e
+    (ap (λ (k : List ℕ). set k (suc (2 * i)) (x .1)) (set-before (flat xs) l (2 * i) (suc (suc (2 * i))) (x .0) (omega arith))
+    ∙ set-before (flat xs) (set l (2 * i) (x .0)) (suc (2 * i)) (suc (suc (2 * i))) (x .1) (omega arith))
 
 -- ---- three and four stores in a row
 

@@ -6,8 +6,10 @@ use mathlib.Core.Bool.{Bool, true, false, cond}
 use mathlib.Core.List.{List, [], _∷_, _++_, List·Memᴰ as In, List·Memᴰ·not-nil, List·Memᴰ·cases-cons}
 use mathlib.Core.Logic.{⊎-elim}
 use native.Mathlib.Omega.{arith}
+use denote.Enum.Declared.{tagOf}
+use types.Run.{OneOf}
 use lib.ListN.{length}
-use Rattle.rules.specs.Words.{Table, wordsFor, headerOf}
+use Rattle.rules.specs.Words.{Table, wordsFor, headerOf, GoodHeader}
 use Rattle.rules.specs.Calls.{headerGood, checked}
 use Rattle.rules.specs.declared.Header.{Header}
 use Rattle.rules.specs.declared.Refusal.{Refusal}
@@ -16,6 +18,7 @@ use Rattle.rules.proofs.Words.Headers.{good-header}
 use Rattle.reading.specs.Gates.{gateOf, also, headerTest, Ready}
 use Rattle.reading.specs.declared.gate.Gate.{Gate}
 use Rattle.reading.specs.declared.gate.Gate.the-variants.{Open, Shut}
+use Rattle.reading.proofs.gate.Gate.{the-type as gate-type}
 
 module _ {A : Type 0} (refuse : Refusal → A) (a : A) (g : Header) where
   opened : (h : Header) (ts : List (Bool × Refusal)) → checked Shut ts (Open g) ≡ Open h → checked refuse ts a ≡ a
@@ -100,7 +103,21 @@ module _ (t : Table) where
   unfolding gateOf headerTest headerGood
   header-good q e = (rw (e, q), (q, rw q (good-header (length t) (headerOf t) e)))
 
+-- ---- what an open gate lets through
+
+-- a gate by the number of its case
+pub is-open : (g : Gate) → OneOf (0 ∷ []) (tagOf gate-type g) → (h : Header) × (g ≡ Open h)
+is-open (Open h) e = (h, refl)
+is-open (Shut r) e = absurd (omega arith)
+
+-- the header of a ready table is good
+pub open-ready : (t : Table) (g : Gate) {h : Header} → Ready t g → g ≡ Open h → GoodHeader (length t) (headerOf t)
+open-ready t g y q = let k = rw q at y in rw (k .0) at (k .1)
+
 -- a table with a good header has the header's nine words
-pub long-enough : (t : Table) {g : Gate} {h : Header} → Ready t g → g ≡ Open h → 9 ≤ length t
+pub nine-words : {size : ℕ} {h : Header} → GoodHeader size h → 9 ≤ size
 unfolding wordsFor
-long-enough t y q = let k = rw q at y in omega (arith, k .1 .long)
+nine-words k = omega (arith, k .long)
+
+pub long-enough : (t : Table) {g : Gate} {h : Header} → Ready t g → g ≡ Open h → 9 ≤ length t
+long-enough t y q = let k = rw q at y in nine-words (k .1)

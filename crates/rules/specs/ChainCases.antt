@@ -72,6 +72,6 @@ unfolding productOf hashOf flatMap wordsFor stateOf stateWord atRest headerOf fl
     levelsInUse slotAt slotsIn placeAt tokenWord keyWord functionWord placeWord keyIn recordIn tokenOf tokenNumber isTaken show hide takenOf taken
     hashesOf firstPlace secondPlace samePlace placesIn probes holds hitIn lookup takenIn freeSlot fewer emptier roomIn placing putStores clearStores
     placingStores beginStores written placesOf headerGood listLong flagClear changingTests queryTests beginTests beginOf outcome changeResult createTests
-    created createResult makeTests makeResult madeFirst madeAll fresh usual keyOf positionGood recordsLong positionTests chainTests walk queryOf chainResult chained
-    growing cropped cases
+    created createResult makeTests makeResult madeFirst madeAll fresh usual keyOf positionGood recordsLong positionTests chainTests walk queryOf chainResult
+    chained growing cropped cases
 chainCases r = refl

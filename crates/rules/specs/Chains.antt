@@ -23,21 +23,6 @@ use Rattle.rules.specs.declared.Chain.the-variants.{Whole, Broken}
 unfoldable pub keyOf : ℕ → ℕ → ℕ
 keyOf address depth = address * 256 + depth
 
--- "an address of 2^56 or more, or a depth above 255, gives 16"
-unfoldable pub positionGood : ℕ → ℕ → Bool
-positionGood address depth = ltb address (2 ^ 56) && leb depth 255
-
--- "fewer than 2(d + 1) words give a new refusal 15"; n is the number of lent words
-unfoldable pub recordsLong : ℕ → ℕ → Bool
-recordsLong depth n = leb (2 * (depth + 1)) n
-
--- "These are checked after 1 and 3, 16 before 15."
-unfoldable pub positionTests : ℕ → ℕ → ℕ → List (Bool × Refusal)
-positionTests address depth n = (positionGood address depth, BadPosition) ∷ (recordsLong depth n, ShortRecords) ∷ []
-
-unfoldable pub chainTests : Table → ℕ → ℕ → ℕ → List (Bool × Refusal)
-chainTests t address depth n = queryTests t ++ positionTests address depth n
-
 -- what a walk finds: a record for each depth, in the order of the walk, or that one is missing; and the buckets looked at
 pub data Walk : Type 0 where
   found : List Record → ℕ → Walk
@@ -61,6 +46,21 @@ queryOf t h address depth = queryAt t (lookup t h (keyOf address depth))
 -- "The records go to lent words, two each"
 abbrev pub twoWords : Record → ℕ × ℕ
 twoWords r = (r .function, r .place)
+
+-- "fewer than 2(d + 1) words give a new refusal 15"; n is the number of lent words
+unfoldable pub recordsLong : ℕ → ℕ → Bool
+recordsLong depth n = leb (2 * (depth + 1)) n
+
+-- "an address of 2^56 or more, or a depth above 255, gives 16"
+unfoldable pub positionGood : ℕ → ℕ → Bool
+positionGood address depth = ltb address (2 ^ 56) && leb depth 255
+
+-- "These are checked after 1 and 3, 16 before 15."
+unfoldable pub positionTests : ℕ → ℕ → ℕ → List (Bool × Refusal)
+positionTests address depth n = (positionGood address depth, BadPosition) ∷ (recordsLong depth n, ShortRecords) ∷ []
+
+unfoldable pub chainTests : Table → ℕ → ℕ → ℕ → List (Bool × Refusal)
+chainTests t address depth n = queryTests t ++ positionTests address depth n
 
 -- "The first missing depth gives 5 and nothing is written; success writes just those words." l is the lent words at entry
 abbrev pub chainOf : Walk → List ℕ → Chain × List ℕ

@@ -3,7 +3,8 @@
 use Prim.Native.Nat.{ℕ, _%_, _<_}
 use native.Mathlib.Omega.{arith}
 use borrow.Author.Needs.{needs}
-use Rattle.chaining.proofs.Walking.{nine-words, last-depth, next-depth, nothing-below, put-on, gap, stands-there, not-there, few, smaller}
+use Rattle.reading.proofs.Gated.{nine-words}
+use Rattle.chaining.proofs.Walking.{last-depth, next-depth, nothing-below, put-on, gap, stands-there, not-there, few, smaller}
 use borrow.Fn.Kinds.{In}
 use borrow.Fn.PlainCycle.{Measures, is, falls, and}
 use Rattle.chaining.proofs.walk.Reads as walk
@@ -42,7 +43,7 @@ claims t = (
 )
 
 walk-decode-requires : (t : ℕ) → walk-lts.Need-decode-requires (claims t) (walk-at t) walk.Post
-walk-decode-requires t c κs = nine-words _ (c .before .before .pre .1 .0)
+walk-decode-requires t c κs = nine-words (c .before .before .pre .1 .0)
 
 walk-lookup-requires : (t : ℕ) → walk-lts.Need-lookup-requires (claims t) (walk-at t) walk.Post
 walk-lookup-requires t c κs = let s = c .before .before .before in rw (c .decode .ensures) (s .pre .1 .0)

@@ -1,7 +1,8 @@
 -- `chaining::chain` meets its contract.
 -- Assumes nothing.
 use borrow.Author.Needs.{needs}
-use Rattle.chaining.proofs.Answered.{is-open, open-ready, refused, let-through}
+use Rattle.reading.proofs.Gated.{is-open, open-ready}
+use Rattle.chaining.proofs.Answered.{refused, let-through}
 use Rattle.chaining.proofs.chain.Statement.{statement}
 use Rattle.chaining.proofs.chain.Tie as tie
 

@@ -19,7 +19,8 @@ use Rattle.rules.specs.Stores.{written}
 use Rattle.rules.specs.Answers.{numberOf, chainMeans}
 use Rattle.rules.specs.Calls.{headerGood, flagClear, queryTests}
 use Rattle.rules.specs.Results.{queryAt}
-use Rattle.rules.specs.Chains.{keyOf, positionGood, recordsLong, positionTests, chainTests, Walk, found, missing, walk, queryOf, twoWords, chainOf, chainResult}
+use Rattle.rules.specs.Chains.{keyOf, Walk, found, missing, walk, queryOf, twoWords, recordsLong, positionGood, positionTests, chainTests}
+use Rattle.rules.specs.Chains.{chainOf, chainResult}
 use Rattle.rules.specs.Demands.{QueryBy, countOf}
 use Rattle.rules.specs.ChainSentences.{keyAt, asked, ChainWritten, ChainWrites, total, FirstMissing, ChainCountBy, ChainCounts, countTold}
 use Rattle.rules.specs.ChainSentences.{ChainLooksAtFew, ChainBy, ChainAnswers}
