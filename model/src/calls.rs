@@ -110,7 +110,13 @@ pub fn step(table: &[u64], list: &mut [u64]) -> (u64, u64) {
     change(table, list, |table| {
         let interim = table.interim().ok_or(Refusal::NotGrowing)?;
         let items = table.taken_slots(&[interim]);
-        let item = *items.first().ok_or(Refusal::InterimEmpty)?;
+        if items.is_empty() {
+            return Err(Refusal::InterimEmpty);
+        }
+        // Request b): "The step must take the first interim item, in the same order, that has a place. Refusal 6
+        // is then given exactly when interim items remain and none has one; 11 keeps its meaning."
+        let has_place = |item: &Slot| find_placing(table, table.key(*item)).is_some();
+        let item = items.into_iter().find(has_place).ok_or(Refusal::NoPlace)?;
         let mut stores = placing_stores(table, table.record(item))?;
         stores.push(token_cleared(table, item));
         Ok(stores)

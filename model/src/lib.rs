@@ -1,5 +1,6 @@
 //! An independent model of the level hashing table of document 01, the paper that fixes the table and its calls,
-//! with request a) of document 02, the inlined callers of an address.
+//! with two requests of document 02: a), the inlined callers of an address, and b), the growth step that passes
+//! over items without a place.
 //!
 //! From the bottom up:
 //! - `layout`: where words, buckets, slots and levels stand;
