@@ -11,7 +11,7 @@ use types.Run.{OneOf}
 use Rattle.rules.specs.Choice.{empty}
 use Rattle.rules.specs.Words.{Table, atRest, stateWord}
 use Rattle.rules.specs.Stores.{begunOf, endedOf, beginStores, endStores}
-use Rattle.rules.specs.Calls.{refused, listed, beginTests, beginOf, interimItems, stepItem, endTests, endOf}
+use Rattle.rules.specs.Calls.{refused, listed, beginTests, beginOf, interimItems, endTests, endOf}
 use Rattle.rules.specs.declared.State.{State}
 use Rattle.rules.specs.declared.Header.{Header}
 use Rattle.rules.specs.declared.Slot.{Slot}
@@ -50,23 +50,21 @@ module _ (t : Table) (h : Header) where
   end-resting e = rw e
 
   -- an item found is one that stands
-  nothing : itemOf (stepItem t h) ≡ Empty → empty (interimItems t h) ≡ true
-  unfolding stepItem
+  pub nothing : itemOf (head? (interimItems t h)) ≡ Empty → empty (interimItems t h) ≡ true
   nothing e = go (interimItems t h) e
     where
       go : (l : List Slot) → itemOf (head? l) ≡ Empty → empty l ≡ true
       go [] e = refl
       go (x ∷ l) e = absurd (let z : _≡_ {A = ℕ} 0 1 = cc in omega arith)
 
-  something : {x : Slot} → itemOf (stepItem t h) ≡ At x → empty (interimItems t h) ≡ false
-  unfolding stepItem
+  pub something : {x : Slot} → itemOf (head? (interimItems t h)) ≡ At x → empty (interimItems t h) ≡ false
   something e = go (interimItems t h) e
     where
       go : {x : Slot} (l : List Slot) → itemOf (head? l) ≡ At x → empty l ≡ false
       go [] e = absurd (let z : _≡_ {A = ℕ} 0 1 = cc in omega arith)
       go (x ∷ l) e = refl
 
-  module _ {i : Item} (k : i ≡ itemOf (stepItem t h)) (p : atRest (h .state) ≡ false) where
+  module _ {i : Item} (k : i ≡ itemOf (head? (interimItems t h))) (p : atRest (h .state) ≡ false) where
     pub end-taken : {x : Slot} → i ≡ At x → refused InterimTaken ≡ endOf t h
     unfolding endOf endTests
     end-taken e = rw (p, something (sym k ∙ e))

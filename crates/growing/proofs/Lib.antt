@@ -1,3 +1,3 @@
-pub mod FirstItem
+pub mod Searches
 pub mod Growth
 pub mod Stepping

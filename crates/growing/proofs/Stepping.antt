@@ -10,10 +10,11 @@ use native.Mathlib.Omega.{arith}
 use denote.Enum.Declared.{tagOf}
 use types.Run.{OneOf}
 use lib.ListN.{length, length-append}
+use Rattle.rules.specs.Choice.{empty}
 use Rattle.rules.specs.Words.{Table, headerOf, atRest, keyIn, recordIn, tokenOf}
 use Rattle.rules.specs.Placing.{placing}
 use Rattle.rules.specs.Stores.{written, placingStores, clearStores, stepStores}
-use Rattle.rules.specs.Calls.{Outcome, refused, listed, changingTests, stepItem, stepIn, stepTests, stepOf, outcome}
+use Rattle.rules.specs.Calls.{Outcome, refused, listed, changingTests, interimItems, stepItem, stepIn, stepTests, stepOf, outcome}
 use Rattle.rules.specs.declared.Call.the-variants.{Step as step}
 use Rattle.rules.specs.Results.{stepPlacing, stepResult}
 use Rattle.rules.specs.declared.Header.{Header}
@@ -26,6 +27,7 @@ use Rattle.rules.specs.declared.Refusal.the-variants.{NotGrowing, InterimEmpty,
 use Rattle.rules.specs.declared.Change.the-variants.{Listed, Refused}
 use Rattle.rules.specs.declared.Stepped.{Stepped}
 use Rattle.rules.proofs.Placing.{the-type as placing-type}
+use Rattle.reading.specs.Within.{SlotWithin, PlacingWithin}
 use Rattle.reading.specs.Gates.{gateOf}
 use Rattle.reading.specs.declared.gate.Gate.{Gate}
 use Rattle.reading.specs.declared.gate.Gate.the-variants.{Open, Shut}
@@ -33,16 +35,13 @@ use Rattle.reading.proofs.Gated.{gate-open, gate-shut}
 use Rattle.listing.specs.Listing.{listedAt, Run, Takes}
 use Rattle.listing.specs.Promises.{StepTaken}
 use Rattle.listing.proofs.Runs.{then, front}
-use Rattle.listing.proofs.Placings.{placed-nowhere, placed-listed}
-use Rattle.growing.specs.Interim.{itemOf}
+use Rattle.growing.specs.Interim.{itemOf, PlacedBy}
 use Rattle.growing.specs.Steps.{DidStep}
-use Rattle.growing.specs.declared.interim.Item.the-variants.{At, Empty}
+use Rattle.growing.proofs.Searches.{is-nowhere, placed-none}
+use Rattle.growing.specs.declared.interim.Item.the-variants.{At}
+use Rattle.growing.specs.declared.interim.Placed.{Placed}
 
 -- ---- the item
-
-pub item-none : (o : Option Slot) → itemOf o ≡ Empty → o ≡ none
-item-none none e = refl
-item-none (some x) e = absurd (let z : _≡_ {A = ℕ} 0 1 = cc in omega arith)
 
 pub item-some : (o : Option Slot) {x : Slot} → itemOf o ≡ At x → o ≡ some x
 item-some none e = absurd (let z : _≡_ {A = ℕ} 0 1 = cc in omega arith)
@@ -56,20 +55,29 @@ module _ (t : Table) (h : Header) where
   step-resting e = rw e
 
   module _ (p : atRest (h .state) ≡ false) where
-    pub step-empty : stepItem t h ≡ none → refused InterimEmpty ≡ stepOf t h
+    pub step-empty : empty (interimItems t h) ≡ true → refused InterimEmpty ≡ stepOf t h
     unfolding stepOf stepTests
     step-empty e = rw (p, e)
 
-    pub step-on : {x : Slot} → stepItem t h ≡ some x → stepIn t h (some x) ≡ stepOf t h
+    pub step-on : empty (interimItems t h) ≡ false → stepIn t h (stepItem t h) ≡ stepOf t h
     unfolding stepOf stepTests
     step-on e = rw (p, e)
 
-  module _ (x : Slot) {key : ℕ} (k : key ≡ keyIn t x) (p : Placing) (q : p ≡ placing t h key) where
-    pub step-nowhere : OneOf (2 ∷ []) (tagOf placing-type p) → refused NoPlace ≡ stepIn t h (some x)
-    step-nowhere e = rw (← k, ← q) (placed-nowhere p (stepStores t h x p) e)
+  -- what the search found is the item that the step takes
+  module _ (r : Placed) where
+    pub step-nowhere : (o : Option Slot) → PlacedBy t h o r → OneOf (2 ∷ []) (tagOf placing-type (r .placing)) → refused NoPlace ≡ stepIn t h o
+    step-nowhere o k e = rw (placed-none t h r o k (is-nowhere (r .placing) e))
 
-    pub step-listed : (y : Slot) → Takes t p y → listed (stepStores t h x p) ≡ stepIn t h (some x)
-    step-listed y e = rw (← k, ← q) (placed-listed t p y (stepStores t h x p) e)
+    pub step-within : (o : Option Slot) → PlacedBy t h o r → PlacingWithin t (r .placing)
+    unfolding PlacedBy
+    step-within none k = rw k tt
+    step-within (some x) k = k .4
+
+    pub step-somewhere : (o : Option Slot) (p : Placing) (y : Slot) → PlacedBy t h o r → p ≡ r .placing → Takes t p y
+        → (o ≡ some (r .item)) × (p ≡ placing t h (keyIn t (r .item))) × SlotWithin t (r .item)
+    unfolding Takes PlacedBy
+    step-somewhere none p y k q e = absurd (rw (q, k) at e)
+    step-somewhere (some x) p y k q e = rw (k .0) (refl, q ∙ k .1, k .3)
 
   -- ---- what was done
 
@@ -77,19 +85,20 @@ module _ (t : Table) (h : Header) where
       → DidStep t h o l s l
   did-step-refuse l e a = rw (← e) (record { answer = λ i. record { change = a .0 i; placing = a .1 i }; list = refl })
 
-  pub did-step : (x : Slot) {key n₁ n₂ w : ℕ} (l : List ℕ) {l₁ l₂ : List ℕ} {p : Placing} {r : Record} {o : Outcome} → stepItem t h ≡ some x
-      → key ≡ keyIn t x → r ≡ recordIn t x → p ≡ placing t h key → w ≡ tokenOf t (x .bucket) → 20 ≤ length l
+  pub did-step : (x : Slot) {key n₁ n₂ w : ℕ} (l : List ℕ) {l₁ l₂ : List ℕ} {p : Placing} {r : Record} → stepItem t h ≡ some x
+      → key ≡ keyIn t x → r ≡ recordIn t x → p ≡ placing t h (keyIn t x) → w ≡ tokenOf t (x .bucket) → 20 ≤ length l
       → Run n₁ l l₁ (placingStores t h p key r) × (n₁ ≤ 9) → (n₂ ≡ n₁ + 1) × (l₂ ≡ listedAt l₁ n₁ (clearStores h w x))
-      → listed (stepStores t h x p) ≡ o → DidStep t h o l (record { change = Listed n₂; placing = p }) l₂
+      → DidStep t h (stepIn t h (stepItem t h)) l (record { change = Listed n₂; placing = p }) l₂
   unfolding stepStores clearStores
-  did-step x {key} {n₁} {n₂} {w} l {p = p} {r = r} i k v q u long s₁ s₂ e =
+  did-step x {key} {n₁} {n₂} {w} l {p = p} {r = r} i k v q u long s₁ s₂ =
       let first = placingStores t h p key r in
       let stores = first ++ clearStores h w x in
       let same : stores ≡ stepStores t h x p = rw (← k, ← u, ← v) in
       let count : n₂ ≡ length stores = s₂ .0 ∙ ap (λ z. z + 1) (s₁ .0 .0) ∙ sym (length-append first (clearStores h w x)) in
       let few : 2 * length stores ≤ length l = omega (arith, count, s₂ .0, s₁ .1) in
-      let found : p ≡ stepPlacing t h (listed (stepStores t h x p)) (stepItem t h) = rw i (q ∙ ap (placing t h) k) in
-      rw (← e)
+      let found : p ≡ stepPlacing t h (listed (stepStores t h x p)) (stepItem t h) = rw i q in
+      let listing : listed (stepStores t h x p) ≡ stepIn t h (stepItem t h) = rw (i, q) in
+      rw (← listing)
       (record {
         answer = λ j. record { change = Listed ((count ∙ ap length same) j); placing = found j };
         list = then l 0 first (clearStores h w x) (s₁ .0 .1) (s₁ .0 .0 ∙ sym (zero-add (length first))) (s₂ .1) ∙ front l stores few

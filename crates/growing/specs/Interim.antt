@@ -1,11 +1,20 @@
--- The first taken slot of the interim level, as the code answers it.
+-- The first item of the interim level, and the first that has a place, as the code answers them.
 -- Assumes nothing.
+use mathlib.Core.Path.{_≡_}
+use mathlib.Core.Bool.{true, cond}
 use mathlib.Core.Option.{Option, none, some}
-use Rattle.rules.specs.Words.{Table}
+use Rattle.rules.specs.Choice.{given, firstOf}
+use Rattle.rules.specs.Words.{Table, slotsIn, keyIn, taken}
+use Rattle.rules.specs.Placing.{placing, somewhere}
+use Rattle.rules.specs.Calls.{hasPlace}
+use Rattle.rules.specs.declared.Header.{Header}
+use Rattle.rules.specs.declared.Place.{Place}
 use Rattle.rules.specs.declared.Slot.{Slot}
-use Rattle.reading.specs.Within.{SlotWithin}
+use Rattle.rules.specs.declared.Placing.the-variants.{Nowhere}
+use Rattle.reading.specs.Within.{SlotWithin, PlacingWithin}
 use Rattle.growing.specs.declared.interim.Item.{Item}
 use Rattle.growing.specs.declared.interim.Item.the-variants.{At, Empty}
+use Rattle.growing.specs.declared.interim.Placed.{Placed}
 
 abbrev pub itemOf : Option Slot → Item
 itemOf (some x) = At x
@@ -15,3 +24,16 @@ itemOf none = Empty
 abbrev pub ItemWithin : Table → Item → Type 0
 ItemWithin t (At x) = SlotWithin t x
 ItemWithin t Empty = Unit {0}
+
+-- a slot that is taken by an item that has a place; and the first such slot of a bucket
+unfoldable pub placeable : Table → Header → Slot → Option Slot
+placeable t h x = cond (taken t h x) (given (hasPlace t h x) x) none
+
+unfoldable pub placeableIn : Table → Header → Place → Option Slot
+placeableIn t h p = firstOf (placeable t h) (slotsIn p)
+
+-- a search for such a slot, by what the rules say that it finds: the item and its placing, or no placing
+unfoldable pub PlacedBy : Table → Header → Option Slot → Placed → Type 0
+PlacedBy t h (some x) r =
+    (r .item ≡ x) × (r .placing ≡ placing t h (keyIn t x)) × (somewhere (r .placing) ≡ true) × SlotWithin t x × PlacingWithin t (r .placing)
+PlacedBy t h none r = r .placing ≡ Nowhere

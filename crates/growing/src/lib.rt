@@ -2,14 +2,14 @@
 pub mod interim;
 
 use interim::Item;
+use interim::Placed;
 use interim::first_item;
+use interim::first_placed;
 use listing::clear;
 use listing::list_placing;
 use listing::store;
-use placing::interim_placing;
 use reading::gate::Gate;
 use reading::gate::change_gate;
-use reading::places::hashes;
 use reading::slots::key_at;
 use reading::slots::record_at;
 use reading::slots::token;
@@ -17,11 +17,9 @@ use rules::Change;
 use rules::Header;
 use rules::Placing;
 use rules::Refusal;
-use rules::Slot;
 use rules::Stepped;
 use rules::layout::STATE;
 ghost use mathlib.Core.Path.{_≡_};
-ghost use mathlib.Core.Option.{some};
 ghost use Prim.Native.Nat.{_≤_};
 ghost use lib.ListN.{length};
 ghost use Rattle.rules.specs.Words.{GoodHeader};
@@ -29,8 +27,8 @@ ghost use Rattle.rules.specs.Calls.{beginOf, stepItem, stepIn, stepOf, endOf};
 ghost use Rattle.rules.specs.declared.Call.the-variants.{Begin as beginCall, End as endCall};
 ghost use Rattle.rules.specs.declared.Change.the-variants.{Refused};
 ghost use Rattle.rules.specs.declared.Placing.the-variants.{Nowhere};
-ghost use Rattle.reading.specs.Within.{SlotWithin};
 ghost use Rattle.listing.specs.Promises.{Changed, StepTaken, Did};
+ghost use Rattle.growing.specs.Interim.{PlacedBy};
 ghost use Rattle.growing.specs.Steps.{DidStep};
 
 // "begin growth | state: k + 1, phase 1"
@@ -70,18 +68,18 @@ fn unplaced(refusal: Refusal) -> Stepped
     }
 }
 
-// "placing of the first taken interim slot .., then its interim token cleared". "The growth step that finds no place for
-// that first item is refused."
-fn step_item(t: &[u64], list: &mut [u64], h: Header, x: Slot) -> Stepped
-    requires { ⌜ (20 ≤ length (now list)) × GoodHeader (length (now t)) h × SlotWithin (now t) x × (stepItem (now t) h ≡ some x) ⌝ }
-    ensures { λ r. ⌜ DidStep (now (t .entry)) h (stepIn (now (t .entry)) h (some x)) (now (list .entry)) r (now (list .exit)) ⌝ }
+// "placing of the first taken interim slot .., then its interim token cleared", for the first that has a place. "Refusal 6 is then given
+// exactly when interim items remain and none has one".
+fn step_item(t: &[u64], list: &mut [u64], h: Header, found: Placed) -> Stepped
+    requires { ⌜ (20 ≤ length (now list)) × GoodHeader (length (now t)) h × PlacedBy (now t) h (stepItem (now t) h) found ⌝ }
+    ensures { λ r. ⌜ DidStep (now (t .entry)) h (stepIn (now (t .entry)) h (stepItem (now (t .entry)) h)) (now (list .entry)) r (now (list .exit)) ⌝ }
 {
-    let key = key_at(t, x);
-    let p = interim_placing(t, h, key, hashes(h, key));
+    let p = found.placing;
     let (Placing::Free(y) | Placing::Move(y, _)) = p else {
         return unplaced(Refusal::NoPlace);
     };
-    let at = list_placing(t, list, h, p, y, key, record_at(t, x));
+    let x = found.item;
+    let at = list_placing(t, list, h, p, y, key_at(t, x), record_at(t, x));
     let n = clear(list, at, h, token(t, x.bucket), x);
     Stepped {
         change: Change::Listed(n as u64),
@@ -99,10 +97,10 @@ fn step_at(t: &[u64], list: &mut [u64], h: Header) -> Stepped
         return unplaced(Refusal::NotGrowing);
     }
     let item = first_item(t, h);
-    let Item::At(x) = item else {
+    let Item::At(first) = item else {
         return unplaced(Refusal::InterimEmpty);
     };
-    step_item(t, list, h, x)
+    step_item(t, list, h, first_placed(t, h, first))
 }
 
 // After the tests 1, 2 and 3: "8 | not growing", "11 | interim empty", "6 | no place".

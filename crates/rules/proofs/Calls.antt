@@ -10,6 +10,7 @@ pub mod LentLists
 pub mod Making
 pub mod Creating
 pub mod StepPlacing
+pub mod StepSentences
 pub mod Inside
 pub mod Inserting
 pub mod Updating

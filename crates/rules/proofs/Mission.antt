@@ -1,6 +1,6 @@
 -- The user's three demands and document 02's requests, proved: one theorem. Each field is the law of the same name.
 -- Assumes nothing.
-use Rattle.rules.specs.Mission.{Demand1, Demand2, Demand3, InlinedCallers, Mission}
+use Rattle.rules.specs.Mission.{Demand1, Demand2, Demand3, InlinedCallers, StubbornItems, Mission}
 use Rattle.rules.proofs.Tables.Sound.{soundnessIsTested}
 use Rattle.rules.proofs.Tables.Maps.{mapExists}
 use Rattle.rules.proofs.Tables.Findings.{recoverAnswers, recoveryAccepts}
@@ -12,6 +12,7 @@ use Rattle.rules.proofs.Calls.LentLists.{changeAnswers}
 use Rattle.rules.proofs.Calls.Making.{makeAnswers}
 use Rattle.rules.proofs.Calls.Creating.{createAnswers, createdIsEmpty}
 use Rattle.rules.proofs.Calls.StepPlacing.{stepIsACall}
+use Rattle.rules.proofs.Calls.StepSentences.{stepTakesTheFirst, noItemBlocks, sixExactly, elevenExactly, sixIsNotEleven}
 use Rattle.rules.proofs.Calls.Inside.{storesInside, tokenStoresLow}
 use Rattle.rules.proofs.Calls.Inserting.{insertAnswers}
 use Rattle.rules.proofs.Calls.Updating.{updateAnswers, deleteAnswers}
@@ -80,5 +81,15 @@ inlinedCallers =
       chainsAfterCuts = chainsAfterCuts;
     }
 
+pub stubbornItems : StubbornItems
+stubbornItems =
+    record {
+      stepTakesTheFirst = stepTakesTheFirst;
+      noItemBlocks = noItemBlocks;
+      sixExactly = sixExactly;
+      elevenExactly = elevenExactly;
+      sixIsNotEleven = sixIsNotEleven;
+    }
+
 pub mission : Mission
-mission = record { anyInput = demand1; plainMap = demand2; safeCuts = demand3; inlinedCallers = inlinedCallers }
+mission = record { anyInput = demand1; plainMap = demand2; safeCuts = demand3; inlinedCallers = inlinedCallers; stubbornItems = stubbornItems }

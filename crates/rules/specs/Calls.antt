@@ -3,14 +3,14 @@
 -- Assumes nothing.
 use Prim.Native.Nat.{ℕ}
 use mathlib.Core.Bool.{Bool, not, cond}
-use mathlib.Core.List.{List, [], _∷_, flatMap, head?}
+use mathlib.Core.List.{List, [], _∷_, flatMap}
 use mathlib.Core.Option.{Option, none, some}
 use lib.ListN.{length}
 use lib.Dec.{eqb, leb}
-use Rattle.rules.specs.Choice.{all, select, empty}
+use Rattle.rules.specs.Choice.{all, given, select, empty, firstOf}
 use Rattle.rules.specs.Words.{Table, headerOf, headerTests, flagOf, loggedOf, atRest, interim, levelsInUse, slotsOf, keyIn, tokenOf, taken}
 use Rattle.rules.specs.Places.{lookup}
-use Rattle.rules.specs.Placing.{placing}
+use Rattle.rules.specs.Placing.{placing, somewhere}
 use Rattle.rules.specs.Stores.{Store, clearStores, placingStores, updateStores, beginStores, endStores, stepStores, redoStores}
 use Rattle.rules.specs.Soundness.{finding}
 use Rattle.rules.specs.declared.State.{State}
@@ -67,7 +67,7 @@ pub data Outcome : Type 0 where
   refused : Refusal → Outcome
   listed : List Store → Outcome
 
--- "6 | no place | insert, growth step"; else the stores of the placing
+-- insert: "6 | no place"; else the stores of the placing
 abbrev pub placedBy : Placing → List Store → Outcome
 placedBy (Free x) stores = listed stores
 placedBy (Move from to) stores = listed stores
@@ -101,20 +101,24 @@ interimSlots s = flatMap slotsOf (select (λ (l : Level). eqb (l .name) interim)
 unfoldable pub interimItems : Table → Header → List Slot
 interimItems t h = select (taken t h) (interimSlots (h .state))
 
--- the item that a step takes: "the first taken interim slot"
+-- document 02, request b): "The step must take the first interim item, in the same order, that has a place."
+unfoldable pub hasPlace : Table → Header → Slot → Bool
+hasPlace t h x = somewhere (placing t h (keyIn t x))
+
 unfoldable pub stepItem : Table → Header → Option Slot
-stepItem t h = head? (interimItems t h)
+stepItem t h = firstOf (λ (x : Slot). given (hasPlace t h x) x) (interimItems t h)
 
--- step: "8 | not growing", "11 | interim empty". "The growth step that finds no place for that first item is refused."
+-- step: "8 | not growing", "11 | interim empty". "Refusal 6 is then given exactly when interim items remain and none has one; 11 keeps
+-- its meaning."
+unfoldable pub stepTests : Table → Header → List (Bool × Refusal)
+stepTests t h = (not (atRest (h .state)), NotGrowing) ∷ (not (empty (interimItems t h)), InterimEmpty) ∷ []
+
 abbrev pub stepIn : Table → Header → Option Slot → Outcome
-stepIn t h none = refused InterimEmpty
-stepIn t h (some x) = let p = placing t h (keyIn t x) in placedBy p (stepStores t h x p)
-
-unfoldable pub stepTests : Header → List (Bool × Refusal)
-stepTests h = (not (atRest (h .state)), NotGrowing) ∷ []
+stepIn t h none = refused NoPlace
+stepIn t h (some x) = listed (stepStores t h x (placing t h (keyIn t x)))
 
 unfoldable pub stepOf : Table → Header → Outcome
-stepOf t h = checked refused (stepTests h) (stepIn t h (stepItem t h))
+stepOf t h = checked refused (stepTests t h) (stepIn t h (stepItem t h))
 
 -- end: "8 | not growing", "10 | interim not empty"
 unfoldable pub endTests : Table → Header → List (Bool × Refusal)

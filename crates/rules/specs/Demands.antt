@@ -129,17 +129,25 @@ pub record FirstHolder (t : Table) (key : ℕ) (slot : Slot) : Type 0 where
   pub holding : holds t (headerOf t) key slot ≡ true
   pub first : (y : Slot) → In y (slotsIn place) → y .slot < slot .slot → holds t (headerOf t) key y ≡ false
 
--- an item of the interim level; the first of them, "bucket, then slot ascending"; and none
+-- an item of the interim level; and none
 pub record InterimItem (t : Table) (x : Slot) : Type 0 where
   pub item : TakenSlot t x
   pub level : x .level ≡ interim
 
-pub record FirstInterim (t : Table) (x : Slot) : Type 0 where
-  pub item : InterimItem t x
-  pub first : (y : Slot) → InterimItem t y → (y ≡ x) ⊎ Before x y
-
 abbrev pub NoInterim : Table → Type 0
 NoInterim t = (x : Slot) → InterimItem t x → ⊥
+
+-- request b), "the first interim item, in the same order, that has a place": it has one, and every earlier one has none. "No place" is
+-- meant as for insert; the order is "bucket, then slot ascending"
+pub record FirstWithPlace (t : Table) (x : Slot) : Type 0 where
+  pub item : InterimItem t x
+  pub place : NoPlaceFor t (headerOf t) (keyIn t x) → ⊥
+  pub earlier : (y : Slot) → InterimItem t y → Before y x → NoPlaceFor t (headerOf t) (keyIn t y)
+
+-- request b), "interim items remain and none has one"
+pub record NoneHasPlace (t : Table) : Type 0 where
+  pub remain : (x : Slot) × InterimItem t x
+  pub stuck : (x : Slot) → InterimItem t x → NoPlaceFor t (headerOf t) (keyIn t x)
 
 pub record OfNoKind (t : Table) : Type 0 where
   pub unsound : SoundTable t → ⊥
@@ -171,9 +179,7 @@ refusals t n (insert key r) = changingRefusals t n ++ ((Held t key, KeyPresent) 
 refusals t n (update key r) = changingRefusals t n ++ (((Held t key → ⊥), KeyAbsent) ∷ [])
 refusals t n (delete key) = changingRefusals t n ++ (((Held t key → ⊥), KeyAbsent) ∷ [])
 refusals t n begin = changingRefusals t n ++ ((Growing t, AlreadyGrowing) ∷ (headerOf t .state .k ≡ headerOf t .c, AtCapacity) ∷ [])
-refusals t n step =
-    changingRefusals t n ++ ((AtRest t, NotGrowing) ∷ (NoInterim t, InterimEmpty)
-    ∷ (((x : Slot) × FirstInterim t x × NoPlaceFor t (headerOf t) (keyIn t x)), NoPlace) ∷ [])
+refusals t n step = changingRefusals t n ++ ((AtRest t, NotGrowing) ∷ (NoInterim t, InterimEmpty) ∷ (NoneHasPlace t, NoPlace) ∷ [])
 refusals t n end = changingRefusals t n ++ ((AtRest t, NotGrowing) ∷ (((x : Slot) × InterimItem t x), InterimTaken) ∷ [])
 refusals t n recover = badHeader t ∷ (n < 20, ShortList) ∷ (OfNoKind t, NoKind) ∷ []
 
@@ -186,12 +192,12 @@ FirstRefuses (x ∷ xs) o = (x .0 × (o ≡ refused (x .1))) ⊎ ((x .0 → ⊥)
 abbrev pub RefusalsInOrder : Type 0
 RefusalsInOrder = (t : Table) (n : ℕ) (q : Call) → FirstRefuses (refusals t n q) (outcome t n q)
 
--- step answers as the call step does; where it is accepted it tells the placing of the first interim item, else none
+-- step answers as the call step does; where it is accepted it tells the placing of the first interim item that has a place, else none
 abbrev pub StepIsACall : Type 0
 StepIsACall =
     (t : Table) (l : List ℕ) → (stepResult t l .0 .change ≡ changeResult t l step .0) × (stepResult t l .1 ≡ changeResult t l step .1)
     × ((steppedMeans (stepResult t l .0) .number ≡ 0 → ⊥) → steppedMeans (stepResult t l .0) .values ≡ 0 ∷ [])
-    × (steppedMeans (stepResult t l .0) .number ≡ 0 → (x : Slot) → FirstInterim t x → stepResult t l .0 .placing ≡ placing t (headerOf t) (keyIn t x))
+    × (steppedMeans (stepResult t l .0) .number ≡ 0 → (x : Slot) → FirstWithPlace t x → stepResult t l .0 .placing ≡ placing t (headerOf t) (keyIn t x))
 
 -- query answers by the call query's outcome. "Query returns zeros with 5 and the full probe count; with 1 or 3 zeros and
 -- count 0."
@@ -301,7 +307,7 @@ BeginAnswers =
     × (AtRest t → (headerOf t .state .k ≡ headerOf t .c → ⊥)
     → Gives t (outcome t n begin) (mapAfter begin m) (record { k = headerOf t .state .k + 1; phase = 1 }))
 
--- after a step: the interim items are those before without the first; its key and record stand in top or bottom
+-- after a step that took the item x: the interim items are those before without x; its key and record stand in top or bottom
 pub record StepMoves (t u : Table) (x : Slot) : Type 0 where
   pub rest : (y : Slot) → InterimItem u y ↔ (InterimItem t y × (y ≡ x → ⊥))
   pub slot : Slot
@@ -311,16 +317,15 @@ pub record StepMoves (t u : Table) (x : Slot) : Type 0 where
   pub value : recordIn u slot ≡ recordIn t x
 
 abbrev pub StepBy : Table → PlainMap → Slot → Outcome → Type 0
-StepBy t m x o =
-    (NoPlaceFor t (headerOf t) (keyIn t x) × (o ≡ refused NoPlace))
-    ⊎ ((NoPlaceFor t (headerOf t) (keyIn t x) → ⊥) × ((g : Gives t o (mapAfter step m) (headerOf t .state)) × StepMoves t (made t (g .stores)) x))
+StepBy t m x o = (g : Gives t o (mapAfter step m) (headerOf t .state)) × StepMoves t (made t (g .stores)) x
 
 abbrev pub StepAnswers : Type 0
 StepAnswers =
     (t : Table) (m : PlainMap) (n : ℕ) → Given t m n
     → (AtRest t → outcome t n step ≡ refused NotGrowing)
     × (Growing t → (NoInterim t × (outcome t n step ≡ refused InterimEmpty))
-    ⊎ ((x : Slot) × FirstInterim t x × StepBy t m x (outcome t n step)))
+    ⊎ ((NoneHasPlace t × (outcome t n step ≡ refused NoPlace))
+    ⊎ ((x : Slot) × FirstWithPlace t x × StepBy t m x (outcome t n step))))
 
 abbrev pub EndAnswers : Type 0
 EndAnswers =
@@ -378,7 +383,7 @@ Written t h (update key r) xs = (x : Slot) × FirstHolder t key x × UpdateWritt
 Written t h (delete key) xs = (x : Slot) × FirstHolder t key x × (xs ≡ (bucketStart (x .bucket), hide h (tokenOf t (x .bucket)) (x .slot)) ∷ [])
 Written t h begin xs = xs ≡ (4, h .state .k + 1 + 256 * 1) ∷ []
 Written t h step xs =
-    (x : Slot) × (ys : List Store) × FirstInterim t x × PlacingWritten t h (keyIn t x) (recordIn t x) (placing t h (keyIn t x)) ys
+    (x : Slot) × (ys : List Store) × FirstWithPlace t x × PlacingWritten t h (keyIn t x) (recordIn t x) (placing t h (keyIn t x)) ys
     × (xs ≡ ys ++ ((bucketStart (x .bucket), hide h (tokenOf t (x .bucket)) (x .slot)) ∷ []))
 Written t h end xs = xs ≡ (4, h .state .k + 256 * 0) ∷ []
 Written t h recover xs = RecoveryWritten t h (finding t) xs

@@ -12,6 +12,8 @@ pub mod NoPlace
 pub mod Histories
 pub mod Demands
 pub mod ChainSentences
+pub mod StepSentences
 pub mod Mission
 pub mod Examples
 pub mod ChainCases
+pub mod StepCases

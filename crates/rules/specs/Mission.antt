@@ -1,6 +1,6 @@
 -- What is proved of the user's three demands and of document 02's requests, in one place, sentence by sentence. Each field of a demand is a
--- statement of `Demands`, and each field of request a) one of `ChainSentences`, which say it in full. One law proves them all: `mission`, in
--- proofs/Mission.
+-- statement of `Demands`, and each field of a request one of its sentences (`ChainSentences`, `StepSentences`), which say it in full. One law
+-- proves them all: `mission`, in proofs/Mission.
 -- That the code does what the rules say is promised call by call, in the `ensures` of each.
 -- Assumes nothing.
 use Rattle.rules.specs.Demands.{ChangeAnswers, CreateAnswers, MakeAnswers, RefusalsInOrder, StepIsACall, QueryIsACall, StoresInside}
@@ -9,6 +9,7 @@ use Rattle.rules.specs.Demands.{DeleteAnswers, BeginAnswers, StepAnswers
 use Rattle.rules.specs.Demands.{MakeTakesTheList, CutsAreSafe, RecoveryMayBeCut, RecoveryAccepts, GrowthBound, QueryCounts, ProbesAreFew}
 use Rattle.rules.specs.Demands.{ProbesAreDistinct}
 use Rattle.rules.specs.ChainSentences.{ChainRefusals, ChainWrites, ChainCounts, ChainLooksAtFew, ChainAnswers, ChainsAfterCuts}
+use Rattle.rules.specs.StepSentences.{StepTakesTheFirst, NoItemBlocks, SixExactly, ElevenExactly, SixIsNotEleven}
 
 pub record Demand1 : Type 0 where
   -- "Any words, keys and lengths may be handed in. Every call ends, stays within its buffers and checks its own input."
@@ -74,9 +75,20 @@ pub record InlinedCallers : Type 0 where
   pub chainAnswers : ChainAnswers
   pub chainsAfterCuts : ChainsAfterCuts
 
+-- request b), "One stubborn item blocks a whole growth." "The ten-store and 20N + 2 bounds stay": `storeNumbers` and `growthBound` of demand 3
+pub record StubbornItems : Type 0 where
+  -- "The step must take the first interim item, in the same order, that has a place."
+  pub stepTakesTheFirst : StepTakesTheFirst
+  pub noItemBlocks : NoItemBlocks
+  -- "Refusal 6 is then given exactly when interim items remain and none has one; 11 keeps its meaning."
+  pub sixExactly : SixExactly
+  pub elevenExactly : ElevenExactly
+  pub sixIsNotEleven : SixIsNotEleven
+
 -- the user's three demands, and document 02's requests
 pub record Mission : Type 0 where
   pub anyInput : Demand1
   pub plainMap : Demand2
   pub safeCuts : Demand3
   pub inlinedCallers : InlinedCallers
+  pub stubbornItems : StubbornItems

@@ -1,7 +1,7 @@
 -- Document 01, "Placing": "Placing uses top and bottom only".
 -- Assumes nothing.
 use Prim.Native.Nat.{ℕ}
-use mathlib.Core.Bool.{Bool, not, cond}
+use mathlib.Core.Bool.{Bool, true, false, not, cond}
 use mathlib.Core.List.{List, _++_, map, flatMap}
 use mathlib.Core.Option.{Option, Option·map, Option·getD}
 use lib.ListN.{take}
@@ -72,3 +72,9 @@ placing t h key =
     Option·getD (orElse (Option·map Free (roomIn t h x (topOf (h .state))))
     (orElse (Option·map Free (roomIn t h x (bottomOf (h .state))))
     (firstOf (moveOf t h) (candidates t h x)))) Nowhere
+
+-- whether that is a place
+abbrev pub somewhere : Placing → Bool
+somewhere (Free x) = true
+somewhere (Move from to) = true
+somewhere Nowhere = false

@@ -3,18 +3,21 @@
 use mathlib.Core.Path.{_≡_, sym, _∙_}
 use mathlib.Core.Bool.{false}
 use Rattle.rules.specs.Words.{atRest}
-use Rattle.growing.proofs.Growth.{is-empty}
-use Rattle.growing.proofs.Stepping.{item-none, item-some, step-resting, step-empty, step-on, did-step-refuse}
+use Rattle.growing.proofs.Growth.{is-empty, nothing, something}
+use Rattle.growing.proofs.Stepping.{item-some, step-resting, step-empty, step-on, did-step-refuse}
 use borrow.Author.Needs.{needs}
 use Rattle.growing.proofs.step_at.Statement.{statement}
 use Rattle.growing.proofs.step_at.Tie as tie
 
+-- src/lib.rt:96:8
 at-rest-requires : tie.Need-at-rest-requires
 at-rest-requires c κs = search needs
 
+-- src/lib.rt:97:9
 unplaced-requires : tie.Need-unplaced-requires
 unplaced-requires c κs = search needs
 
+-- src/lib.rt:97:9
 returns : tie.Need-returns
 returns c = did-step-refuse _ _ _ (step-resting _ _ (sym (c .before .before .at-rest .ensures) ∙ c .before .if1 .taken)) (c .unplaced .ensures)
 
@@ -22,42 +25,52 @@ returns c = did-step-refuse _ _ _ (step-resting _ _ (sym (c .before .before .at-
 growing : (c : tie.Else1) → atRest (c .before .before .before .before .before .args .h .state) ≡ false
 growing c = sym (c .before .at-rest .ensures) ∙ c .if1 .left
 
+-- src/lib.rt:99:9
 first-item-requires : tie.Need-first-item-requires
 first-item-requires c κs = (c .before .before .before .before .before .pre .1, growing c)
 
+-- src/lib.rt:100:18
 enum-known-item : tie.Need-enum-known-item
 enum-known-item c = search needs
 
+-- src/lib.rt:101:25
 enum-told : tie.Need-enum-told
 enum-told c = search needs
 
+-- src/lib.rt:101:9
 unplaced-requires-2 : tie.Need-unplaced-requires-2
 unplaced-requires-2 c κs = search needs
 
+-- src/lib.rt:101:9
 returns-2 : tie.Need-returns-2
 returns-2 c =
     let m = c .before .before in
     let f = m .before in
-    did-step-refuse _ _ _ (step-empty _ _ (growing (f .before)) (item-none _ (sym (f .first-item .ensures .0) ∙ is-empty _ (m .match .keys2))))
+    did-step-refuse _ _ _ (step-empty _ _ (growing (f .before)) (nothing _ _ (sym (f .first-item .ensures .0) ∙ is-empty _ (m .match .keys2))))
     (c .unplaced2 .ensures)
 
-step-item-requires : tie.Need-step-item-requires
-step-item-requires c κs =
+-- src/lib.rt:103:27
+first-placed-requires : tie.Need-first-placed-requires
+first-placed-requires c κs =
     let i = c .before .before in
     let f = i .before .before in
-    let first = f .before in
-    let s = first .before .before .before .before .before in
-    (s .pre .0, s .pre .1, rw (i .item .given .1) at (f .first-item .ensures .1), item-some _ (sym (f .first-item .ensures .0) ∙ i .item .given .1))
+    (f .before .before .before .before .before .before .pre .1, growing (f .before), item-some _ (sym (f .first-item .ensures .0) ∙ i .item .given .1))
 
+-- src/lib.rt:103:5
+step-item-requires : tie.Need-step-item-requires
+step-item-requires c κs = search needs
+
+-- src/lib.rt:91:1
 same-length : tie.Need-same-length
 same-length c = search needs
 
+-- src/lib.rt:91:1
 returns-3 : tie.Need-returns-3
 returns-3 c =
     let d = c .before .before in
-    let i = d .before .before .before in
+    let i = d .before .before .before .before in
     let f = i .before .before in
-    rw (← (step-on _ _ (growing (f .before)) (item-some _ (sym (f .first-item .ensures .0) ∙ i .item .given .1)))) (d .step-item .ensures)
+    rw (← (step-on _ _ (growing (f .before)) (something _ _ (sym (f .first-item .ensures .0) ∙ i .item .given .1)))) (d .step-item .ensures)
 
 pub step-at-spec : {M : Type 1} → statement M
 step-at-spec =
@@ -71,6 +84,7 @@ step-at-spec =
     enum-told
     unplaced-requires-2
     returns-2
+    first-placed-requires
     step-item-requires
     same-length
     returns-3)

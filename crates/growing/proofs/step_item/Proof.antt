@@ -1,102 +1,115 @@
 -- `growing::step_item` meets its contract.
 -- Assumes nothing.
-use mathlib.Core.Path.{_≡_, _∙_}
+use mathlib.Core.Path.{_≡_}
 use mathlib.Core.Logic.{⊎-elim}
+use mathlib.Core.Option.{some}
 use native.Mathlib.Omega.{arith}
 use denote.Ref.{now}
+use Rattle.rules.specs.Words.{keyIn}
+use Rattle.rules.specs.Placing.{placing}
+use Rattle.rules.specs.Calls.{stepItem}
 use Rattle.rules.proofs.Words.Headers.{table-small}
-use Rattle.rules.proofs.Calls.Meanings.{placing-told-by}
+use Rattle.reading.specs.Within.{SlotWithin}
 use Rattle.listing.specs.Listing.{Takes}
 use Rattle.listing.proofs.Placings.{apart-free, apart-move}
-use Rattle.growing.proofs.Stepping.{step-nowhere, step-listed, did-step-refuse, did-step}
+use Rattle.growing.proofs.Stepping.{step-nowhere, step-within, step-somewhere, did-step-refuse, did-step}
 use borrow.Author.Needs.{needs}
 use Rattle.growing.proofs.step_item.Statement.{statement}
 use Rattle.growing.proofs.step_item.Tie as tie
 
 -- the placing as it was taken apart, and the slot of its new item
 taken : (c : tie.At-match-came) →
-    let s = c .before .before .before .before .before .before in
-    (c .match .p ≡ c .before .interim-placing .result) × Takes (now (s .args .t)) (c .match .p) (c .match .y)
+    let s = c .before .before .before in
+    (c .match .p ≡ s .args .found .placing) × Takes (now (s .args .t)) (c .match .p) (c .match .y)
 taken c =
-    let w = c .before .interim-placing .ensures .1 in
+    let w = step-within _ _ _ _ (c .before .before .before .pre .2) in
     ⊎-elim (λ u. apart-free _ (u .1 .given .1) (u .3) (u .4) w) (λ u. apart-move _ (u .1 .given .1) (u .3) (u .4) w) (c .match .came)
 
-key-at-requires : tie.Need-key-at-requires
-key-at-requires c κs = search needs
+-- so an item was found: the one that the step takes
+found : (c : tie.At-match-came) →
+    let s = c .before .before .before in
+    let x = s .args .found .item in
+    (stepItem (now (s .args .t)) (s .args .h) ≡ some x) × (c .match .p ≡ placing (now (s .args .t)) (s .args .h) (keyIn (now (s .args .t)) x))
+    × SlotWithin (now (s .args .t)) x
+found c = let z = taken c in step-somewhere _ _ _ _ _ _ (c .before .before .before .pre .2) (z .0) (z .1)
 
-hashes-requires : tie.Need-hashes-requires
-hashes-requires c κs = search needs
-
-interim-placing-requires : tie.Need-interim-placing-requires
-interim-placing-requires c κs = (c .before .before .before .before .pre .1, c .hashes .ensures)
-
+-- src/lib.rt:78:24
 enum-known-p : tie.Need-enum-known-p
 enum-known-p c = search needs
 
+-- src/lib.rt:78:43
 enum-known-p-2 : tie.Need-enum-known-p-2
 enum-known-p-2 c = search needs
 
+-- src/lib.rt:79:25
 enum-told : tie.Need-enum-told
 enum-told c = search needs
 
+-- src/lib.rt:79:9
 unplaced-requires : tie.Need-unplaced-requires
 unplaced-requires c κs = search needs
 
+-- src/lib.rt:79:9
 returns : tie.Need-returns
 returns c =
     let m = c .before .before in
-    let p = m .before in
-    let q = placing-told-by (p .interim-placing .ensures .0) in
-    did-step-refuse _ _ _ (step-nowhere _ _ _ (p .before .before .key-at .ensures) (p .interim-placing .result) q (m .match .keys3)) (c .unplaced .ensures)
+    let s = m .before .before .before in
+    did-step-refuse _ _ _ (step-nowhere _ _ (s .args .found) _ (s .pre .2) (m .match .keys3)) (c .unplaced .ensures)
 
+-- src/lib.rt:82:45
+key-at-requires : tie.Need-key-at-requires
+key-at-requires c κs = found (c .before .before) .2
+
+-- src/lib.rt:82:59
 record-at-requires : tie.Need-record-at-requires
-record-at-requires c κs = search needs
+record-at-requires c κs = found (c .before .before .before) .2
 
+-- src/lib.rt:82:9
 list-placing-requires : tie.Need-list-placing-requires
 list-placing-requires c κs =
-    let m = c .before .before in
-    let s = m .before .before .before .before .before .before in
-    (omega arith, table-small _ _ (s .pre .1), taken m .1)
+    let m = c .before .before .before .before in
+    let s = m .before .before .before in
+    (omega (arith, s .pre .0), table-small _ _ (s .pre .1), taken m .1)
 
+-- src/lib.rt:83:32
 token-requires : tie.Need-token-requires
-token-requires c κs = search needs
+token-requires c κs = found (c .before .before .before .before .before .before .before .before) .2 .0
 
+-- src/lib.rt:83:9
 clear-requires : tie.Need-clear-requires
 clear-requires c κs =
     let d = c .before .before .before .before in
-    let s = d .before .before .before .before .before .before .before .before .before in
-    let w = table-small _ _ (s .pre .1) in
-    omega (arith, s .pre .0, w, s .pre .2 .0, s .pre .2 .1, d .list-placing .ensures .1)
+    let m = d .before .before .before .before .before in
+    let s = m .before .before .before in
+    let x = found m .2 in
+    omega (arith, s .pre .0, table-small _ _ (s .pre .1), x .0, x .1, d .list-placing .ensures .1)
 
+-- src/lib.rt:73:1
 same-length : tie.Need-same-length
 same-length c = search needs
 
+-- src/lib.rt:73:1
 returns-2 : tie.Need-returns-2
 returns-2 c =
     let u = c .before .before in
     let d = u .before .before .before .before .before in
     let r = d .before in
-    let m = r .before .before in
-    let p = m .before in
-    let k = p .before .before in
-    let s = k .before .before .before in
-    let z = taken m in
-    let q = z .0 ∙ placing-told-by (p .interim-placing .ensures .0) in
-    did-step _ _ _ _ (s .pre .3) (k .key-at .ensures) (r .record-at .ensures) q (u .before .token .ensures) (s .pre .0) (d .list-placing .ensures)
-    (u .clear .ensures) (step-listed _ _ _ (k .key-at .ensures) _ q _ (z .1))
+    let m = r .before .before .before .before in
+    let s = m .before .before .before in
+    let x = found m in
+    did-step _ _ _ _ (x .0) (r .before .key-at .ensures) (r .record-at .ensures) (x .1) (u .before .token .ensures) (s .pre .0) (d .list-placing .ensures)
+    (u .clear .ensures)
 
 pub step-item-spec : {M : Type 1} → statement M
 step-item-spec =
     tie.close
     (tie.spec
-    key-at-requires
-    hashes-requires
-    interim-placing-requires
     enum-known-p
     enum-known-p-2
     enum-told
     unplaced-requires
     returns
+    key-at-requires
     record-at-requires
     list-placing-requires
     token-requires

@@ -1,11 +1,13 @@
 -- The first answer along a list, from an index on: for a loop that is left at the first answer.
 -- Assumes nothing.
-use Prim.Native.Nat.{ℕ, _+_, _≤_, _<_}
-use mathlib.Core.Path.{_≡_, refl}
+use Prim.Native.Nat.{ℕ, suc, _+_, _≤_, _<_}
+use mathlib.Core.Path.{_≡_, refl, ap, _∙_}
 use mathlib.Core.List.{List, [], _∷_}
 use mathlib.Core.Option.{Option, none, some}
+use native.Mathlib.Omega.{arith}
 use lib.ListN.{length, getD, take, drop}
-use Rattle.rules.specs.Choice.{firstOf}
+use Rattle.rules.specs.Choice.{orElse, firstOf}
+use Rattle.rules.proofs.Basics.Lists.{not-some}
 use Rattle.rules.proofs.Basics.Walks.{first-next, first-end}
 
 module _ {A B : Type 0} (f : A → Option B) (l : List A) where
@@ -28,6 +30,32 @@ module _ {A B : Type 0} (f : A → Option B) (l : List A) where
     pub along-hit : {b : B} → f a ≡ some b → along i ≡ some b
     unfolding along
     along-hit e = rw (next, e)
+
+-- a second search along the list, which finds nothing where the first finds nothing, may begin where the first has found something
+module _ {A B C : Type 0} (f : A → Option B) (g : A → Option C) (less : (x : A) → f x ≡ none → g x ≡ none) where
+  pub record Begins (l : List A) (b : B) : Type 0 where
+    pub index : ℕ
+    pub element : A
+    pub next : drop index l ≡ element ∷ drop (index + 1) l
+    pub gives : f element ≡ some b
+    pub same : firstOf g l ≡ firstOf g (drop index l)
+
+  pub along-begins : (l : List A) (b : B) → firstOf f l ≡ some b → Begins l b
+  along-begins [] b e = not-some e
+  along-begins (x ∷ xs) b e = go (f x) refl e (along-begins xs b)
+    where
+      go : (o : Option B) → f x ≡ o → orElse o (firstOf f xs) ≡ some b → (firstOf f xs ≡ some b → Begins xs b) → Begins (x ∷ xs) b
+      go (some c) q e k = record { index = 0; element = x; next = refl; gives = q ∙ e; same = refl }
+      go none q e k =
+          let r = k e in
+          let on : suc (r .index) + 1 ≡ suc (r .index + 1) = omega arith in
+          record {
+            index = suc (r .index);
+            element = r .element;
+            next = rw on (r .next);
+            gives = r .gives;
+            same = ap (λ (o : Option C). orElse o (firstOf g xs)) (less x q) ∙ r .same;
+          }
 
 -- along the first n of an array; d is what it has past its end
 module _ {A B : Type 0} (f : A → Option B) (d : A) (n : ℕ) (xs : List A) (l : n ≤ length xs) (i : ℕ) where

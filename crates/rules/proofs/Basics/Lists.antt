@@ -3,7 +3,7 @@
 use Prim.Native.Nat.{ℕ, zero, suc, _+_, _≤_, _<_}
 use mathlib.Core.Path.{_≡_, refl, sym, ap, _∙_}
 use mathlib.Core.Bool.{Bool, true, false, cond}
-use mathlib.Core.List.{List, [], _∷_, _++_, map, flatMap, head?, List·Memᴰ as In, List·Memᴰ·head as here, List·Memᴰ·tail as there, List·Memᴰ·not-nil}
+use mathlib.Core.List.{List, [], _∷_, _++_, map, flatMap, List·Memᴰ as In, List·Memᴰ·head as here, List·Memᴰ·tail as there, List·Memᴰ·not-nil}
 use mathlib.Core.List.{List·Memᴰ·cases-cons, List·Memᴰ·append-cases, Memᴰ·append-left, Memᴰ·append-right}
 use mathlib.Core.Logic.{_⊎_, inl, inr, ⊎-elim}
 use mathlib.Core.Option.{Option, none, some, Option·map}
@@ -70,6 +70,10 @@ module _ {A B : Type 0} (f : A → Option B) where
       go : (o : Option B) → f y ≡ o → orElse o (firstOf f ys) ≡ none → (firstOf f ys ≡ none → In x ys → f x ≡ none) → f x ≡ none
       go (some c) q e k = not-some (sym e)
       go none q e k = ⊎-elim (λ (h : x ≡ y). rw h q) (λ (h : In x ys). k e h) (List·Memᴰ·cases-cons i)
+
+  pub none-firstOf : (l : List A) → ((x : A) → In x l → f x ≡ none) → firstOf f l ≡ none
+  none-firstOf [] k = refl
+  none-firstOf (x ∷ xs) k = rw (k x (here refl)) (none-firstOf xs (λ y i. k y (there i)))
 
 -- a value given by a test
 pub given-some : {A : Type 0} (b : Bool) (a c : A) → given b a ≡ some c → (b ≡ true) × (a ≡ c)
@@ -144,10 +148,6 @@ module _ {A : Type 0} where
   empty-some [] e = never refl e
   empty-some (y ∷ ys) e = (y, here refl)
 
-  pub head-none : (l : List A) → head? l ≡ none → empty l ≡ true
-  head-none [] e = refl
-  head-none (y ∷ ys) e = not-some (sym e)
-
 -- ---- what each element gives
 
 pub map-in : {A B : Type 0} (f : A → B) (l : List A) (y : B) → In y (map f l) → (x : A) × In x l × (y ≡ f x)
@@ -220,12 +220,12 @@ pub ascending-from : (a n : ℕ) → Ascending _<_ (from a n)
 ascending-from a zero = tt
 ascending-from a (suc n) = (λ y i. omega (arith, from-in (suc a) n y i), ascending-from (suc a) n)
 
--- the head of an ascending list comes before all others
-pub ascending-head : {A : Type 0} (R : A → A → Type 0) (l : List A) → Ascending R l → (x : A) → head? l ≡ some x → In x l × ((y : A) → In y l → (y ≡ x) ⊎ R x y)
-ascending-head R [] a x e = not-some e
-ascending-head R (z ∷ zs) a x e =
-    let f : z ≡ x = some-one e in
-    (here (sym f), λ y i. ⊎-elim (λ (h : y ≡ z). inl (h ∙ f)) (λ (h : In y zs). inr (rw (← f) (a .0 y h))) (List·Memᴰ·cases-cons i))
+-- what comes before an element of an ascending list stands before it
+pub ascending-before : {A : Type 0} (R : A → A → Type 0) → ((x y : A) → R x y → R y x → ⊥) → (xs : List A) (x : A) (ys : List A)
+    → Ascending R (xs ++ (x ∷ ys)) → (y : A) → In y (xs ++ (x ∷ ys)) → R y x → In y xs
+ascending-before R once xs x ys a y i b =
+    ⊎-elim (λ (h : In y xs). h) (λ (h : In y (x ∷ ys)). absurd (⊎-elim (λ (e : y ≡ x). let c : R x x = rw e at b in once x x c c)
+    (λ (j : In y ys). once x y (ascending-after R xs x ys a y j) b) (List·Memᴰ·cases-cons h))) (List·Memᴰ·append-cases xs i)
 
 -- ---- the first answer along joined lists
 
@@ -248,6 +248,16 @@ pub firstOf-flatMap : {A B C : Type 0} (f : B → Option C) (g : A → List B) (
 unfolding flatMap
 firstOf-flatMap f g [] = refl
 firstOf-flatMap f g (x ∷ xs) = firstOf-append f (g x) (flatMap g xs) ∙ ap (orElse (firstOf f (g x))) (firstOf-flatMap f g xs)
+
+-- the first answer of those that pass a test
+pub firstOf-select : {A B : Type 0} (f : A → Option B) (p : A → Bool) (l : List A) → firstOf f (select p l) ≡ firstOf (λ x. cond (p x) (f x) none) l
+firstOf-select f p [] = refl
+firstOf-select f p (x ∷ l) = go (p x) (firstOf-select f p l)
+  where
+    go : (b : Bool) → firstOf f (select p l) ≡ firstOf (λ y. cond (p y) (f y) none) l
+        → firstOf f (cond b (x ∷ select p l) (select p l)) ≡ orElse (cond b (f x) none) (firstOf (λ y. cond (p y) (f y) none) l)
+    go true k = ap (orElse (f x)) k
+    go false k = k
 
 -- the first that passes a test, each under a name
 pub firstOf-given : {A B : Type 0} (p : A → Bool) (g : A → B) (xs : List A)

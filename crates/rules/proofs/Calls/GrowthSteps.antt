@@ -1,29 +1,31 @@
--- A growth step on a sound table: 8 at rest, 11 with no interim item, 6 exactly where the first has no place. Else the first interim
--- item stands in top or bottom, the others stay, and the map is the same: a step is one move, or two.
+-- A growth step on a sound table: 8 at rest, 11 with no interim item, 6 exactly where interim items remain and none has a place. Else the
+-- first that has one stands in top or bottom, the others stay, and the map is the same: a step is one move, or two.
 -- Assumes nothing.
 use Prim.Native.Nat.{ℕ}
 use mathlib.Core.Path.{_≡_, refl, sym, ap, _∙_}
+use mathlib.Core.Bool.{Bool, true, false, not}
 use mathlib.Core.Logic.{_⊎_, inl, inr, _↔_}
-use mathlib.Core.List.{_++_, List·Memᴰ as In, append-assoc}
+use mathlib.Core.List.{[], _∷_, _++_, List·Memᴰ as In, append-assoc}
 use mathlib.Core.Option.{Option, none, some}
 use native.Mathlib.Omega.{arith}
 use borrow.Author.Tests.{eq-eqb, ne-eqb}
+use Rattle.rules.specs.Choice.{empty}
 use Rattle.rules.specs.Words.{Table, headerOf, atRest, top, bottom, interim, InUse, placeOf, keyIn, recordIn, tokenOf, hide}
 use Rattle.rules.specs.Places.{placesOf}
 use Rattle.rules.specs.Placing.{placing}
 use Rattle.rules.specs.Stores.{putStores, clearStores, moveStores, placingStores, stepStores, made}
 use Rattle.rules.specs.Soundness.{TakenSlot, PlainMap}
-use Rattle.rules.specs.Calls.{placedBy, refused, stepItem, stepIn, stepTests, stepOf, outcome}
-use Rattle.rules.specs.Demands.{InterimItem, FirstInterim, NoInterim, Given, StepMoves, StepBy, StepAnswers}
+use Rattle.rules.specs.Calls.{checked, refused, listed, interimItems, stepItem, stepIn, stepTests, stepOf, outcome}
+use Rattle.rules.specs.Demands.{InterimItem, NoInterim, FirstWithPlace, NoneHasPlace, Given, StepMoves, StepBy, StepAnswers}
 use Rattle.rules.specs.declared.Slot.{Slot}
 use Rattle.rules.specs.declared.Place.{Place}
 use Rattle.rules.specs.declared.Placing.{Placing}
 use Rattle.rules.specs.declared.Placing.the-variants.{Free, Move, Nowhere}
-use Rattle.rules.specs.declared.Refusal.the-variants.{InterimEmpty}
+use Rattle.rules.specs.declared.Refusal.the-variants.{InterimEmpty, NoPlace}
 use Rattle.rules.proofs.Words.Made.{made-append}
 use Rattle.rules.proofs.Places.PlacesInUse.{among-used, place-of-slot, place-by-bucket}
-use Rattle.rules.proofs.Places.Placings.{FreeFor, MoveFor, placing-free, placing-move, some-place, no-place}
-use Rattle.rules.proofs.Tables.Interims.{step-item, no-step-item}
+use Rattle.rules.proofs.Places.Placings.{FreeFor, MoveFor, placing-free, placing-move, no-place}
+use Rattle.rules.proofs.Tables.Interims.{step-item, no-step-item, interim-empty, interim-left}
 use Rattle.rules.proofs.Calls.Passing.{passes, whole-of, gives}
 use Rattle.rules.proofs.Carrying.Putting.{SoundMap, Becomes}
 use Rattle.rules.proofs.Carrying.ItemMoved.{AfterMove, move-whole}
@@ -119,25 +121,32 @@ module _ (t : Table) (m : PlainMap) (whole : SoundMap t m) (x : Slot) (item : In
       rw e (w .2, w .3)
 
 module _ (t : Table) (m : PlainMap) (n : ℕ) (given : Given t m n) where
-  by-placing : (x : Slot) → FirstInterim t x → (p : Placing) → placing t (headerOf t) (keyIn t x) ≡ p
-      → StepBy t m x (placedBy p (stepStores t (headerOf t) x p))
+  by-placing : (x : Slot) → FirstWithPlace t x → (p : Placing) → placing t (headerOf t) (keyIn t x) ≡ p
+      → StepBy t m x (listed (stepStores t (headerOf t) x p))
   unfolding Steps gives
   by-placing x first (Free y) e =
       let s = free-steps t m (whole-of t m n given) x (first .item) y (placing-free t (headerOf t) (keyIn t x) y e) in
-      inr (some-place t (headerOf t) (keyIn t x) (Free y) tt e, (gives t m _ (s .0), s .1))
+      (gives t m _ (s .0), s .1)
   by-placing x first (Move from to) e =
       let s = move-steps t m (whole-of t m n given) x (first .item) from to (placing-move t (headerOf t) (keyIn t x) from to e) in
-      inr (some-place t (headerOf t) (keyIn t x) (Move from to) tt e, (gives t m _ (s .0), s .1))
-  by-placing x first Nowhere e = inl (no-place t (headerOf t) (keyIn t x) .0 e, refl)
+      (gives t m _ (s .0), s .1)
+  by-placing x first Nowhere e = absurd (first .place (no-place t (headerOf t) (keyIn t x) .0 e))
 
-  answers : (o : Option Slot) → stepItem t (headerOf t) ≡ o
-      → (NoInterim t × (stepIn t (headerOf t) o ≡ refused InterimEmpty)) ⊎ ((x : Slot) × FirstInterim t x × StepBy t m x (stepIn t (headerOf t) o))
-  answers none e = inl (no-step-item t e, refl)
-  answers (some x) e = let first = step-item t x e in inr (x, first, by-placing x first (placing t (headerOf t) (keyIn t x)) refl)
+  -- an interim item stands: by the one that is taken
+  answers : (x : Slot) → InterimItem t x → (o : Option Slot) → stepItem t (headerOf t) ≡ o
+      → (NoneHasPlace t × (stepIn t (headerOf t) o ≡ refused NoPlace)) ⊎ ((x : Slot) × FirstWithPlace t x × StepBy t m x (stepIn t (headerOf t) o))
+  answers x item none e = inl (record { remain = (x, item); stuck = no-step-item t e }, refl)
+  answers x item (some y) e = let first = step-item t y e in inr (y, first, by-placing y first (placing t (headerOf t) (keyIn t y)) refl)
 
 pub stepAnswers : StepAnswers
 unfolding outcome stepOf stepTests atRest
 stepAnswers t m n given = (
   λ rest. rw (passes t m n given, eq-eqb (headerOf t .state .phase) 0 rest),
-  λ growing. rw (passes t m n given, ne-eqb (headerOf t .state .phase) 0 growing) (answers t m n given (stepItem t (headerOf t)) refl),
+  λ growing. rw (passes t m n given, ne-eqb (headerOf t .state .phase) 0 growing) (go (empty (interimItems t (headerOf t))) refl),
 )
+  where
+    go : (b : Bool) → empty (interimItems t (headerOf t)) ≡ b
+        → let o = checked refused ((not b, InterimEmpty) ∷ []) (stepIn t (headerOf t) (stepItem t (headerOf t))) in
+        (NoInterim t × (o ≡ refused InterimEmpty)) ⊎ ((NoneHasPlace t × (o ≡ refused NoPlace)) ⊎ ((x : Slot) × FirstWithPlace t x × StepBy t m x o))
+    go true e = inl (interim-empty t .0 e, refl)
+    go false e = let x = interim-left t e in inr (answers t m n given (x .0) (x .1) (stepItem t (headerOf t)) refl)

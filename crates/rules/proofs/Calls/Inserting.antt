@@ -57,12 +57,12 @@ module _ (t : Table) (m : PlainMap) (n : ℕ) (given : Given t m n) (key : ℕ) 
   by-placing : m key ≡ none → (p : Placing) → placing t (headerOf t) key ≡ p → InsertBy t m key r none (placedBy p (placingStores t (headerOf t) p key r))
   by-placing absent (Free x) e =
       inr (
-        some-place t (headerOf t) key (Free x) tt e,
+        some-place t (headerOf t) key (Free x) refl e,
         gives t _ _ (free-becomes t m (whole-of t m n given) key r absent x (placing-free t (headerOf t) key x e)),
       )
   by-placing absent (Move from to) e =
       inr (
-        some-place t (headerOf t) key (Move from to) tt e,
+        some-place t (headerOf t) key (Move from to) refl e,
         gives t _ _ (move-becomes t m (whole-of t m n given) key r absent from to (placing-move t (headerOf t) key from to e)),
       )
   by-placing absent Nowhere e = inl (no-place t (headerOf t) key .0 e, refl)

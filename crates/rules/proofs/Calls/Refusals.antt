@@ -10,16 +10,17 @@ use mathlib.Core.Option.{Option, none, some}
 use native.Mathlib.Omega.{arith}
 use lib.ListN.{length}
 use borrow.Author.Tests.{leb-true, leb-false}
-use Rattle.rules.specs.Words.{Table, headerOf, flagOf, atRest, keyIn, word}
+use Rattle.rules.specs.Choice.{empty}
+use Rattle.rules.specs.Words.{Table, headerOf, flagOf, atRest, word}
 use Rattle.rules.specs.Places.{lookup}
 use Rattle.rules.specs.Placing.{placing}
-use Rattle.rules.specs.Stores.{Store, placingStores, stepStores, beginStores, endStores}
+use Rattle.rules.specs.Stores.{Store, placingStores, beginStores, endStores}
 use Rattle.rules.specs.Soundness.{finding}
 use Rattle.rules.specs.Calls.{headerGood, listLong, flagClear, checked, changingTests, queryTests, recoverTests, Outcome, refused, listed}
-use Rattle.rules.specs.Calls.{placedBy, insertIn, updateIn, deleteIn, queryIn, beginTests, beginOf, stepItem, stepIn, stepTests, stepOf}
+use Rattle.rules.specs.Calls.{placedBy, insertIn, updateIn, deleteIn, queryIn, beginTests, beginOf, interimItems, stepItem, stepIn, stepTests, stepOf}
 use Rattle.rules.specs.Calls.{endTests, endOf, recoverOf, Call, query, insert, update, delete, begin, step, end, recover, outcome}
 use Rattle.rules.specs.NoPlace.{NoPlaceFor}
-use Rattle.rules.specs.Demands.{AtRest, Growing, Held, InterimItem, FirstInterim, NoInterim, OfNoKind, changingRefusals, refusals, FirstRefuses}
+use Rattle.rules.specs.Demands.{AtRest, Growing, Held, InterimItem, NoInterim, NoneHasPlace, OfNoKind, changingRefusals, refusals, FirstRefuses}
 use Rattle.rules.specs.Demands.{RefusalsInOrder, HeaderWords, badHeader, flagNotZero}
 use Rattle.rules.specs.declared.Slot.{Slot}
 use Rattle.rules.specs.declared.Record.{Record}
@@ -35,7 +36,7 @@ use Rattle.rules.specs.declared.Refusal.the-variants.{AtCapacity, Interi
 use Rattle.rules.proofs.Basics.Lists.{never}
 use Rattle.rules.proofs.Basics.Tests.{Tells, tells-eq}
 use Rattle.rules.proofs.Places.Placings.{some-place, no-place}
-use Rattle.rules.proofs.Tables.Interims.{step-item, no-step-item, first-interim-one, interim-empty, interim-left}
+use Rattle.rules.proofs.Tables.Interims.{step-item, no-step-item, interim-empty, interim-left}
 use Rattle.rules.proofs.Tables.Sound.{header-tells}
 use Rattle.rules.proofs.Words.HeaderWords.{header-words}
 use Rattle.rules.proofs.Tables.Findings.{KindOf, finding-means}
@@ -116,15 +117,15 @@ module _ (t : Table) where
       go (Stands x n) e = inr (λ d. d (held key x n e), a x n)
       go (Absent n) e = inl (not-held key n e, b n)
 
-  -- "no place": insert and growth step
+  -- "no place"
   placed-refuses : (key : ℕ) (stores : Placing → List Store)
       → ByFirst ((NoPlaceFor t (headerOf t) key, NoPlace) ∷ []) (placedBy (placing t (headerOf t) key) (stores (placing t (headerOf t) key)))
   unfolding ByFirst
   placed-refuses key stores = go (placing t (headerOf t) key) refl
     where
       go : (p : Placing) → placing t (headerOf t) key ≡ p → ByFirst ((NoPlaceFor t (headerOf t) key, NoPlace) ∷ []) (placedBy p (stores p))
-      go (Free x) e = inr (some-place t (headerOf t) key (Free x) tt e, (_, refl))
-      go (Move from to) e = inr (some-place t (headerOf t) key (Move from to) tt e, (_, refl))
+      go (Free x) e = inr (some-place t (headerOf t) key (Free x) refl e, (_, refl))
+      go (Move from to) e = inr (some-place t (headerOf t) key (Move from to) refl e, (_, refl))
       go Nowhere e = inl (no-place t (headerOf t) key .0 e, refl)
 
   insert-refuses : (key : ℕ) (r : Record)
@@ -145,34 +146,29 @@ module _ (t : Table) where
   unfolding beginOf beginTests
   begin-refuses = unless _ AlreadyGrowing _ _ (AtRest t) rest-tells (when _ AtCapacity _ _ _ (tells-eq _ _) (accepted (beginStores (headerOf t .state))))
 
-  -- not growing, and else what follows
-  growing-or : (fs : List (Type 0 × Refusal)) (o : Outcome) → ByFirst fs o → ByFirst ((AtRest t, NotGrowing) ∷ fs) (checked refused (stepTests (headerOf t)) o)
-  unfolding stepTests
-  growing-or fs o = when (atRest (headerOf t .state)) NotGrowing fs o (AtRest t) rest-tells
-
-  item-refuses : ByFirst ((NoInterim t, InterimEmpty) ∷ (((x : Slot) × FirstInterim t x × NoPlaceFor t (headerOf t) (keyIn t x)), NoPlace) ∷ [])
-      (stepIn t (headerOf t) (stepItem t (headerOf t)))
+  -- "interim items remain and none has one"
+  item-refuses : (x : Slot) → InterimItem t x → ByFirst ((NoneHasPlace t, NoPlace) ∷ []) (stepIn t (headerOf t) (stepItem t (headerOf t)))
   unfolding ByFirst
-  item-refuses = go (stepItem t (headerOf t)) refl
+  item-refuses x item = go (stepItem t (headerOf t)) refl
     where
-      go : (o : Option Slot) → stepItem t (headerOf t) ≡ o
-          → ByFirst ((NoInterim t, InterimEmpty) ∷ (((x : Slot) × FirstInterim t x × NoPlaceFor t (headerOf t) (keyIn t x)), NoPlace) ∷ [])
-          (stepIn t (headerOf t) o)
-      go none e = inl (no-step-item t e, refl)
-      go (some x) e =
-          let first = step-item t x e in
-          inr (
-            λ n. n x (first .item),
-            ⊎-elim (λ r. inl ((x, first, r .0), r .1)) (λ r. inr (λ y. r .0 (rw (first-interim-one t x (y .0) first (y .1)) (y .2)), r .1))
-                (placed-refuses (keyIn t x) (stepStores t (headerOf t) x)),
-          )
+      go : (o : Option Slot) → stepItem t (headerOf t) ≡ o → ByFirst ((NoneHasPlace t, NoPlace) ∷ []) (stepIn t (headerOf t) o)
+      go none e = inl (record { remain = (x, item); stuck = no-step-item t e }, refl)
+      go (some y) e = let f = step-item t y e in inr (λ n. f .place (n .stuck y (f .item)), (_, refl))
 
-  step-refuses : ByFirst ((AtRest t, NotGrowing) ∷ (
-    NoInterim t,
-    InterimEmpty,
-  ) ∷ (((x : Slot) × FirstInterim t x × NoPlaceFor t (headerOf t) (keyIn t x)), NoPlace) ∷ []) (stepOf t (headerOf t))
-  unfolding stepOf
-  step-refuses = growing-or _ _ item-refuses
+  -- "interim empty", and else that
+  interim-refuses : ByFirst ((NoInterim t, InterimEmpty) ∷ (NoneHasPlace t, NoPlace) ∷ [])
+      (checked refused ((not (empty (interimItems t (headerOf t))), InterimEmpty) ∷ []) (stepIn t (headerOf t) (stepItem t (headerOf t))))
+  unfolding ByFirst
+  interim-refuses = go (empty (interimItems t (headerOf t))) refl
+    where
+      go : (b : Bool) → empty (interimItems t (headerOf t)) ≡ b → ByFirst ((NoInterim t, InterimEmpty) ∷ (NoneHasPlace t, NoPlace) ∷ [])
+          (checked refused ((not b, InterimEmpty) ∷ []) (stepIn t (headerOf t) (stepItem t (headerOf t))))
+      go true e = inl (interim-empty t .0 e, refl)
+      go false e = let x = interim-left t e in inr (λ n. n (x .0) (x .1), item-refuses (x .0) (x .1))
+
+  step-refuses : ByFirst ((AtRest t, NotGrowing) ∷ (NoInterim t, InterimEmpty) ∷ (NoneHasPlace t, NoPlace) ∷ []) (stepOf t (headerOf t))
+  unfolding stepOf stepTests
+  step-refuses = when _ NotGrowing _ _ (AtRest t) rest-tells interim-refuses
 
   end-refuses : ByFirst ((AtRest t, NotGrowing) ∷ (((x : Slot) × InterimItem t x), InterimTaken) ∷ []) (endOf t (headerOf t))
   unfolding endOf endTests

@@ -1,4 +1,4 @@
--- step's answer: it is that of the call step, with the placing of the first interim item where the step is accepted, and no
+-- step's answer: it is that of the call step, with the placing of the item that it takes where it is accepted, and no
 -- placing where it is refused.
 -- Assumes nothing.
 use mathlib.Core.Path.{_≡_, refl}
@@ -10,7 +10,7 @@ use Rattle.rules.specs.Placing.{placing}
 use Rattle.rules.specs.Answers.{numberOf, steppedMeans}
 use Rattle.rules.specs.Calls.{Outcome, refused, listed, step, stepItem, outcome}
 use Rattle.rules.specs.Results.{changeOf, changeResult, stepPlacing, stepResult}
-use Rattle.rules.specs.Demands.{FirstInterim, StepIsACall}
+use Rattle.rules.specs.Demands.{FirstWithPlace, StepIsACall}
 use Rattle.rules.specs.declared.Slot.{Slot}
 use Rattle.rules.specs.declared.Stepped.{Stepped}
 use Rattle.rules.proofs.Calls.Meanings.{refusal-number}
@@ -26,7 +26,7 @@ module _ (t : Table) where
   refused-bare (refused r) n = refl
   refused-bare (listed xs) n = absurd (n refl)
 
-  tells-placing : (o : Outcome) → steppedMeans (answer o) .number ≡ 0 → (x : Slot) → FirstInterim t x → answer o .placing ≡ placing t (headerOf t) (keyIn t x)
+  tells-placing : (o : Outcome) → steppedMeans (answer o) .number ≡ 0 → (x : Slot) → FirstWithPlace t x → answer o .placing ≡ placing t (headerOf t) (keyIn t x)
   unfolding steppedMeans
   tells-placing (refused r) e x f = absurd (eqb-false (numberOf r) 0 (refusal-number r) e)
   tells-placing (listed xs) e x f = rw (first-item t x f)

@@ -2,19 +2,20 @@
 -- Assumes nothing.
 use Prim.Native.Nat.{ℕ}
 use mathlib.Core.Path.{_≡_, refl}
+use mathlib.Core.Bool.{true}
 use mathlib.Core.List.{List, [], _++_}
 use mathlib.Core.Option.{Option, none, some}
 use native.Mathlib.Omega.{arith}
 use Rattle.rules.specs.Words.{Table, headerOf, loggedOf, stateWord, placeOf, tokenWord, keyWord, functionWord, placeWord, keyIn, recordIn, tokenOf}
 use Rattle.rules.specs.Places.{lookup}
-use Rattle.rules.specs.Placing.{freeSlot, placing}
+use Rattle.rules.specs.Placing.{freeSlot, placing, somewhere}
 use Rattle.rules.specs.Stores.{Store, putStores, clearStores, moveStores, placingStores, redoStores, updateWith, updateStores, beginStores}
 use Rattle.rules.specs.Stores.{endStores, stepStores}
 use Rattle.rules.specs.Soundness.{finding}
 use Rattle.rules.specs.Calls.{refused, listed, placedBy, insertIn, updateIn, deleteIn, queryIn, beginTests, beginOf, stepItem, stepIn}
 use Rattle.rules.specs.Calls.{stepTests, stepOf, endTests, endOf, recoverOf, query, insert, update, delete, begin, step, end, recover, testsOf}
 use Rattle.rules.specs.Calls.{outcome}
-use Rattle.rules.specs.Demands.{FirstHolder, FirstInterim, PlacingWritten, UpdateWritten, RecoveryWritten, Written, StoresAsWritten}
+use Rattle.rules.specs.Demands.{FirstHolder, FirstWithPlace, PlacingWritten, UpdateWritten, RecoveryWritten, Written, StoresAsWritten}
 use Rattle.rules.specs.declared.Header.{Header}
 use Rattle.rules.specs.declared.Slot.{Slot}
 use Rattle.rules.specs.declared.Record.{Record}
@@ -27,6 +28,8 @@ use Rattle.rules.specs.declared.Finding.the-variants.{Sound, Doubled, Fl
 use Rattle.rules.specs.declared.Refusal.{Refusal}
 use Rattle.rules.proofs.Calls.Checked.{checked-listed}
 use Rattle.rules.proofs.Tables.Interims.{step-item}
+use Rattle.rules.proofs.Basics.Lists.{never}
+use Rattle.rules.proofs.Places.Placings.{placed-somewhere}
 use Rattle.rules.proofs.Places.Lookups.{lookup-stands}
 
 pub listed-one : {xs ys : List Store} → listed xs ≡ listed ys → ys ≡ xs
@@ -64,17 +67,18 @@ module _ (t : Table) (h : Header) (xs : List Store) where
   delete-written key (Absent n) q e = never-listed e
 
   -- a step's stores are those of its placing, and then the interim token
-  step-by : (x : Slot) (p : Placing) → placedBy p (stepStores t h x p) ≡ listed xs
+  step-by : (x : Slot) (p : Placing) → somewhere p ≡ true → xs ≡ stepStores t h x p
       → (ys : List Store) × PlacingWritten t h (keyIn t x) (recordIn t x) p ys × (xs ≡ ys ++ clearStores h (tokenOf t (x .bucket)) x)
   unfolding stepStores placingStores moveStores putStores keyWord tokenWord functionWord placeWord
-  step-by x (Free to) e = (placingStores t h (Free to) (keyIn t x) (recordIn t x), refl, listed-one e)
-  step-by x (Move from to) e = (placingStores t h (Move from to) (keyIn t x) (recordIn t x), unfold clearStores in refl, listed-one e)
-  step-by x Nowhere e = never-listed e
+  step-by x (Free to) s e = (placingStores t h (Free to) (keyIn t x) (recordIn t x), refl, e)
+  step-by x (Move from to) s e = (placingStores t h (Move from to) (keyIn t x) (recordIn t x), unfold clearStores in refl, e)
+  step-by x Nowhere s e = never s refl
 
-  step-written : (o : Option Slot) → ((x : Slot) → o ≡ some x → FirstInterim t x) → stepIn t h o ≡ listed xs → Written t h step xs
+  step-written : (o : Option Slot) → ((x : Slot) → o ≡ some x → FirstWithPlace t x × (somewhere (placing t h (keyIn t x)) ≡ true))
+      → stepIn t h o ≡ listed xs → Written t h step xs
   unfolding clearStores tokenWord
   step-written none q e = never-listed e
-  step-written (some x) q e = let r = step-by x (placing t h (keyIn t x)) e in (x, r .0, q x refl, r .1, r .2)
+  step-written (some x) q e = let r = step-by x (placing t h (keyIn t x)) (q x refl .1) (listed-one e) in (x, r .0, q x refl .0, r .1, r .2)
 
   recover-written : (f : Finding) → recoverOf t h f ≡ listed xs → RecoveryWritten t h f xs
   unfolding clearStores redoStores loggedOf keyWord tokenWord functionWord placeWord
@@ -99,7 +103,8 @@ storesAsWritten t n (delete key) xs e =
     delete-written t (headerOf t) xs key (lookup t (headerOf t) key) (λ x m q. lookup-stands t key x m q .0) (checked-listed _ xs (testsOf t n (delete key)) e)
 storesAsWritten t n begin xs e = listed-one (checked-listed _ xs (beginTests (headerOf t)) (checked-listed _ xs (testsOf t n begin) e))
 storesAsWritten t n step xs e =
-    step-written t (headerOf t) xs (stepItem t (headerOf t)) (step-item t)
-    (checked-listed _ xs (stepTests (headerOf t)) (checked-listed _ xs (testsOf t n step) e))
+    step-written t (headerOf t) xs (stepItem t (headerOf t))
+    (λ x i. let f = step-item t x i in (f, placed-somewhere t (headerOf t) (keyIn t x) (f .place)))
+    (checked-listed _ xs (stepTests t (headerOf t)) (checked-listed _ xs (testsOf t n step) e))
 storesAsWritten t n end xs e = listed-one (checked-listed _ xs (endTests t (headerOf t)) (checked-listed _ xs (testsOf t n end) e))
 storesAsWritten t n recover xs e = recover-written t (headerOf t) xs (finding t) (checked-listed _ xs (testsOf t n recover) e)

@@ -4,28 +4,30 @@
 -- Assumes nothing.
 use Prim.Native.Nat.{ℕ}
 use mathlib.Core.Path.{_≡_, refl, sym, _∙_}
+use mathlib.Core.Bool.{true}
 use mathlib.Core.List.{List, [], _∷_, _++_, append-assoc}
 use mathlib.Core.Logic.{_⊎_, inl, inr}
 use mathlib.Core.Option.{Option, none, some}
 use native.Mathlib.Decide.{ℕ-discrete}
 use Rattle.rules.specs.Words.{Table, headerOf, placeOf, keyIn, recordIn, tokenOf, hide}
 use Rattle.rules.specs.Places.{lookup}
-use Rattle.rules.specs.Placing.{freeSlot, placing}
+use Rattle.rules.specs.Placing.{freeSlot, placing, somewhere}
 use Rattle.rules.specs.Stores.{Store, putStores, clearStores, moveStores, placingStores, updateWith, updateStores, stepStores, made}
 use Rattle.rules.specs.Soundness.{TakenSlot, PlainMap}
 use Rattle.rules.specs.Calls.{Outcome, refused, listed, placedBy, insertIn, updateIn, stepItem, stepIn, stepTests, stepOf, Call, query, insert}
 use Rattle.rules.specs.Calls.{update, delete, begin, step, end, recover, outcome}
-use Rattle.rules.specs.Demands.{AtRest, Given, Gives, mapWith, mapAfter, InterimItem, NoInterim, FirstInterim, InsertBy, ChangeBy, StepBy}
+use Rattle.rules.specs.Demands.{AtRest, Given, Gives, mapWith, mapAfter, InterimItem, NoInterim, FirstWithPlace, NoneHasPlace, InsertBy, ChangeBy, StepBy}
 use Rattle.rules.specs.declared.State.{State}
 use Rattle.rules.specs.declared.Slot.{Slot}
 use Rattle.rules.specs.declared.Record.{Record}
 use Rattle.rules.specs.declared.Placing.{Placing}
 use Rattle.rules.specs.declared.Placing.the-variants.{Free, Move, Nowhere}
-use Rattle.rules.specs.declared.Refusal.the-variants.{InterimEmpty, InterimTaken}
+use Rattle.rules.specs.declared.Refusal.the-variants.{NoPlace, InterimEmpty, InterimTaken}
+use Rattle.rules.proofs.Basics.Lists.{never}
 use Rattle.rules.proofs.Words.Made.{made-append}
 use Rattle.rules.proofs.Words.FreeSlots.{free-slot}
 use Rattle.rules.proofs.Places.PlacesInUse.{among-used, place-of-slot, slot-of-place}
-use Rattle.rules.proofs.Places.Placings.{MoveFor, Somewhere, placing-free, placing-move}
+use Rattle.rules.proofs.Places.Placings.{MoveFor, placed-somewhere, placing-free, placing-move}
 use Rattle.rules.proofs.Tables.Interims.{step-item}
 use Rattle.rules.proofs.Places.Lookups.{lookup-known, lookup-unknown}
 use Rattle.rules.proofs.Calls.Checked.{checked-listed}
@@ -86,7 +88,7 @@ module _ (t : Table) (m : PlainMap) (whole : SoundMap t m) where
 
   -- a step: one move, or two
   module _ (x : Slot) (item : InterimItem t x) where
-    step-cuts : (p : Placing) → Somewhere p → placing t (headerOf t) (keyIn t x) ≡ p → EveryCut (λ (u : Table). Mends u m) t (stepStores t (headerOf t) x p)
+    step-cuts : (p : Placing) → somewhere p ≡ true → placing t (headerOf t) (keyIn t x) ≡ p → EveryCut (λ (u : Table). Mends u m) t (stepStores t (headerOf t) x p)
     unfolding stepStores placingStores moveStores
     step-cuts (Free y) o e =
         let f = placing-free t (headerOf t) (keyIn t x) y e in
@@ -114,7 +116,7 @@ module _ (t : Table) (m : PlainMap) (whole : SoundMap t m) where
         ) at second in
         rw (append-assoc (moveStores t h from to) puts clears)
         (cuts-append (λ (u : Table). Mends u m) t (moveStores t h from to) (puts ++ clears) (moving-cuts (keyIn t x) from to f) again)
-    step-cuts Nowhere o e = absurd o
+    step-cuts Nowhere o e = never o refl
 
 -- ---- an accepted call, made whole
 
@@ -149,11 +151,12 @@ module _ (t : Table) (m : PlainMap) (n : ℕ) (given : Given t m n) where
   step-whole : (xs : List Store) → outcome t n step ≡ listed xs → SoundMap (made t xs) m
   step-whole xs e = go (ℕ-discrete (headerOf t .state .phase) 0)
     where
-      grown : (NoInterim t × (outcome t n step ≡ refused InterimEmpty)) ⊎ ((x : Slot) × FirstInterim t x × StepBy t m x (outcome t n step))
+      grown : (NoInterim t × (outcome t n step ≡ refused InterimEmpty))
+          ⊎ ((NoneHasPlace t × (outcome t n step ≡ refused NoPlace)) ⊎ ((x : Slot) × FirstWithPlace t x × StepBy t m x (outcome t n step)))
           → SoundMap (made t xs) m
       grown (inl k) = never-listed (sym (k .1) ∙ e)
-      grown (inr (x, first, inl k)) = never-listed (sym (k .1) ∙ e)
-      grown (inr (x, first, inr k)) = given-whole t _ _ _ xs e (k .1 .0)
+      grown (inr (inl k)) = never-listed (sym (k .1) ∙ e)
+      grown (inr (inr (x, first, k))) = given-whole t _ _ _ xs e (k .0)
 
       go : Dec (AtRest t) → SoundMap (made t xs) m
       go (yes rest) = never-listed (sym (stepAnswers t m n given .0 rest) ∙ e)
@@ -230,16 +233,12 @@ module _ (t : Table) (m : PlainMap) (n : ℕ) (given : Given t m n) where
   step-safe : (xs : List Store) → stepIn t (headerOf t) (stepItem t (headerOf t)) ≡ listed xs → EveryCut (Either m m) t xs
   step-safe xs e = item (stepItem t (headerOf t)) refl e
     where
-      by-placing : (x : Slot) → FirstInterim t x → (p : Placing) → placing t (headerOf t) (keyIn t x) ≡ p
-          → placedBy p (stepStores t (headerOf t) x p) ≡ listed xs → EveryCut (λ (u : Table). Mends u m) t xs
-      by-placing x first (Free y) q f = rw (listed-one f) (step-cuts t m (whole-of t m n given) x (first .item) (Free y) tt q)
-      by-placing x first (Move from to) q f = rw (listed-one f) (step-cuts t m (whole-of t m n given) x (first .item) (Move from to) tt q)
-      by-placing x first Nowhere q f = never-listed f
-
       item : (o : Option Slot) → stepItem t (headerOf t) ≡ o → stepIn t (headerOf t) o ≡ listed xs → EveryCut (Either m m) t xs
       item none q f = never-listed f
-      item (some x) q f = cuts-weaken (λ (u : Table). Mends u m) (Either m m) (λ u k. inl k) t xs
-          (by-placing x (step-item t x q) (placing t (headerOf t) (keyIn t x)) refl f)
+      item (some x) q f =
+          let first = step-item t x q in
+          cuts-weaken (λ (u : Table). Mends u m) (Either m m) (λ u k. inl k) t xs
+          (rw (listed-one f) (step-cuts t m (whole-of t m n given) x (first .item) _ (placed-somewhere t (headerOf t) (keyIn t x) (first .place)) refl))
 
   pub call-cuts : (q : Call) (xs : List Store) → outcome t n q ≡ listed xs → EveryCut (Either m (mapAfter q m)) t xs
   unfolding outcome stepOf
@@ -248,6 +247,6 @@ module _ (t : Table) (m : PlainMap) (n : ℕ) (given : Given t m n) where
   call-cuts (update key r) xs e = update-cuts key r xs (rw (passes t m n given) at e) (call-whole (update key r) xs e)
   call-cuts (delete key) xs e = let w = storesAsWritten t n (delete key) xs e in one-store _ _ xs (w .2) (call-whole (delete key) xs e)
   call-cuts begin xs e = one-store m _ xs (storesAsWritten t n begin xs e) (begin-whole xs e)
-  call-cuts step xs e = step-safe xs (checked-listed _ xs (stepTests (headerOf t)) (rw (passes t m n given) at e))
+  call-cuts step xs e = step-safe xs (checked-listed _ xs (stepTests t (headerOf t)) (rw (passes t m n given) at e))
   call-cuts end xs e = one-store m _ xs (storesAsWritten t n end xs e) (end-whole xs e)
   call-cuts recover xs e = rw (listed-one (sym (recoverAnswers t m n given) ∙ e)) (inl (asSound (whole-of t m n given)))

@@ -108,20 +108,11 @@ module _ (t : Table) (n : ℕ) (growing : Growing t) where
 
   step-taken : (xs : List Store) → outcome t n step ≡ listed xs → (x : Slot) × Steps t (made t xs) x
   unfolding outcome stepOf
-  step-taken xs e = item (stepItem t (headerOf t)) refl (checked-listed _ xs (stepTests (headerOf t)) (checked-listed _ xs (changingTests t n) e))
+  step-taken xs e = item (stepItem t (headerOf t)) refl (checked-listed _ xs (stepTests t (headerOf t)) (checked-listed _ xs (changingTests t n) e))
     where
-      good : GoodHeader (length t) (headerOf t)
-      good = accepted-header t n step xs e
-
-      by-placing : (x : Slot) → InterimItem t x → (p : Placing) → placing t (headerOf t) (keyIn t x) ≡ p
-          → placedBy p (stepStores t (headerOf t) x p) ≡ listed xs → Steps t (made t xs) x
-      by-placing x i (Free y) q f = rw (listed-one f) (step-less t good growing x i (Free y) q)
-      by-placing x i (Move from to) q f = rw (listed-one f) (step-less t good growing x i (Move from to) q)
-      by-placing x i Nowhere q f = never-listed f
-
       item : (o : Option Slot) → stepItem t (headerOf t) ≡ o → stepIn t (headerOf t) o ≡ listed xs → (x : Slot) × Steps t (made t xs) x
       item none q f = never-listed f
-      item (some x) q f = (x, by-placing x (step-item t x q .item) (placing t (headerOf t) (keyIn t x)) refl f)
+      item (some x) q f = (x, rw (listed-one f) (step-less t (accepted-header t n step xs e) growing x (step-item t x q .item) _ refl))
 
   begin-refused : (xs : List Store) → outcome t n begin ≡ listed xs → ⊥
   unfolding outcome beginOf beginTests atRest

@@ -1,5 +1,5 @@
 -- What the calls do to the token words of the interim level while growing, on every table that they accept: a placing leaves them, an
--- update sets one bit where it clears one, a delete and a recovery clear at most one, and a step clears the first that is set.
+-- update sets one bit where it clears one, a delete and a recovery clear at most one, and a step clears one.
 -- Assumes nothing.
 use Prim.Native.Nat.{ℕ, _+_, _*_, _≤_}
 use mathlib.Core.Path.{_≡_, refl, sym, ap, _∙_}

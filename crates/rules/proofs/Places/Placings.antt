@@ -2,7 +2,7 @@
 -- that stands in such a place; or "every candidate slot is taken and no single permitted move frees one". On every table.
 -- Assumes nothing.
 use Prim.Native.Nat.{ℕ, _<_, _≤_}
-use mathlib.Core.Path.{_≡_, refl, ap, _∙_}
+use mathlib.Core.Path.{_≡_, refl, sym, ap, _∙_}
 use mathlib.Core.Bool.{Bool, true, false, cond}
 use mathlib.Core.List.{_∷_, _++_, List·Memᴰ as In, List·Memᴰ·head as here, List·Memᴰ·tail as there, Memᴰ·append-right}
 use mathlib.Core.Logic.{_↔_, _⊎_, inl, inr, ⊎-elim}
@@ -12,7 +12,7 @@ use borrow.Author.Tests.{ltb-true, ltb-false}
 use Rattle.rules.specs.Choice.{orElse, firstOf}
 use Rattle.rules.specs.Words.{Table, top, bottom, topOf, bottomOf, levelsInUse, slotAt, slotsIn, placeOf, keyIn, tokenOf, isTaken, slots, takenOf, taken}
 use Rattle.rules.specs.Places.{hashesOf, firstPlace, secondPlace, probes, placesOf}
-use Rattle.rules.specs.Placing.{takenIn, freeSlot, fewer, emptier, roomIn, Candidate, candidates, moveOf, placing}
+use Rattle.rules.specs.Placing.{takenIn, freeSlot, fewer, emptier, roomIn, Candidate, candidates, moveOf, placing, somewhere}
 use Rattle.rules.specs.NoPlace.{AtPlace, CandidateSlot, MayGo, PermittedMove, NoPlaceFor}
 use Rattle.rules.specs.declared.Header.{Header}
 use Rattle.rules.specs.declared.Level.{Level}
@@ -108,12 +108,6 @@ module _ (t : Table) (h : Header) where
 
 -- ---- the placing
 
--- a placing that is not nothing
-abbrev pub Somewhere : Placing → Type 0
-Somewhere (Free x) = Unit {0}
-Somewhere (Move from to) = Unit {0}
-Somewhere Nowhere = ⊥
-
 module _ (t : Table) (h : Header) (key : ℕ) where
   placing-candidate : (x : Slot) → placing t h key ≡ Free x → CandidateSlot h key x × (taken t h x ≡ false)
   placing-candidate x e = go (free-chosen t h key x e)
@@ -203,5 +197,18 @@ module _ (t : Table) (h : Header) (key : ℕ) where
       none-found n Nowhere q = refl
 
   -- a free slot or a move is a place
-  pub some-place : (p : Placing) → Somewhere p → placing t h key ≡ p → NoPlaceFor t h key → ⊥
-  some-place p s e n = rw (← e, no-place .1 n) at s
+  pub some-place : (p : Placing) → somewhere p ≡ true → placing t h key ≡ p → NoPlaceFor t h key → ⊥
+  some-place p s e n = never s (ap somewhere (sym e ∙ no-place .1 n))
+
+  pub none-somewhere : (p : Placing) → somewhere p ≡ false → placing t h key ≡ p → NoPlaceFor t h key
+  none-somewhere (Free x) s e = never refl s
+  none-somewhere (Move from to) s e = never refl s
+  none-somewhere Nowhere s e = no-place .0 e
+
+  pub placed-somewhere : (NoPlaceFor t h key → ⊥) → somewhere (placing t h key) ≡ true
+  placed-somewhere f = go (placing t h key) refl
+    where
+      go : (p : Placing) → placing t h key ≡ p → somewhere p ≡ true
+      go (Free x) e = refl
+      go (Move from to) e = refl
+      go Nowhere e = absurd (f (no-place .0 e))

@@ -1,5 +1,5 @@
--- The interim items: those that a step and an end look at are the taken slots of the interim level, and the one that a step
--- takes is the first of them, "bucket, then slot ascending".
+-- The interim items: those that a step and an end look at are the taken slots of the interim level, and the one that a step takes is
+-- "the first interim item, in the same order, that has a place".
 -- Assumes nothing.
 use mathlib.Core.Path.{_≡_, refl, sym, ap, _∙_}
 use mathlib.Core.Bool.{false}
@@ -8,18 +8,20 @@ use mathlib.Core.Logic.{_↔_, _⊎_, inl, inr}
 use mathlib.Core.Option.{Option, none, some}
 use lib.Dec.{eqb}
 use borrow.Author.Tests.{eqb-true, eq-eqb}
-use Rattle.rules.specs.Choice.{select, empty}
-use Rattle.rules.specs.Words.{Table, headerOf, interim, levelsInUse, slotsOf, InUse, taken}
+use Rattle.rules.specs.Choice.{given, select, empty}
+use Rattle.rules.specs.Words.{Table, headerOf, interim, levelsInUse, slotsOf, InUse, keyIn, taken}
 use Rattle.rules.specs.Soundness.{Before}
-use Rattle.rules.specs.Calls.{interimSlots, interimItems, stepItem}
-use Rattle.rules.specs.Demands.{InterimItem, FirstInterim, NoInterim}
+use Rattle.rules.specs.Calls.{interimSlots, interimItems, hasPlace, stepItem}
+use Rattle.rules.specs.NoPlace.{NoPlaceFor}
+use Rattle.rules.specs.Demands.{InterimItem, NoInterim, FirstWithPlace}
 use Rattle.rules.specs.declared.State.{State}
 use Rattle.rules.specs.declared.Level.{Level}
 use Rattle.rules.specs.declared.Slot.{Slot}
-use Rattle.rules.proofs.Basics.Lists.{empty-none, none-empty, empty-some, head-none, select-in, in-select, flatMap-in, in-flatMap, Ascending}
-use Rattle.rules.proofs.Basics.Lists.{ascending-select, ascending-head}
+use Rattle.rules.proofs.Basics.Lists.{firstOf-some, firstOf-none, given-some, given-none, empty-none, none-empty, empty-some, select-in}
+use Rattle.rules.proofs.Basics.Lists.{in-select, flatMap-in, in-flatMap, Ascending, ascending-select, ascending-before, ascending-compare}
 use Rattle.rules.proofs.Basics.Tests.{Tells}
 use Rattle.rules.proofs.Words.SlotsInUse.{Lower, levels-ascend, slot-of-level, slots-of-level, slots-of-levels-ascend}
+use Rattle.rules.proofs.Places.Placings.{some-place, none-somewhere}
 use Rattle.rules.proofs.Tables.Twins.{before-once}
 
 module _ (s : State) where
@@ -53,13 +55,25 @@ module _ (t : Table) where
     λ u. in-select (taken t (headerOf t)) (slot-interim (headerOf t .state) x (u .item .used) (u .level)) (u .item .shown),
   )
 
+  items-ascend : Ascending Before (interimItems t (headerOf t))
+  unfolding interimItems
+  items-ascend = ascending-select Before (taken t (headerOf t)) (interimSlots (headerOf t .state)) (interim-ascends (headerOf t .state))
+
   -- the item that a step takes
-  pub step-item : (x : Slot) → stepItem t (headerOf t) ≡ some x → FirstInterim t x
-  unfolding stepItem interimItems
+  pub step-item : (x : Slot) → stepItem t (headerOf t) ≡ some x → FirstWithPlace t x
+  unfolding stepItem hasPlace
   step-item x e =
-      let r = ascending-head Before (interimItems t (headerOf t))
-      (ascending-select Before (taken t (headerOf t)) (interimSlots (headerOf t .state)) (interim-ascends (headerOf t .state))) x e in
-      record { item = interim-item x .0 (r .0); first = λ y u. r .1 y (interim-item y .1 u) }
+      let h = headerOf t in
+      let f = firstOf-some (λ (y : Slot). given (hasPlace t h y) y) (interimItems t h) x e in
+      let g = given-some (hasPlace t h (f .found)) (f .found) x (f .gives) in
+      record {
+        item = interim-item x .0 (rw (g .1) at (f .inside));
+        place = some-place t h (keyIn t x) _ (rw (g .1) at (g .0)) refl;
+        earlier = λ y i b.
+            let among = ascending-before Before before-once (f .earlier) (f .found) (f .later) (rw (f .split) at items-ascend) y
+            (rw (f .split) at (interim-item y .1 i)) (rw (g .1) b) in
+            none-somewhere t h (keyIn t y) _ (given-none (hasPlace t h y) y (f .before y among)) refl;
+      }
 
   pub interim-empty : Tells (empty (interimItems t (headerOf t))) (NoInterim t)
   interim-empty = (λ e x u. empty-none _ e x (interim-item x .1 u), λ n. none-empty _ (λ x i. n x (interim-item x .0 i)))
@@ -67,23 +81,26 @@ module _ (t : Table) where
   pub interim-left : empty (interimItems t (headerOf t)) ≡ false → (x : Slot) × InterimItem t x
   interim-left e = let r = empty-some _ e in (r .0, interim-item (r .0) .0 (r .1))
 
-  pub no-step-item : stepItem t (headerOf t) ≡ none → NoInterim t
-  unfolding stepItem
-  no-step-item e = interim-empty .0 (head-none (interimItems t (headerOf t)) e)
+  pub no-step-item : stepItem t (headerOf t) ≡ none → (x : Slot) → InterimItem t x → NoPlaceFor t (headerOf t) (keyIn t x)
+  unfolding stepItem hasPlace
+  no-step-item e x i =
+      let h = headerOf t in
+      let f = firstOf-none (λ (y : Slot). given (hasPlace t h y) y) (interimItems t h) e x (interim-item x .1 i) in
+      none-somewhere t h (keyIn t x) _ (given-none (hasPlace t h x) x f) refl
 
-  -- there is one first item
-  pub first-interim-one : (x y : Slot) → FirstInterim t x → FirstInterim t y → x ≡ y
-  first-interim-one x y f g = go (f .first y (g .item)) (g .first x (f .item))
+  -- there is one first item that has a place
+  pub first-one : (x y : Slot) → FirstWithPlace t x → FirstWithPlace t y → x ≡ y
+  first-one x y f g = go (ascending-compare Before (interimItems t (headerOf t)) items-ascend x y (interim-item x .1 (f .item)) (interim-item y .1 (g .item)))
     where
-      go : (y ≡ x) ⊎ Before x y → (x ≡ y) ⊎ Before y x → x ≡ y
-      go (inl e) b = sym e
-      go (inr b) (inl e) = e
-      go (inr b) (inr c) = absurd (before-once x y b c)
+      go : (x ≡ y) ⊎ (Before x y ⊎ Before y x) → x ≡ y
+      go (inl e) = e
+      go (inr (inl b)) = absurd (f .place (g .earlier x (f .item) b))
+      go (inr (inr b)) = absurd (g .place (f .earlier y (g .item) b))
 
-  -- the first interim item is the one that a step takes
-  pub first-item : (x : Slot) → FirstInterim t x → stepItem t (headerOf t) ≡ some x
+  -- and it is the one that a step takes
+  pub first-item : (x : Slot) → FirstWithPlace t x → stepItem t (headerOf t) ≡ some x
   first-item x f = go (stepItem t (headerOf t)) refl
     where
       go : (o : Option Slot) → stepItem t (headerOf t) ≡ o → o ≡ some x
-      go none q = absurd (no-step-item q x (f .item))
-      go (some y) q = ap some (first-interim-one y x (step-item y q) f)
+      go none q = absurd (f .place (no-step-item q x (f .item)))
+      go (some y) q = ap some (first-one y x (step-item y q) f)

@@ -11,12 +11,12 @@ use Rattle.rules.proofs.Words.Headers.{header-state, next-bucket-fits}
 use Rattle.rules.proofs.Words.Levels.{interim-used, exponent-fits}
 use Rattle.reading.specs.Within.{BucketWithin}
 use Rattle.growing.specs.Interim.{itemOf}
-use Rattle.growing.proofs.FirstItem.{itemFrom, items-all, items-hit, items-pass, items-over}
+use Rattle.growing.proofs.Searches.{foundFrom, found-hit, found-pass, found-over, itemAt, items-all, item-here, item-none}
 use Rattle.growing.proofs.interim.first_item.Statement.{statement}
 use Rattle.growing.proofs.interim.first_item.Tie as tie
 
 abbrev Inv-loop : tie.InvT-loop
-Inv-loop t h level m i₀ i = itemFrom t h 0 ≡ itemFrom t h i
+Inv-loop t h level m i₀ i = foundFrom h (itemAt t h) 0 ≡ foundFrom h (itemAt t h) i
 
 abbrev μ-loop : tie.MeasureT-loop
 μ-loop t h level m i₀ i = m - i
@@ -62,8 +62,8 @@ returns c =
     let p = d .before .before in
     let s = p .before .before .before in (
       sym (ap itemOf (items-all _ _ (s .pre .1) ∙ d .before .loop .inv
-          ∙ items-hit _ _ _ _ (p .before .interim .ensures .0) (p .power .ensures .0) (d .loop-test .taken) (c .before .before .token .ensures)
-          (c .before .lowest-taken .ensures) (c .if1 .taken))),
+          ∙ found-hit _ _ _ _ (p .before .interim .ensures .0) (p .power .ensures .0) (d .loop-test .taken)
+          (item-here _ _ _ (c .before .before .token .ensures) (c .before .lowest-taken .ensures) (p .before .interim .ensures .0) (c .if1 .taken)))),
       (within d, c .if1 .taken),
     )
 
@@ -77,14 +77,14 @@ loop-again : tie.Need-loop-again Inv-loop μ-loop
 loop-again c =
     let d = c .before .before .before in
     let p = d .before .before in
-    d .before .loop .inv ∙ items-pass _ _ _ _ (p .before .interim .ensures .0) (p .power .ensures .0) (d .loop-test .taken)
-    (c .before .before .token .ensures) (c .before .lowest-taken .ensures) (c .if1 .left)
+    d .before .loop .inv ∙ found-pass _ _ _ _ (p .before .interim .ensures .0) (p .power .ensures .0) (d .loop-test .taken)
+    (item-none _ _ _ (c .before .before .token .ensures) (c .before .lowest-taken .ensures) (c .if1 .left))
 
 returns-2 : tie.Need-returns-2 Inv-loop μ-loop
 returns-2 c =
     let p = c .before .before in (
       sym (ap itemOf (items-all _ _ (p .before .before .before .pre .1) ∙ c .before .loop .inv
-          ∙ items-over _ _ _ _ (p .before .interim .ensures .0) (p .power .ensures .0) (c .loop-test .left))),
+          ∙ found-over _ _ _ _ (p .before .interim .ensures .0) (p .power .ensures .0) (c .loop-test .left))),
       tt,
     )
 

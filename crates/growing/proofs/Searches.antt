@@ -1,0 +1,217 @@
+-- Searches along the interim level: bucket by bucket, in each slot by slot. One finds the first taken slot, the other the first that is
+-- taken by an item that has a place; this one may begin at the bucket where the first ended.
+-- Assumes nothing.
+use Prim.Native.Nat.{ℕ, _+_, _-_, _≤_, _<_}
+use mathlib.Core.Path.{_≡_, refl, sym, ap, _∙_}
+use mathlib.Core.Bool.{Bool, true, false, cond}
+use mathlib.Core.List.{List, [], _∷_, map, flatMap, head?, append-nil}
+use mathlib.Core.Logic.{⊎-elim}
+use mathlib.Core.Option.{Option, none, some, Option·map}
+use native.Mathlib.Decide.{decLe}
+use native.Mathlib.Omega.{arith}
+use denote.Enum.Declared.{tagOf}
+use types.Run.{OneOf}
+use lib.ListN.{drop}
+use Rattle.rules.specs.Choice.{given, orElse, select, firstOf, from}
+use Rattle.rules.specs.Words.{Table, atRest, sizeOf, topOf, bottomOf, interimOf, levelsInUse, bucketsOf, slotAt, slotsIn, placeOf, placeAt, slotsOf, keyIn, tokenOf}
+use Rattle.rules.specs.Words.{isTaken, slots, lowestTaken, taken}
+use Rattle.rules.specs.Placing.{placing, somewhere}
+use Rattle.rules.specs.Calls.{interimSlots, interimItems, hasPlace, stepItem}
+use Rattle.rules.specs.declared.State.{State}
+use Rattle.rules.specs.declared.Header.{Header}
+use Rattle.rules.specs.declared.Level.{Level}
+use Rattle.rules.specs.declared.Place.{Place}
+use Rattle.rules.specs.declared.Slot.{Slot}
+use Rattle.rules.specs.declared.Placing.{Placing}
+use Rattle.rules.specs.declared.Placing.the-variants.{Free, Move, Nowhere}
+use Rattle.rules.proofs.Placing.{the-type}
+use Rattle.rules.proofs.Basics.Lists.{never, firstOf-some, firstOf-none, none-firstOf, given-some, given-none, firstOf-select, firstOf-map, firstOf-given, firstOf-flatMap}
+use Rattle.rules.proofs.Basics.Along.{along, along-all, along-pass, along-hit, along-over, Begins, along-begins}
+use Rattle.rules.proofs.Basics.Walks.{slots-next, from-next, from-end}
+use Rattle.rules.proofs.Words.FreeSlots.{slot-place}
+use Rattle.rules.proofs.Basics.Lowest.{passing, lowest-some, lowest-none}
+use Rattle.reading.specs.Within.{SlotWithin, PlacingWithin}
+use Rattle.growing.specs.Interim.{placeable, placeableIn, PlacedBy}
+use Rattle.growing.specs.declared.interim.Placed.{Placed}
+
+level-slots : (s : State) → atRest s ≡ false → interimSlots s ≡ slotsOf (interimOf s)
+unfolding interimSlots levelsInUse topOf bottomOf interimOf flatMap
+level-slots s e = rw (e, append-nil)
+
+-- ---- a placing, by the number of its case
+
+pub is-nowhere : (p : Placing) → OneOf (2 ∷ []) (tagOf the-type p) → p ≡ Nowhere
+is-nowhere (Free x) e = absurd (omega arith)
+is-nowhere (Move from to) e = absurd (omega arith)
+is-nowhere Nowhere e = refl
+
+pub is-somewhere : (p : Placing) → OneOf (0 ∷ 1 ∷ []) (tagOf the-type p) → somewhere p ≡ true
+is-somewhere (Free x) e = refl
+is-somewhere (Move from to) e = refl
+is-somewhere Nowhere e = absurd (⊎-elim (λ k. omega arith) (λ k. omega arith) e)
+
+-- what a search found, and whether it found anything
+module _ (t : Table) (h : Header) (r : Placed) where
+  pub placed-none : (o : Option Slot) → PlacedBy t h o r → r .placing ≡ Nowhere → o ≡ none
+  unfolding PlacedBy
+  placed-none none k e = refl
+  placed-none (some x) k e = never (k .2) (ap somewhere e)
+
+  pub none-placed : (o : Option Slot) → o ≡ none → r .placing ≡ Nowhere → PlacedBy t h o r
+  unfolding PlacedBy
+  none-placed o e k = rw e k
+
+  pub placed-some : (o : Option Slot) → PlacedBy t h o r → somewhere (r .placing) ≡ true → o ≡ some (r .item)
+  unfolding PlacedBy
+  placed-some none k e = never e (ap somewhere k)
+  placed-some (some x) k e = ap some (sym (k .0))
+
+-- ---- along the level's buckets, from the i-th on
+
+module _ (h : Header) (f : Slot → Option Slot) where
+  pub foundIn : ℕ → Option Slot
+  foundIn j = firstOf f (slotsIn (placeAt (interimOf (h .state)) j))
+
+  pub foundFrom : ℕ → Option Slot
+  foundFrom i = along foundIn (bucketsOf (sizeOf (interimOf (h .state)))) i
+
+  pub found-all : atRest (h .state) ≡ false → firstOf f (interimSlots (h .state)) ≡ foundFrom 0
+  unfolding slotsOf foundFrom foundIn
+  found-all e =
+      ap (firstOf f) (level-slots (h .state) e)
+      ∙ firstOf-flatMap f slotsIn (map (placeAt (interimOf (h .state))) (bucketsOf (sizeOf (interimOf (h .state)))))
+      ∙ firstOf-map (λ (p : Place). firstOf f (slotsIn p)) (placeAt (interimOf (h .state))) (bucketsOf (sizeOf (interimOf (h .state))))
+      ∙ along-all foundIn (bucketsOf (sizeOf (interimOf (h .state))))
+
+  -- the level's i-th bucket, of m
+  module _ (m i : ℕ) {l : Level} (e : l ≡ interimOf (h .state)) (q : m ≡ sizeOf l) (r : i < m) where
+    bucket-next : drop i (bucketsOf (sizeOf (interimOf (h .state)))) ≡ (m - 1 + i) ∷ drop (i + 1) (bucketsOf (sizeOf (interimOf (h .state))))
+    unfolding bucketsOf
+    bucket-next = rw (← e, ← q) (from-next (m - 1) m i r)
+
+    pub found-hit : {x : Slot} → foundIn (m - 1 + i) ≡ some x → foundFrom i ≡ some x
+    unfolding foundFrom
+    found-hit k = along-hit foundIn (bucketsOf (sizeOf (interimOf (h .state)))) i bucket-next k
+
+    pub found-pass : foundIn (m - 1 + i) ≡ none → foundFrom i ≡ foundFrom (i + 1)
+    unfolding foundFrom
+    found-pass k = along-pass foundIn (bucketsOf (sizeOf (interimOf (h .state)))) i bucket-next k
+
+  pub found-over : (m i : ℕ) {l : Level} → l ≡ interimOf (h .state) → m ≡ sizeOf l → m ≤ i → foundFrom i ≡ none
+  unfolding foundFrom bucketsOf
+  found-over m i e q l = along-over foundIn (bucketsOf (sizeOf (interimOf (h .state)))) i
+      (from-end (sizeOf (interimOf (h .state)) - 1) (sizeOf (interimOf (h .state))) i (rw (← e, ← q) l))
+
+module _ (t : Table) (h : Header) where
+  -- ---- the first taken slot
+
+  pub itemAt : Slot → Option Slot
+  itemAt x = given (taken t h x) x
+
+  head-first : {A : Type 0} (p : A → Bool) (l : List A) → head? (select p l) ≡ firstOf (λ (x : A). given (p x) x) l
+  head-first p [] = refl
+  head-first p (x ∷ l) = go (p x) (head-first p l)
+    where
+      go : (b : Bool) → head? (select p l) ≡ firstOf (λ y. given (p y) y) l
+          → head? (cond b (x ∷ select p l) (select p l)) ≡ orElse (given b x) (firstOf (λ y. given (p y) y) l)
+      go true k = refl
+      go false k = k
+
+  pub items-all : atRest (h .state) ≡ false → head? (interimItems t h) ≡ foundFrom h itemAt 0
+  unfolding interimItems itemAt
+  items-all e = head-first (taken t h) (interimSlots (h .state)) ∙ found-all h (λ x. given (taken t h x) x) e
+
+  -- one bucket: the lowest taken slot of its token word
+  module _ (j : ℕ) {w s : ℕ} (u : w ≡ tokenOf t j) (v : s ≡ lowestTaken h w) where
+    bucket-item : foundIn h itemAt j ≡ Option·map (slotAt (placeAt (interimOf (h .state)) j)) (firstOf (passing (isTaken h w)) slots)
+    unfolding foundIn itemAt slotsIn slotAt placeAt taken
+    bucket-item =
+        rw (firstOf-map itemAt (slotAt (placeAt (interimOf (h .state)) j)) slots, u)
+        (firstOf-given (isTaken h (tokenOf t j)) (slotAt (placeAt (interimOf (h .state)) j)) slots)
+
+    pub item-here : {l : Level} → l ≡ interimOf (h .state) → s < 4 → foundIn h itemAt j ≡ some (slotAt (placeAt l j) s)
+    unfolding lowestTaken
+    item-here e l = rw e (bucket-item ∙ ap (Option·map (slotAt (placeAt (interimOf (h .state)) j))) (lowest-some (isTaken h w) s v l))
+
+    pub item-none : 4 ≤ s → foundIn h itemAt j ≡ none
+    unfolding lowestTaken
+    item-none l = bucket-item ∙ ap (Option·map (slotAt (placeAt (interimOf (h .state)) j))) (lowest-none (isTaken h w) s v l)
+
+  -- ---- the first that is taken by an item that has a place
+
+  pub placeable-all : atRest (h .state) ≡ false → stepItem t h ≡ foundFrom h (placeable t h) 0
+  unfolding stepItem interimItems placeable
+  placeable-all e =
+      firstOf-select (λ (x : Slot). given (hasPlace t h x) x) (taken t h) (interimSlots (h .state))
+      ∙ found-all h (λ x. cond (taken t h x) (given (hasPlace t h x) x) none) e
+
+  -- one slot of a bucket, by its token word, its key and what placing finds for it
+  module _ (p : Place) (s : ℕ) (low : s < 4) {w : ℕ} {b : Bool} (u : w ≡ tokenOf t (p .bucket)) (v : b ≡ isTaken h w s) where
+    slot-none : placeable t h (slotAt p s) ≡ none → along (placeable t h) (slotsIn p) s ≡ along (placeable t h) (slotsIn p) (s + 1)
+    slot-none e = along-pass (placeable t h) (slotsIn p) s (slots-next p s low) e
+
+    pub slot-free : b ≡ false → along (placeable t h) (slotsIn p) s ≡ along (placeable t h) (slotsIn p) (s + 1)
+    unfolding placeable taken slotAt
+    slot-free e = slot-none (rw (← u, ← v, e))
+
+    module _ (e : b ≡ true) {key : ℕ} (k : key ≡ keyIn t (slotAt p s)) (q : Placing) (f : q ≡ placing t h key) where
+      pub slot-stuck : q ≡ Nowhere → along (placeable t h) (slotsIn p) s ≡ along (placeable t h) (slotsIn p) (s + 1)
+      unfolding placeable taken slotAt hasPlace
+      slot-stuck g = slot-none (rw (← u, ← v, e, ← k, ← f, g))
+
+      slot-placeable : somewhere q ≡ true → placeable t h (slotAt p s) ≡ some (slotAt p s)
+      unfolding placeable taken slotAt hasPlace
+      slot-placeable g = rw (← u, ← v, e, ← k, ← f, g)
+
+      pub slot-placed : somewhere q ≡ true → SlotWithin t (slotAt p s) → PlacingWithin t q → placeableIn t h p ≡ along (placeable t h) (slotsIn p) s
+          → PlacedBy t h (placeableIn t h p) (record { item = slotAt p s; placing = q })
+      unfolding PlacedBy
+      slot-placed g near far i =
+          rw (i ∙ along-hit (placeable t h) (slotsIn p) s (slots-next p s low) (slot-placeable g))
+          (refl, f ∙ ap (placing t h) k, g, near, far)
+
+  -- one bucket of the level, by what its own search found
+  module _ (m i : ℕ) {l : Level} (e : l ≡ interimOf (h .state)) (q : m ≡ sizeOf l) (r : i < m) (p : Place) (z : p ≡ placeAt l (m - 1 + i)) (f : Placed)
+      (k : PlacedBy t h (placeableIn t h p) f) where
+    bucket-search : foundIn h (placeable t h) (m - 1 + i) ≡ placeableIn t h p
+    unfolding placeableIn foundIn
+    bucket-search = rw (z, e)
+
+    pub bucket-stuck : f .placing ≡ Nowhere → foundFrom h (placeable t h) i ≡ foundFrom h (placeable t h) (i + 1)
+    bucket-stuck g = found-pass h (placeable t h) m i e q r (bucket-search ∙ placed-none t h f (placeableIn t h p) k g)
+
+    pub bucket-placed : somewhere (f .placing) ≡ true → stepItem t h ≡ foundFrom h (placeable t h) i → PlacedBy t h (stepItem t h) f
+    bucket-placed g j =
+        let found = placed-some t h f (placeableIn t h p) k g in
+        rw (j ∙ found-hit h (placeable t h) m i e q r (bucket-search ∙ found)) (rw found at k)
+
+  -- a bucket without a taken slot has none
+  nothing-placeable : (j : ℕ) → foundIn h itemAt j ≡ none → foundIn h (placeable t h) j ≡ none
+  unfolding foundIn itemAt placeable
+  nothing-placeable j e = none-firstOf (placeable t h) (slotsIn (placeAt (interimOf (h .state)) j))
+      (λ x i. let k = given-none (taken t h x) x (firstOf-none itemAt (slotsIn (placeAt (interimOf (h .state)) j)) e x i) in rw k)
+
+  item-bucket : (j : ℕ) (x : Slot) → foundIn h itemAt j ≡ some x → x .bucket ≡ j
+  unfolding foundIn itemAt placeOf placeAt
+  item-bucket j x e =
+      let p = placeAt (interimOf (h .state)) j in
+      let f = firstOf-some itemAt (slotsIn p) x e in
+      let same = given-some (taken t h (f .found)) (f .found) x (f .gives) .1 in
+      ap (λ (q : Place). q .bucket) (slot-place p x (rw same at (f .inside)))
+
+  -- so it may begin at the bucket of the first item
+  pub placeable-from : (m : ℕ) (x : Slot) {l : Level} → l ≡ interimOf (h .state) → m ≡ sizeOf l → atRest (h .state) ≡ false → head? (interimItems t h) ≡ some x
+      → (i : ℕ) × (x .bucket ≡ m - 1 + i) × (stepItem t h ≡ foundFrom h (placeable t h) i)
+  unfolding foundFrom along bucketsOf
+  placeable-from m x {l} e q growing k =
+      let size = sizeOf (interimOf (h .state)) in
+      let b = along-begins (foundIn h itemAt) (foundIn h (placeable t h)) nothing-placeable (bucketsOf size) x (sym (items-all growing) ∙ k) in
+      let same : m ≡ size = q ∙ ap sizeOf e in
+      (b .index, item-bucket (b .element) x (b .gives) ∙ at-index size (b .index) (b .next) ∙ ap (λ n. n - 1 + b .index) (sym same), placeable-all growing ∙ b .same)
+    where
+      at-index : (size i : ℕ) {a : ℕ} {rest : List ℕ} → drop i (from (size - 1) size) ≡ a ∷ rest → a ≡ size - 1 + i
+      at-index size i {a} next = go (decLe size i)
+        where
+          go : Dec (size ≤ i) → a ≡ size - 1 + i
+          go (yes over) = absurd (let f = from-end (size - 1) size i over in let z : _≡_ {A = ℕ} 0 1 = cc in omega arith)
+          go (no under) = let f = from-next (size - 1) size i (omega arith) in cc

@@ -1,0 +1,97 @@
+-- Document 02, request b): cases of the growth step as one table under one statement, computed from the rules. Each row holds what the
+-- rules compute and what the request's sentences ask for. Tables and rows are those of `Examples`, made as a caller makes them. Both
+-- multipliers are 4294967297, as in E11: a key K has one place in a level of M buckets, the bucket K modulo M.
+-- Assumes nothing.
+use Prim.Native.Nat.{ℕ}
+use mathlib.Core.Path.{_≡_, refl}
+use mathlib.Core.List.{List, [], _∷_, map, flatMap}
+use lib.ListN.{replicate, set}
+use Rattle.words.specs.Product.{productOf, hashOf}
+use Rattle.rules.specs.Words.{Table, wordsFor, stateOf, stateWord, atRest, headerOf, flagOf, stateGood, odd, capacityTests, headerTests, topOf}
+use Rattle.rules.specs.Words.{bottomOf, interimOf, levelsInUse, bucketsOf, slotAt, slotsIn, placeAt, slotsOf, tokenWord, keyWord, functionWord}
+use Rattle.rules.specs.Words.{placeWord, keyIn, recordIn, tokenOf, tokenNumber, isTaken, show, hide, takenOf, taken}
+use Rattle.rules.specs.Places.{hashesOf, firstPlace, secondPlace, samePlace, placesIn, probes, placesOf, holds, hitIn, lookup}
+use Rattle.rules.specs.Placing.{takenIn, freeSlot, fewer, emptier, roomIn, otherPlace, itemsOf, candidates, moveOf, placing}
+use Rattle.rules.specs.Stores.{putStores, clearStores, moveStores, placingStores, beginStores, endStores, stepStores, written}
+use Rattle.rules.specs.Answers.{steppedMeans}
+use Rattle.rules.specs.Calls.{headerGood, listLong, flagClear, changingTests, beginTests, beginOf, interimSlots, interimItems, hasPlace, stepItem}
+use Rattle.rules.specs.Calls.{stepTests, stepOf, endTests, endOf, delete, begin, step, end, outcome}
+use Rattle.rules.specs.Results.{changeResult, stepResult, createTests, created, createResult, makeTests, makeResult}
+use Rattle.rules.specs.declared.Record.{Record}
+use Rattle.rules.specs.Examples.{Shown, lists, refuses, tells, Row, row, sees, inserted, madeFirst, madeAll, fresh}
+
+-- what a step tells beside its stores: its number, how many stores, and the slots of its placing
+abbrev pub told : Table → Shown
+told t = let a = steppedMeans (stepResult t (replicate 20 0) .0) in tells (a .number) (a .values)
+
+-- ---- c = 2, and one interim bucket: keys 16 and 17 stand in its slots 0 and 1
+
+-- the old top is full of keys that have the same places as 16; and of others
+unfoldable pub filled : (ℕ → Record) → List ℕ → Table
+filled r keys = inserted r (fresh 4294967297 4294967297) (0 ∷ 4 ∷ 8 ∷ 12 ∷ keys)
+
+-- 16 is stuck: its bucket of the new top is filled; 17 has room in the new top
+unfoldable pub blocked : (ℕ → Record) → Table
+blocked r = inserted r (madeAll (filled r (1 ∷ 5 ∷ 9 ∷ 13 ∷ 16 ∷ 17 ∷ [])) begin) (32 ∷ 36 ∷ 40 ∷ 44 ∷ [])
+
+-- 16 is stuck; 17's places are full, too, but one of the bottom items there can rise to the new top
+unfoldable pub crowded : (ℕ → Record) → Table
+crowded r = inserted r (madeAll (filled r (3 ∷ 7 ∷ 11 ∷ 15 ∷ 16 ∷ 17 ∷ [])) begin) (32 ∷ 36 ∷ 40 ∷ 44 ∷ 21 ∷ 25 ∷ 29 ∷ 33 ∷ [])
+
+-- after the step that takes 17; and then without 32
+unfoldable pub stepped : (ℕ → Record) → Table
+stepped r = madeAll (blocked r) step
+
+unfoldable pub cleared : (ℕ → Record) → Table
+cleared r = madeAll (stepped r) (delete 32)
+
+-- ---- c = 3, and two interim buckets: keys 16, 20, 24 and 28 fill the first, key 17 stands in the second
+
+unfoldable pub wide : (ℕ → Record) → Table
+wide r = madeAll (inserted r (createResult (replicate 204 7) 3 2 4294967297 4294967297 .1)
+    (0 ∷ 8 ∷ 32 ∷ 40 ∷ 16 ∷ 20 ∷ 24 ∷ 28 ∷ 1 ∷ 5 ∷ 9 ∷ 13 ∷ 17 ∷ [])) begin
+
+-- 16 and 24 are stuck: slots 0 and 2; then the whole bucket
+unfoldable pub half : (ℕ → Record) → Table
+half r = inserted r (wide r) (48 ∷ 56 ∷ 64 ∷ 72 ∷ [])
+
+unfoldable pub whole : (ℕ → Record) → Table
+whole r = inserted r (half r) (36 ∷ 44 ∷ 52 ∷ 60 ∷ [])
+
+unfoldable pub cases : (ℕ → Record) → List Row
+cases r =
+    -- "The step must take the first interim item, in the same order, that has a place": behind a stuck one, by a free slot
+    row 1 (sees (blocked r) step) (lists ((62, 17) ∷ (63, r 17 .function) ∷ (64, r 17 .place) ∷ (61, 1) ∷ (9, 1) ∷ []))
+    ∷ row 2 (told (blocked r)) (tells 0 (5 ∷ 0 ∷ 4 ∷ 0 ∷ []))
+    -- by a move: "The ten-store .. bounds stay"
+    ∷ row 3 (sees (crowded r) step) (lists ((88, 3) ∷ (89, r 3 .function) ∷ (90, r 3 .place) ∷ (87, 1) ∷ (35, 14) ∷ (36, 17) ∷ (37, r 17 .function)
+    ∷ (38, r 17 .place) ∷ (35, 15) ∷ (9, 1) ∷ []))
+    -- of two that have a place the first, once a delete has made room for it
+    ∷ row 4 (sees (madeAll (blocked r) (delete 32)) step) (lists ((49, 16) ∷ (50, r 16 .function) ∷ (51, r 16 .place) ∷ (48, 15) ∷ (9, 2) ∷ []))
+    -- slot after slot of one bucket
+    ∷ row 5 (sees (half r) step) (lists ((153, 20) ∷ (154, r 20 .function) ∷ (155, r 20 .place) ∷ (152, 1) ∷ (22, 13) ∷ []))
+    ∷ row 6 (sees (madeAll (half r) step) step) (lists ((156, 28) ∷ (157, r 28 .function) ∷ (158, r 28 .place) ∷ (152, 3) ∷ (22, 5) ∷ []))
+    -- bucket after bucket
+    ∷ row 7 (sees (whole r) step) (lists ((114, 17) ∷ (115, r 17 .function) ∷ (116, r 17 .place) ∷ (113, 1) ∷ (35, 0) ∷ []))
+    -- "Refusal 6 is then given exactly when interim items remain and none has one"
+    ∷ row 8 (sees (stepped r) step) (refuses 6)
+    ∷ row 9 (sees (madeAll (whole r) step) step) (refuses 6)
+    ∷ row 10 (told (stepped r)) (tells 6 (0 ∷ []))
+    -- the growth goes to its end once a delete has made room: the stuck item moves, and "11 keeps its meaning"
+    ∷ row 11 (sees (cleared r) step) (lists ((49, 16) ∷ (50, r 16 .function) ∷ (51, r 16 .place) ∷ (48, 15) ∷ (9, 0) ∷ []))
+    ∷ row 12 (sees (madeAll (cleared r) step) step) (refuses 11)
+    ∷ row 13 (sees (madeAll (cleared r) step) end) (lists ((4, 2) ∷ []))
+    -- 8 comes before 6 and 11, and 3 before 8
+    ∷ row 14 (sees (madeAll (madeAll (cleared r) step) end) step) (refuses 8)
+    ∷ row 15 (sees (set (stepped r) 5 1) step) (refuses 3)
+    ∷ []
+
+-- the rules compute what request b) asks for
+pub stepCases : (r : ℕ → Record) → map (λ (x : Row). x .computed) (cases r) ≡ map (λ (x : Row). x .paper) (cases r)
+unfolding productOf hashOf flatMap wordsFor stateOf stateWord atRest headerOf flagOf stateGood odd capacityTests headerTests topOf bottomOf interimOf
+    levelsInUse bucketsOf slotAt slotsIn placeAt slotsOf tokenWord keyWord functionWord placeWord keyIn recordIn tokenOf tokenNumber isTaken show hide
+    takenOf taken hashesOf firstPlace secondPlace samePlace placesIn probes placesOf holds hitIn lookup takenIn freeSlot fewer emptier roomIn otherPlace
+    itemsOf candidates moveOf placing putStores clearStores moveStores placingStores beginStores endStores stepStores written steppedMeans headerGood
+    listLong flagClear changingTests beginTests beginOf interimSlots interimItems hasPlace stepItem stepTests stepOf endTests endOf outcome changeResult
+    stepResult createTests created createResult makeTests makeResult madeFirst madeAll fresh filled blocked crowded stepped cleared wide half whole cases
+stepCases r = refl
