@@ -17,6 +17,7 @@ use crate::say;
 use crate::scripts::{self, Disagreement};
 use crate::shrink::shrink_case;
 use crate::sound_tables::check_alone;
+use crate::stuck_items::Way;
 use crate::tally::Tally;
 use crate::words;
 
@@ -30,7 +31,7 @@ compare corners <INPUT
 (FILE after --trace keeps the case the library was given last, for when it crashes;
  a long run without --program makes no scripts)";
 
-/// From these sizes on, a refusal number or a kind of chain that was never seen fails the run.
+/// From these sizes on, a refusal number or a kind of chain or growth step that was never seen fails the run.
 const FULL_SIZE_CALLS: u64 = 100_000;
 const FULL_SIZE_SCRIPTS: u64 = 1_000;
 
@@ -104,6 +105,7 @@ fn words_run(seed: u64, calls: u64, trace: Option<&Path>) -> Answer {
     if calls >= FULL_SIZE_CALLS {
         demand_refusals(&tally, REFUSALS_OF_CALLS)?;
         demand_chains(&tally)?;
+        demand_steps(&tally)?;
     }
     say_alike();
     Ok(())
@@ -145,6 +147,7 @@ fn long_run(minutes: u32, seed: u64, program: Option<&Path>) -> Answer {
     tally.print();
     demand_refusals(&tally, REFUSALS_OF_CALLS)?;
     demand_chains(&tally)?;
+    demand_steps(&tally)?;
     say_alike();
     Ok(())
 }
@@ -185,6 +188,20 @@ fn demand_chains(tally: &Tally) -> Answer {
         return Err(format!("the longest whole chain of a sound table had only {} depths", sound.longest));
     }
     Ok(())
+}
+
+/// Steps that take the first item show nothing of those that pass stuck ones.
+fn demand_steps(tally: &Tally) -> Answer {
+    let unseen = tally.steps_of_sound_tables.unseen();
+    if !unseen.is_empty() {
+        return Err(format!("steps of sound tables never seen: {unseen:?}"));
+    }
+    // Damage spares the stuck items of a table made for a kind often, but not always.
+    let is_unseen = |way: &Way| tally.steps_of_other_words.past_stuck_items(*way) == 0;
+    match [Way::FreeSlot, Way::Move].into_iter().find(is_unseen) {
+        Some(way) => Err(format!("no step of other words came past stuck items, {way:?}")),
+        None => Ok(()),
+    }
 }
 
 fn check_case(check: Check, case: &Case) -> Result<(), Finding> {

@@ -6,8 +6,8 @@ use ragansils_model::{Event, Slot, Table};
 use crate::random::Random;
 
 /// The multipliers of the marked examples of document 01, the paper that fixes the table.
-const MARKED_1: u64 = 4294967297;
-const MARKED_2: u64 = 12884901889;
+pub const MARKED_1: u64 = 4294967297;
+pub const MARKED_2: u64 = 12884901889;
 
 /// The arguments of a creation.
 #[derive(Clone, Copy, Debug)]
@@ -29,6 +29,11 @@ impl Setting {
         let k = if random.one_in(3) { 1 + random.below(c) } else { 1 };
         let (mul1, mul2) = multipliers(random);
         Setting { c, k, mul1, mul2 }
+    }
+
+    /// Then every key has one place in each level.
+    pub fn has_equal_multipliers(self) -> bool {
+        self.mul1 == self.mul2
     }
 
     /// The slots of top and bottom when the table is as large as it can be.

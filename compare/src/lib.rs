@@ -6,10 +6,12 @@
 //! - `chain`: the chain of an address;
 //! - `case`, `case_text`: one call over given words, and its text form;
 //! - `library`: the proved library behind its C interface;
+//! - `stuck_items`: which interim item a growth step takes;
 //! - `tally`: what a run has seen; `chain_tally`: of chains;
 //! - `both`: a case through library and model;
 //! - `plain_map`, `sound_tables`: sound tables against a plain map, with every cut;
 //! - `history`, `damage`: where tables come from; `random_chains`: which chains are put in and asked for;
+//! - `stuck_tables`: tables whose first interim items have no place;
 //! - `wild`: cases over words that no history made;
 //! - `words`: the run over raw words;
 //! - `script_text`, `script_damage`, `scripts`: the run of scripts;
@@ -37,6 +39,8 @@ mod script_text;
 mod scripts;
 mod shrink;
 mod sound_tables;
+pub mod stuck_items;
+pub mod stuck_tables;
 mod tally;
 #[cfg(test)]
 mod test_table;

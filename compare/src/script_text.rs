@@ -1,11 +1,15 @@
 //! Random scripts. The model carries the table along, so that the events fit its state.
 
-use ragansils_model::{create, make, table_words, Event, LARGEST_PROGRAM_CAPACITY, LEAST_LIST_WORDS};
+use ragansils_model::{
+    create, make, table_words, Event, LARGEST_PROGRAM_CAPACITY, LEAST_LIST_WORDS, SUCCESS,
+};
 
 use crate::case::event_name;
 use crate::case_text::event_arguments;
 use crate::history::{next_event, Keys, Mood, Setting};
 use crate::random::Random;
+use crate::stuck_items::KINDS;
+use crate::stuck_tables::history_to;
 
 /// The most stores an event has is 10; a cut is tried just beyond that, too.
 const CUTS_TO_TRY: u64 = 12;
@@ -13,6 +17,9 @@ const CUTS_TO_TRY: u64 = 12;
 pub fn random_script(random: &mut Random) -> Vec<u8> {
     if random.one_in(12) {
         return refused_creation(random);
+    }
+    if random.one_in(12) {
+        return steps_past_stuck_items(random);
     }
     let grows_large = random.one_in(40);
     let setting = match grows_large {
@@ -42,6 +49,25 @@ fn refused_creation(random: &mut Random) -> Vec<u8> {
     let mut script = Script::default();
     script.header(setting);
     script.text.extend_from_slice(b"op=begin\nnot read");
+    script.text
+}
+
+/// Growth goes on as far as it can, past stuck items.
+fn steps_past_stuck_items(random: &mut Random) -> Vec<u8> {
+    let kind = random.pick(&KINDS);
+    let (setting, events) = history_to(random, kind);
+    let mut script = Script::default();
+    script.header(setting);
+    for event in events {
+        script.event(event, None);
+    }
+    while script.last_number == SUCCESS {
+        if random.one_in(3) {
+            script.event(Event::Step, Some(any_cut(random)));
+            recover(random, &mut script);
+        }
+        script.event(Event::Step, None);
+    }
     script.text
 }
 

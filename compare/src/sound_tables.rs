@@ -7,6 +7,7 @@ use crate::both::{Both, Check, Finding};
 use crate::case::{is_growing, Call, Case, Outcome};
 use crate::chain::Chain;
 use crate::plain_map::{self, PlainMap};
+use crate::stuck_items::{step_by_inserts, Step};
 
 /// The list lent to recoveries: longer than need be, and not zero.
 const RECOVERY_LIST: [u64; 22] = [0x0123_4567_89ab_cdef; 22];
@@ -38,6 +39,9 @@ pub fn check_change(
     if !plain_map::answer_fits(before, event, number) {
         return Err(finding(case, format!("the plain map does not allow the answer {number}")));
     }
+    if event == Event::Step {
+        check_step(both, case, &outcome)?;
+    }
     if number != 0 {
         return Ok(Changed { number, table: case.table.clone(), map: before.clone() });
     }
@@ -50,6 +54,19 @@ pub fn check_change(
     }
     let table = change.whole()?;
     Ok(Changed { number, table, map: after })
+}
+
+/// The plain map does not tell which item a step takes; inserts do.
+fn check_step(both: &mut Both, case: &Case, outcome: &Outcome) -> Result<(), Finding> {
+    let step = step_by_inserts(&case.table)
+        .ok_or_else(|| finding(case, "no insert tells which item a step takes".to_string()))?;
+    both.tally.steps_of_sound_tables.count(&step);
+    let Step { number, list, .. } = step;
+    let listed = outcome.list.get(..2 * outcome.stores() as usize);
+    if outcome.number == number && listed == Some(&list) {
+        return Ok(());
+    }
+    Err(finding(case, format!("by inserts a step answers {number} and lists {list:?}")))
 }
 
 /// Checks one query of a sound table whose map is `map`.
@@ -178,8 +195,11 @@ impl Change<'_, '_> {
 #[cfg(test)]
 mod tests {
     use super::*;
+    use crate::random::Random;
+    use crate::stuck_items::KINDS;
+    use crate::stuck_tables::history_to;
     use crate::tally::Tally;
-    use crate::test_table::table_of;
+    use crate::test_table::{table_after, table_of};
 
     /// A wrong plain map must be found, or no right one would mean anything.
     #[test]
@@ -195,6 +215,27 @@ mod tests {
         assert!(!check(PlainMap::from([(1, [10, 20])]), Depth::WholeOnly));
         assert!(!check(PlainMap::from([(2, [10, 20])]), Depth::WholeOnly));
         assert!(!check(PlainMap::from([(2, [10, 20])]), Depth::EveryCut));
+    }
+
+    /// Whatever library and model agree on.
+    #[test]
+    fn a_step_of_another_item_is_found() {
+        let (setting, events) = history_to(&mut Random::new(1), KINDS[2]);
+        let table = table_after(setting, events);
+        let case = Case { call: Call::Change(Event::Step), table, list: vec![0; LEAST_LIST_WORDS] };
+        let mut tally = Tally::default();
+        let mut both = Both::new(&mut tally);
+        let mut check = |number, list: &[u64]| {
+            let answer = vec![list.len() as u64 / 2];
+            let outcome = Outcome { number, answer, table: vec![], list: list.to_vec() };
+            check_step(&mut both, &case, &outcome).is_ok()
+        };
+
+        let list = step_by_inserts(&case.table).unwrap().list;
+        assert!(check(0, &list) && !check(6, &[]) && !check(11, &[]) && !check(0, &list[..8]));
+        let mut of_first_item = list.clone();
+        of_first_item[9] = 14;
+        assert!(!check(0, &of_first_item));
     }
 
     #[test]

@@ -6,6 +6,7 @@ use std::fmt::Display;
 use crate::case::{Case, Outcome};
 use crate::chain_tally::ChainTally;
 use crate::say;
+use crate::stuck_items::StepTally;
 
 type Counts = BTreeMap<String, u64>;
 
@@ -19,6 +20,8 @@ pub struct Tally {
     bad_lines: Counts,
     pub chains_of_sound_tables: ChainTally,
     pub chains_of_other_words: ChainTally,
+    pub steps_of_sound_tables: StepTally,
+    pub steps_of_other_words: StepTally,
     pub total_calls: u64,
     pub cuts: u64,
     pub recovery_cuts: u64,
@@ -66,6 +69,8 @@ impl Tally {
         say!("cuts made: {}; recoveries cut: {}", self.cuts, self.recovery_cuts);
         print_counts("recoveries by kind", &self.recoveries);
         print_counts("bad lines by kind", &self.bad_lines);
+        print_counts("steps of sound tables", &self.steps_of_sound_tables.kinds);
+        print_counts("steps of other words", &self.steps_of_other_words.kinds);
         self.print_chains();
     }
 

@@ -1,7 +1,7 @@
 //! The run over raw words: histories of sound tables with every cut, damaged
 //! tables, and wild arguments.
 
-use ragansils_model::{table_words, Event, LEAST_LIST_WORDS};
+use ragansils_model::{table_words, Event, Table, LEAST_LIST_WORDS, SUCCESS};
 
 use crate::both::{Both, Finding};
 use crate::case::{is_growing, Call, Case};
@@ -12,6 +12,8 @@ use crate::plain_map::PlainMap;
 use crate::random::Random;
 use crate::random_chains::{chain_near, chains_of_history, lent_words, longest_chain};
 use crate::sound_tables::{check_chain, check_change, check_query, Changed, Depth};
+use crate::stuck_items::{step_by_inserts, Kind, KINDS};
+use crate::stuck_tables::history_to;
 use crate::wild::{any_list, wild_calls};
 
 /// At this capacity a single cut costs as much as a small history.
@@ -23,6 +25,12 @@ const LONGEST_CHAIN_ONE_IN: u64 = 4;
 const CAPACITIES_OF_LONGEST_CHAIN: [u64; 2] = [6, 7];
 const EVENTS_OF_LONGEST_CHAIN: u64 = 20;
 
+/// One history in so many, the first among them, comes with tables of stuck items, one for each kind of step.
+const STUCK_ITEMS_ONE_IN: u64 = 4;
+/// So often room is made for stuck items.
+const ROOM_MADE: u64 = 3;
+const EVENTS_OF_STUCK_ITEMS: u64 = 5;
+
 /// Makes at least `calls` more calls of the library.
 pub fn run(seed: u64, calls: u64, both: &mut Both) -> Result<(), Finding> {
     let mut random = Random::new(seed);
@@ -33,6 +41,11 @@ pub fn run(seed: u64, calls: u64, both: &mut Both) -> Result<(), Finding> {
         }
         if number % LONGEST_CHAIN_ONE_IN == 0 {
             history_of_longest_chain(&mut random, both, enough)?;
+        }
+        if number % STUCK_ITEMS_ONE_IN == 0 {
+            for kind in KINDS {
+                history_of_stuck_items(&mut random, both, kind, enough)?;
+            }
         }
         let setting = Setting::random(&mut random);
         let chains = chains_of_history(&mut random, setting);
@@ -60,6 +73,27 @@ fn history_of_longest_chain(random: &mut Random, both: &mut Both, enough_calls: 
     }
     history.ask_for_broken(both, chain)?;
     history.play(both, EVENTS_OF_LONGEST_CHAIN, enough_calls)
+}
+
+/// The table grows as far as it can, past its stuck items; then deletes make room for some of them.
+fn history_of_stuck_items(
+    random: &mut Random,
+    both: &mut Both,
+    kind: Kind,
+    enough_calls: u64,
+) -> Result<(), Finding> {
+    let (setting, events) = history_to(random, kind);
+    let chains = chains_of_history(random, setting);
+    let mut history = History::start(random, setting, chains, both)?;
+    for event in events {
+        history.change(both, event, Depth::WholeOnly)?;
+    }
+    history.step_past_stuck_items(both)?;
+    for _ in 0..ROOM_MADE {
+        history.delete_one_of_top_and_bottom(both)?;
+        history.step_past_stuck_items(both)?;
+    }
+    history.play(both, EVENTS_OF_STUCK_ITEMS, enough_calls)
 }
 
 /// A sound table in the middle of its life, with the plain map beside it.
@@ -214,6 +248,29 @@ impl History {
         Ok(())
     }
 
+    /// Steps until one is refused. Each is tried on damaged copies too; the first one and some others are cut.
+    fn step_past_stuck_items(&mut self, both: &mut Both) -> Result<(), Finding> {
+        let mut depth = Depth::EveryCut;
+        loop {
+            self.damaged_calls(both)?;
+            self.change(both, Event::Step, depth)?;
+            if self.last_number != SUCCESS {
+                return Ok(());
+            }
+            self.some_queries(both)?;
+            depth = if self.random.one_in(4) { Depth::EveryCut } else { Depth::WholeOnly };
+        }
+    }
+
+    fn delete_one_of_top_and_bottom(&mut self, both: &mut Both) -> Result<(), Finding> {
+        let items = Table::read(&self.table).map_or(vec![], |table| {
+            let slots = table.taken_slots(&[table.top(), table.bottom()]);
+            slots.into_iter().map(|slot| table.key(slot)).collect()
+        });
+        let key = self.random.pick(&items);
+        self.change(both, Event::Delete { key }, Depth::EveryCut)
+    }
+
     /// Asks for a chain that lacks its first depth, its last one, or any; the table keeps it.
     fn ask_for_broken(&mut self, both: &mut Both, chain: Chain) -> Result<(), Finding> {
         for missing in [chain.depth, 0, self.random.below(chain.depth + 1)] {
@@ -236,6 +293,9 @@ impl History {
             let case = Case { call, table: table.clone(), list };
             let outcome = both.run(&case)?;
             both.tally.chains_of_other_words.count(&case, outcome.number);
+            if call == Call::Change(Event::Step) && [SUCCESS, 6].contains(&outcome.number) {
+                step_by_inserts(&table).iter().for_each(|step| both.tally.steps_of_other_words.count(step));
+            }
             let listed = matches!(call, Call::Change(_)) && outcome.number == 0;
             if listed && self.random.one_in(4) {
                 // The damage lives on under the next calls.
