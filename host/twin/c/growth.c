@@ -3,15 +3,27 @@
 #include "table.h"
 #include "twin.h"
 
-/* The first taken interim slot, by bucket, then slot. */
+static inline size_t interim_size(const struct table *t)
+{
+    return (size_t)1 << (top_exponent(t) - 2);
+}
+
+/* The first taken interim slot that is not before `from`, by bucket, then slot. */
+static inline struct spot interim_from(struct table *t, struct spot from)
+{
+    struct bucket *b = from.bucket, *end = &t->buckets[2 * interim_size(t) - 1];
+    unsigned taken = taken_in(b) >> from.slot << from.slot;
+    while (taken == 0) {
+        if (++b == end)
+            return (struct spot){NULL, 0};
+        taken = taken_in(b);
+    }
+    return (struct spot){b, __builtin_ctz(taken)};
+}
+
 static struct spot first_interim(struct table *t)
 {
-    size_t size = (size_t)1 << (top_exponent(t) - 2);
-    struct bucket *interim = &t->buckets[size - 1];
-    for (size_t i = 0; i < size; i++)
-        if (taken_in(&interim[i]) != 0)
-            return (struct spot){&interim[i], __builtin_ctz(taken_in(&interim[i]))};
-    return (struct spot){NULL, 0};
+    return interim_from(t, (struct spot){&t->buckets[interim_size(t) - 1], 0});
 }
 
 /* The first tests of step and end: then 8. */
@@ -37,20 +49,25 @@ uint64_t twin_begin(uint64_t *table, size_t words)
     return RAGANSILS_DONE;
 }
 
+/* Moves the first interim item that has a place. */
 uint64_t twin_step(uint64_t *table, size_t words)
 {
     struct table *t = (struct table *)table;
     enum ragansils_refusal refusal = growing_tests(t, words);
     if (refusal != RAGANSILS_DONE)
         return refusal;
-    struct spot first = first_interim(t);
-    if (first.bucket == NULL)
+    struct spot spot = first_interim(t);
+    if (spot.bucket == NULL)
         return RAGANSILS_INTERIM_EMPTY;
-    struct slot item = first.bucket->slots[first.slot];
-    if (!place_item(t, item, hashes_of(t, item.key)))
-        return RAGANSILS_NO_PLACE;
-    clear_slot(first.bucket, first.slot);
-    return RAGANSILS_DONE;
+    do {
+        struct slot item = spot.bucket->slots[spot.slot];
+        if (place_item(t, item, hashes_of(t, item.key))) {
+            clear_slot(spot.bucket, spot.slot);
+            return RAGANSILS_DONE;
+        }
+        spot = interim_from(t, (struct spot){spot.bucket, spot.slot + 1});
+    } while (spot.bucket != NULL);
+    return RAGANSILS_NO_PLACE;
 }
 
 uint64_t twin_end(uint64_t *table, size_t words)

@@ -5,8 +5,13 @@ use std::collections::BTreeSet;
 use ragansils_compare::damage::damage;
 use ragansils_compare::history::{next_event, Keys, Mood, Setting};
 use ragansils_compare::random::Random;
+use ragansils_compare::stuck_items::{step_by_inserts, Kind, StepTally, KINDS};
+use ragansils_compare::stuck_tables::history_to;
 use ragansils_model::{table_words, Event, SUCCESS};
 use ragansils_twin::{ListingTwin, Proved, Side, Twin};
+
+/// One history in so many, the first among them, comes with tables of stuck items, one for each kind of step.
+const STUCK_ITEMS_ONE_IN: u64 = 4;
 
 /// What a run has met.
 #[derive(Default)]
@@ -17,17 +22,41 @@ pub struct Seen {
     /// Recoveries that mended a table: by one store, and by three.
     pub doubled: u64,
     pub flagged: u64,
+    /// Steps of sound tables, by the stuck items that they came past.
+    pub steps: StepTally,
 }
 
 /// Makes at least so many calls of each side, or says where they differ.
 pub fn run(seed: u64, calls: u64) -> Result<Seen, String> {
     let mut random = Random::new(seed);
     let mut seen = Seen::default();
-    while seen.calls < calls {
-        let mut history = History::start(&mut random, &mut seen)?;
-        history.play(&mut seen, calls)?;
+    for number in 0.. {
+        if seen.calls >= calls {
+            break;
+        }
+        if number % STUCK_ITEMS_ONE_IN == 0 {
+            for kind in KINDS {
+                play_past_stuck_items(&mut random, kind, &mut seen)?;
+            }
+        }
+        let setting = Setting::random(&mut random);
+        History::start(&mut random, setting, &mut seen)?.play(&mut seen, calls)?;
     }
     Ok(seen)
+}
+
+/// A table made for a kind of step grows as far as it can.
+fn play_past_stuck_items(random: &mut Random, kind: Kind, seen: &mut Seen) -> Result<(), String> {
+    let (setting, events) = history_to(random, kind);
+    let mut history = History::start(random, setting, seen)?;
+    for event in events {
+        history.change(seen, event)?;
+    }
+    while history.last_number == SUCCESS {
+        history.damaged(seen)?;
+        history.change(seen, Event::Step)?;
+    }
+    Ok(())
 }
 
 /// A sound table in the middle of its life.
@@ -41,8 +70,7 @@ struct History {
 }
 
 impl History {
-    fn start(random: &mut Random, seen: &mut Seen) -> Result<History, String> {
-        let setting = Setting::random(random);
+    fn start(random: &mut Random, setting: Setting, seen: &mut Seen) -> Result<History, String> {
         let garbage = random.words(table_words(setting.c).unwrap_or(0));
         let bad = Setting { k: setting.c + 1, ..setting };
         both_create(seen, bad, &garbage)?;
@@ -60,10 +88,7 @@ impl History {
                 break;
             }
             let event = next_event(&mut self.random, &self.table, &self.keys, self.mood, self.last_number);
-            self.some_cut(seen, event)?;
-            let (number, table) = both_change(seen, &self.table, event)?;
-            (self.last_number, self.table) = (number, table);
-            self.query(seen, &self.table.clone())?;
+            self.change(seen, event)?;
             if self.random.one_in(4) {
                 self.damaged(seen)?;
             }
@@ -72,6 +97,15 @@ impl History {
             }
         }
         Ok(())
+    }
+
+    fn change(&mut self, seen: &mut Seen, event: Event) -> Result<(), String> {
+        if event == Event::Step {
+            step_by_inserts(&self.table).iter().for_each(|step| seen.steps.count(step));
+        }
+        self.some_cut(seen, event)?;
+        (self.last_number, self.table) = both_change(seen, &self.table, event)?;
+        self.query(seen, &self.table.clone())
     }
 
     fn query(&mut self, seen: &mut Seen, table: &[u64]) -> Result<(), String> {

@@ -4,10 +4,11 @@ mod check;
 
 use std::process::ExitCode;
 
+use ragansils_compare::stuck_items::Way;
 use ragansils_compare::{program, say};
 use ragansils_twin::TWIN_COMPILER;
 
-/// From so many calls on, an answer that never came fails the run: it would have compared too little.
+/// From so many calls on, an answer or a kind of step that never came fails the run: it would have compared too little.
 const TELLING_CALLS: u64 = 100_000;
 
 fn main() -> ExitCode {
@@ -28,10 +29,18 @@ fn run(arguments: &[String]) -> Result<String, String> {
     if calls >= TELLING_CALLS && (!missing.is_empty() || seen.doubled == 0 || seen.flagged == 0) {
         return Err(format!("seed {seed}: never met: answers {missing:?}, or a kind of recovery"));
     }
+    let missing_steps = seen.steps.unseen();
+    if calls >= TELLING_CALLS && !missing_steps.is_empty() {
+        return Err(format!("seed {seed}: never met: steps {missing_steps:?}"));
+    }
     Ok(format!(
         "{} calls of the twin ({TWIN_COMPILER}) and of the proved library: the same answers and words; seed {seed}; \
-         {} doubled and {} flagged tables recovered",
-        seen.calls, seen.doubled, seen.flagged
+         {} doubled and {} flagged tables recovered; steps past stuck items: {} to a free slot, {} by a move",
+        seen.calls,
+        seen.doubled,
+        seen.flagged,
+        seen.steps.past_stuck_items(Way::FreeSlot),
+        seen.steps.past_stuck_items(Way::Move)
     ))
 }
 
