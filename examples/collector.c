@@ -120,7 +120,7 @@ static uint64_t change_whole(struct collector *collector, whole_table_call *call
 
 /*
  * One small part of a growth that is under way. The state is in the table, so that a growth goes on after a restart. Refusal 6 says
- * that the next item has no place now: the table stays as it is, and every other call goes on working.
+ * that no item left to move has a place now: the table stays as it is, and every other call goes on working.
  */
 static uint64_t grow_on(struct collector *collector)
 {

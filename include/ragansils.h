@@ -43,7 +43,7 @@ enum ragansils_refusal {
     RAGANSILS_FLAG_SET = 3,        /* update flag not 0, so recover first: all but create, make and recover */
     RAGANSILS_KEY_PRESENT = 4,     /* insert */
     RAGANSILS_KEY_ABSENT = 5,      /* query, update, delete; at some depth: chain */
-    RAGANSILS_NO_PLACE = 6,        /* insert: grow, or go without; step: delete something, or try later */
+    RAGANSILS_NO_PLACE = 6,        /* insert: grow, or go without; step: none left has a place, so delete something, or try later */
     RAGANSILS_ALREADY_GROWING = 7, /* begin */
     RAGANSILS_NOT_GROWING = 8,     /* step, end */
     RAGANSILS_AT_CAPACITY = 9,     /* k = c, the table cannot grow: begin */
@@ -154,8 +154,9 @@ uint64_t ragansils_delete(const uint64_t *table, size_t words, uint64_t key, uin
 uint64_t ragansils_begin(const uint64_t *table, size_t words, uint64_t *list, size_t list_words, uint64_t *stores);
 
 /*
- * The first item of the interim level moves to top or bottom: 5 stores, or 10 where another item has to move first. The map stays.
- * Every other call may come between two steps. Refusals 1 to 3, 6, 8, 11.
+ * The first item of the interim level that has a place in top or bottom moves there: 5 stores, or 10 where another item has to move
+ * first. The map stays. Every other call may come between two steps. Refusal 6 comes just where items are left in the interim level and
+ * none has a place; 11, where none is left. Refusals 1 to 3, 6, 8, 11.
  *
  * A step looks for that item from the first interim bucket on, past all that earlier steps have emptied, so the time of a whole growth
  * from N top buckets rises with N squared. On an Intel Xeon, begun at load 0.8, it took 0.016 ms for N = 256,

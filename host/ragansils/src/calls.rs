@@ -110,7 +110,8 @@ pub fn begin(words: &[u64]) -> Result<StoreList, Refusal> {
     whole_table(words, raw::ragansils_begin)
 }
 
-/// Lists the stores that move the first interim item. Refusals: `BadHeader`, `FlagSet`, `NotGrowing`, `InterimEmpty`, `NoPlace`.
+/// Lists the stores that move the first interim item that has a place. Refusals: `BadHeader`, `FlagSet`, `NotGrowing`, `InterimEmpty`,
+/// and `NoPlace`, where no interim item has one.
 pub fn step(words: &[u64]) -> Result<StoreList, Refusal> {
     whole_table(words, raw::ragansils_step)
 }

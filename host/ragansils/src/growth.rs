@@ -7,7 +7,7 @@ use crate::{calls, Platform, Refusal, Table};
 pub enum Growth {
     /// The table was at rest, and grows now: its top is twice as large.
     Begun,
-    /// An item moved out of the interim level.
+    /// The first item of the interim level that had a place moved out of it.
     Moved,
     /// The interim level was empty, and the table is at rest again.
     Ended,
@@ -20,8 +20,9 @@ impl<W: AsRef<[u64]> + AsMut<[u64]>, P: Platform> Table<W, P> {
     /// this begins a growth, also where one has just ended. Every other call may come between two parts; but inserts fill the new top,
     /// so a collector does a part or more of a growth with each insert.
     ///
-    /// A part that moves an item looks for it from the first interim bucket on, past all that earlier parts have emptied. So the time
-    /// of a whole growth from N top buckets rises with N squared. On an Intel Xeon, begun at load 0.8:
+    /// A part that moves an item takes the first of the interim level that has a place, and looks for it from the first interim bucket
+    /// on, past all that earlier parts have emptied. So the time of a whole growth from N top buckets rises with N squared. On an Intel
+    /// Xeon, begun at load 0.8:
     ///
     /// | N | 256 | 1,024 | 4,096 | 16,384 | 65,536 | 131,072 | 524,288 |
     /// |---|---|---|---|---|---|---|---|
@@ -30,8 +31,9 @@ impl<W: AsRef<[u64]> + AsMut<[u64]>, P: Platform> Table<W, P> {
     /// The last parts look through N / 2 buckets each. A table that will be large is better created with a large
     /// [`first_top`](crate::Creation::first_top).
     ///
-    /// Refusals: `AtCapacity` where the table cannot grow any more; `NoPlace` where the next item has no place now. Then queries,
-    /// updates, deletes and inserts still work, and the growth goes on once a delete has made room.
+    /// Refusals: `AtCapacity` where the table cannot grow any more; `NoPlace` where items are left in the interim level and none of them
+    /// has a place now. Then queries, updates, deletes and inserts still work, and the growth goes on once a delete has made room for
+    /// one of them.
     pub fn grow_on(&mut self) -> Result<Growth, Refusal> {
         match self.step() {
             Ok(_) => Ok(Growth::Moved),

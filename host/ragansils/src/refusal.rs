@@ -28,7 +28,8 @@ pub enum Refusal {
     KeyPresent = 4,
     /// Update and delete: the key is absent. Chain: one of the depths has no record.
     KeyAbsent = 5,
-    /// Insert and growth step: there is no place. The table may grow, something may be deleted, or the step may be tried later.
+    /// Insert: there is no place for the key; the table may grow, or something may be deleted. Growth step: no item left in the interim
+    /// level has a place; something may be deleted, or the step may be tried later.
     NoPlace = 6,
     /// Begin: the table is growing already.
     AlreadyGrowing = 7,
@@ -97,7 +98,7 @@ impl Refusal {
             Refusal::FlagSet => "the update flag is not 0, so recovery comes first",
             Refusal::KeyPresent => "the key is present",
             Refusal::KeyAbsent => "the key is absent",
-            Refusal::NoPlace => "there is no place for the item",
+            Refusal::NoPlace => "there is no place",
             Refusal::AlreadyGrowing => "the table is growing already",
             Refusal::NotGrowing => "the table is not growing",
             Refusal::AtCapacity => "the table is as large as its words allow",

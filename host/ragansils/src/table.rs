@@ -87,8 +87,8 @@ impl<W: AsRef<[u64]> + AsMut<[u64]>, P: Platform> Table<W, P> {
         self.change(calls::begin)
     }
 
-    /// Moves the first item of the interim level, by 5 stores or 10, and answers their number. Refusals: `NotGrowing`, `InterimEmpty`,
-    /// `NoPlace`.
+    /// Moves the first item of the interim level that has a place, by 5 stores or 10, and answers their number. Refusals: `NotGrowing`,
+    /// `InterimEmpty`, and `NoPlace`, where items are left and none of them has a place.
     pub fn step(&mut self) -> Result<u64, Refusal> {
         self.change(calls::step)
     }

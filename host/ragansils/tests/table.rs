@@ -213,7 +213,7 @@ fn a_growth_is_paced_and_goes_on_after_open() {
     assert_eq!(table.is_growing(), Ok(false));
 }
 
-/// Document 01's E11: the first interim item has no place.
+/// Document 01's E11: none of the interim items has a place.
 #[test]
 fn a_growth_without_a_place_goes_on_once_there_is_one() {
     let creation = Creation { multipliers: [MARKED.multipliers[0]; 2], ..MARKED };
@@ -230,6 +230,39 @@ fn a_growth_without_a_place_goes_on_once_there_is_one() {
     assert_eq!(table.query(0.into()).unwrap().record, Some(NEW));
     table.delete(32.into()).unwrap();
     assert_eq!(table.grow_on(), Ok(Growth::Moved));
+}
+
+/// The story of request b) of document 02: the first interim item has no place, and 510 behind it have room.
+#[test]
+fn a_growth_goes_past_items_without_a_place() {
+    // With these multipliers a key has one place in a level of M buckets: its remainder by M.
+    let creation = Creation { capacity: 9, first_top: 8, multipliers: [MARKED.multipliers[0]; 2] };
+    let words = vec![0; creation.words().unwrap()];
+    let mut table = Table::create(words, &creation, OrdinaryMemory).unwrap();
+    // 1,024 keys fill the top, and 512 the bottom, which becomes the interim level.
+    (0..1536).for_each(|key| assert_eq!(table.insert(key.into(), record_of(key)), Ok(4)));
+    assert_eq!(table.grow_on(), Ok(Growth::Begun));
+    // These fill the new top's buckets 0 and 256, where 1,024 and 1,280 could go, and all keys of their bucket below.
+    let later = (2048..4096).step_by(256);
+    later.clone().for_each(|key| assert_eq!(table.insert(key.into(), record_of(key)), Ok(4)));
+
+    (0..510).for_each(|_| assert_eq!(table.step(), Ok(5)));
+    assert_eq!(table.grow_on(), Err(Refusal::NoPlace));
+    assert_eq!(table.end(), Err(Refusal::InterimTaken));
+    let keys = (0..1536).chain(later);
+    assert!(keys.clone().all(|key| table.query(key.into()).unwrap().record == Some(record_of(key))));
+    // An interim item is found in the third bucket looked at.
+    let left = keys.clone().filter(|&key| table.query(key.into()).unwrap().buckets == 3);
+    assert_eq!(left.collect::<Vec<u64>>(), [1024, 1280]);
+
+    for freed in [2048, 2304] {
+        assert_eq!(table.grow_on(), Err(Refusal::NoPlace));
+        table.delete(freed.into()).unwrap();
+        assert_eq!(table.grow_on(), Ok(Growth::Moved));
+    }
+    assert_eq!(table.grow_on(), Ok(Growth::Ended));
+    let is_there = |key: u64| table.query(key.into()).unwrap().record == Some(record_of(key));
+    assert!(keys.filter(|key| ![2048, 2304].contains(key)).all(is_there));
 }
 
 #[test]
