@@ -10,7 +10,7 @@ pub fn last_growth(creation: Creation) -> Creation {
 }
 
 /// Brings a level table into the middle of a growth: begun, and half of the interim items moved. A step is
-/// the same as a delete of its item and an insert of it, which needs no search for the first interim item.
+/// the same as a delete of its item and an insert of it, which needs no search through the interim level.
 pub fn half_way(words: &mut [u64]) -> Result<(), String> {
     let mut library = Proved::default();
     let mut change = |words: &mut [u64], event| match library.change(words, event) {
