@@ -158,10 +158,10 @@ uint64_t ragansils_begin(const uint64_t *table, size_t words, uint64_t *list, si
  * first. The map stays. Every other call may come between two steps. Refusal 6 comes just where items are left in the interim level and
  * none has a place; 11, where none is left. Refusals 1 to 3, 6, 8, 11.
  *
- * A step looks for that item from the first interim bucket on, past all that earlier steps have emptied, so the time of a whole growth
- * from N top buckets rises with N squared. On an Intel Xeon, begun at load 0.8, it took 0.016 ms for N = 256,
- * 0.21 ms for 1,024, 3.4 ms for 4,096, 42 ms for 16,384, 1.5 s for 65,536, 10 s for 131,072 and 206 s for 524,288. The last steps look
- * through N / 2 buckets each. A table that will be large is better created with a large k.
+ * A step looks for that item from the first interim bucket on, past all that earlier steps have emptied and all items without a place,
+ * so the time of a whole growth from N top buckets rises with N squared. On an Intel Xeon, begun at load 0.8, it took 0.016 ms for
+ * N = 256, 0.21 ms for 1,024, 3.4 ms for 4,096, 42 ms for 16,384, 1.5 s for 65,536, 10 s for 131,072 and 206 s for 524,288. The last
+ * steps look through N / 2 buckets each. A table that will be large is better created with a large k.
  */
 uint64_t ragansils_step(const uint64_t *table, size_t words, uint64_t *list, size_t list_words, uint64_t *stores);
 

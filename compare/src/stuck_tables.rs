@@ -45,7 +45,9 @@ fn fates_for(random: &mut Random, kind: Kind) -> Vec<Vec<Fate>> {
     let part = 1 + random.index(SLOTS_PER_BUCKET - 1);
     let perhaps_part = random.index(SLOTS_PER_BUCKET);
     let (passed, way) = match kind {
-        Kind::AllStuck => return (0..1 + random.below(4)).map(|_| stuck(1 + random.index(4))).collect(),
+        Kind::AllStuck => {
+            return (0..1 + random.below(4)).map(|_| stuck(1 + random.index(SLOTS_PER_BUCKET))).collect()
+        }
         Kind::Takes { passed, way } => (passed, way),
     };
     let (mut buckets, before_it) = match passed {
@@ -220,7 +222,8 @@ impl Making<'_> {
         self.insert(one, other);
     }
 
-    /// A key with these first and second places in the top of the growing table.
+    /// A key with these first and second places in the top of the growing table. Where none is found, the table is perhaps of another
+    /// kind; what a run has seen is told by the table itself.
     fn insert(&mut self, first: u64, second: u64) {
         let Setting { k, mul1, mul2, .. } = self.setting;
         let place = |key: u64, multiplier| (key.wrapping_mul(multiplier) >> 32) % (2 << k);

@@ -21,8 +21,8 @@ impl<W: AsRef<[u64]> + AsMut<[u64]>, P: Platform> Table<W, P> {
     /// so a collector does a part or more of a growth with each insert.
     ///
     /// A part that moves an item takes the first of the interim level that has a place, and looks for it from the first interim bucket
-    /// on, past all that earlier parts have emptied. So the time of a whole growth from N top buckets rises with N squared. On an Intel
-    /// Xeon, begun at load 0.8:
+    /// on, past all that earlier parts have emptied and all items without a place. So the time of a whole growth from N top buckets rises
+    /// with N squared. On an Intel Xeon, begun at load 0.8:
     ///
     /// | N | 256 | 1,024 | 4,096 | 16,384 | 65,536 | 131,072 | 524,288 |
     /// |---|---|---|---|---|---|---|---|
