@@ -1,7 +1,7 @@
 -- Searches along the interim level: bucket by bucket, in each slot by slot. One finds the first taken slot, the other the first that is
 -- taken by an item that has a place; this one may begin at the bucket where the first ended.
 -- Assumes nothing.
-use Prim.Native.Nat.{ℕ, _+_, _-_, _≤_, _<_}
+use Prim.Native.Nat.{ℕ, zero, suc, _+_, _-_, _≤_, _<_}
 use mathlib.Core.Path.{_≡_, refl, sym, ap, _∙_}
 use mathlib.Core.Bool.{Bool, true, false, cond}
 use mathlib.Core.List.{List, [], _∷_, map, flatMap, head?, append-nil}
@@ -13,8 +13,8 @@ use denote.Enum.Declared.{tagOf}
 use types.Run.{OneOf}
 use lib.ListN.{drop}
 use Rattle.rules.specs.Choice.{given, orElse, select, firstOf, from}
-use Rattle.rules.specs.Words.{Table, atRest, sizeOf, topOf, bottomOf, interimOf, levelsInUse, bucketsOf, slotAt, slotsIn, placeOf, placeAt, slotsOf, keyIn, tokenOf}
-use Rattle.rules.specs.Words.{isTaken, slots, lowestTaken, taken}
+use Rattle.rules.specs.Words.{Table, atRest, sizeOf, topOf, bottomOf, interimOf, levelsInUse, bucketsOf, slotAt, slotsIn, placeOf, placeAt}
+use Rattle.rules.specs.Words.{slotsOf, keyIn, tokenOf, isTaken, slots, lowestTaken, taken}
 use Rattle.rules.specs.Placing.{placing, somewhere}
 use Rattle.rules.specs.Calls.{interimSlots, interimItems, hasPlace, stepItem}
 use Rattle.rules.specs.declared.State.{State}
@@ -25,11 +25,12 @@ use Rattle.rules.specs.declared.Slot.{Slot}
 use Rattle.rules.specs.declared.Placing.{Placing}
 use Rattle.rules.specs.declared.Placing.the-variants.{Free, Move, Nowhere}
 use Rattle.rules.proofs.Placing.{the-type}
-use Rattle.rules.proofs.Basics.Lists.{never, firstOf-some, firstOf-none, none-firstOf, given-some, given-none, firstOf-select, firstOf-map, firstOf-given, firstOf-flatMap}
+use Rattle.rules.proofs.Basics.Lists.{never, firstOf-some, firstOf-none, none-firstOf, given-some, given-none, firstOf-select, firstOf-map}
+use Rattle.rules.proofs.Basics.Lists.{firstOf-given, firstOf-flatMap}
 use Rattle.rules.proofs.Basics.Along.{along, along-all, along-pass, along-hit, along-over, Begins, along-begins}
 use Rattle.rules.proofs.Basics.Walks.{slots-next, from-next, from-end}
 use Rattle.rules.proofs.Words.FreeSlots.{slot-place}
-use Rattle.rules.proofs.Basics.Lowest.{passing, lowest-some, lowest-none}
+use Rattle.rules.proofs.Basics.Lowest.{passing, lowest-some, lowest-none, lowest-below}
 use Rattle.reading.specs.Within.{SlotWithin, PlacingWithin}
 use Rattle.growing.specs.Interim.{placeable, placeableIn, PlacedBy}
 use Rattle.growing.specs.declared.interim.Placed.{Placed}
@@ -170,6 +171,19 @@ module _ (t : Table) (h : Header) where
           rw (i ∙ along-hit (placeable t h) (slotsIn p) s (slots-next p s low) (slot-placeable g))
           (refl, f ∙ ap (placing t h) k, g, near, far)
 
+  -- no slot below the lowest taken one counts
+  module _ (p : Place) {w n : ℕ} (u : w ≡ tokenOf t (p .bucket)) (v : n ≡ lowestTaken h w) where
+    pub slots-skipped : placeableIn t h p ≡ along (placeable t h) (slotsIn p) n
+    unfolding lowestTaken placeableIn
+    slots-skipped = go n (λ s l. lowest-below (isTaken h w) n v s l)
+      where
+        go : (m : ℕ) → ((s : ℕ) → s < m → (s < 4) × (isTaken h w s ≡ false)) → firstOf (placeable t h) (slotsIn p) ≡ along (placeable t h) (slotsIn p) m
+        go zero k = along-all (placeable t h) (slotsIn p)
+        go (suc m) k =
+            let f = k m (omega arith) in
+            let next : m + 1 ≡ suc m = omega arith in
+            go m (λ s l. k s (omega arith)) ∙ slot-free p m (f .0) u refl (f .1) ∙ ap (along (placeable t h) (slotsIn p)) next
+
   -- one bucket of the level, by what its own search found
   module _ (m i : ℕ) {l : Level} (e : l ≡ interimOf (h .state)) (q : m ≡ sizeOf l) (r : i < m) (p : Place) (z : p ≡ placeAt l (m - 1 + i)) (f : Placed)
       (k : PlacedBy t h (placeableIn t h p) f) where
@@ -207,7 +221,8 @@ module _ (t : Table) (h : Header) where
       let size = sizeOf (interimOf (h .state)) in
       let b = along-begins (foundIn h itemAt) (foundIn h (placeable t h)) nothing-placeable (bucketsOf size) x (sym (items-all growing) ∙ k) in
       let same : m ≡ size = q ∙ ap sizeOf e in
-      (b .index, item-bucket (b .element) x (b .gives) ∙ at-index size (b .index) (b .next) ∙ ap (λ n. n - 1 + b .index) (sym same), placeable-all growing ∙ b .same)
+      let bucket = item-bucket (b .element) x (b .gives) ∙ at-index size (b .index) (b .next) in
+      (b .index, bucket ∙ ap (λ n. n - 1 + b .index) (sym same), placeable-all growing ∙ b .same)
     where
       at-index : (size i : ℕ) {a : ℕ} {rest : List ℕ} → drop i (from (size - 1) size) ≡ a ∷ rest → a ≡ size - 1 + i
       at-index size i {a} next = go (decLe size i)

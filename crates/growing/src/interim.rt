@@ -59,7 +59,7 @@ fn placed_in(t: &[u64], h: Header, p: Place) -> Placed
     ensures { λ r. ⌜ PlacedBy (now (t .entry)) h (placeableIn (now (t .entry)) h p) r ⌝ }
 {
     let word = token(t, p.bucket);
-    for s in 0..4 {
+    for s in lowest_taken(h, word)..4 {
         let x = Slot {
             level: p.level,
             bucket: p.bucket,

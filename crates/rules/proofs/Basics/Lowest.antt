@@ -1,16 +1,16 @@
 -- The lowest of the slots 0 to 3 that passes a test, as a number: 4 where none does. For a loop that is left at the first.
 -- Assumes nothing.
 use Prim.Native.Nat.{ℕ, _+_, _≤_, _<_}
-use mathlib.Core.Path.{_≡_, refl, ap, _∙_}
+use mathlib.Core.Path.{_≡_, refl, ap, _∙_, subst}
 use mathlib.Core.Bool.{Bool, true, false}
-use mathlib.Core.List.{_∷_}
+use mathlib.Core.List.{_∷_, List·Memᴰ as In}
 use mathlib.Core.Option.{Option, none, some, Option·getD}
 use native.Mathlib.Nat.{zero-add}
 use native.Mathlib.Omega.{arith}
 use lib.ListN.{drop}
 use Rattle.rules.specs.Choice.{given, firstOf}
 use Rattle.rules.specs.Words.{slots, lowest}
-use Rattle.rules.proofs.Basics.Lists.{firstOf-some, given-some, from-in}
+use Rattle.rules.proofs.Basics.Lists.{firstOf-some, firstOf-none, given-some, given-none, from-in, in-from, Ascending, ascending-from, ascending-before}
 use Rattle.rules.proofs.Basics.Walks.{from-next, from-end}
 use Rattle.rules.proofs.Basics.Along.{along, along-all, along-pass, along-hit, along-over}
 
@@ -61,3 +61,20 @@ module _ (p : ℕ → Bool) where
             let k = firstOf-some passing slots s f in
             let g = given-some (p (k .found)) (k .found) s (k .gives) in
             absurd (omega (arith, from-in 0 4 (k .found) (k .inside), g .1, q))
+
+    -- no slot below it passes, and it is at most 4
+    pub lowest-below : n ≡ lowest p → (s : ℕ) → s < n → (s < 4) × (p s ≡ false)
+    lowest-below e s l = go (firstOf passing slots) refl e
+      where
+        go : (o : Option ℕ) → firstOf passing slots ≡ o → n ≡ Option·getD o 4 → (s < 4) × (p s ≡ false)
+        go none f q =
+            let low : s < 4 = omega (arith, q) in
+            (low, given-none (p s) s (firstOf-none passing slots f s (in-from 0 4 s (omega arith) low)))
+        go (some m) f q =
+            let k = firstOf-some passing slots m f in
+            let found : k .found ≡ m = given-some (p (k .found)) (k .found) m (k .gives) .1 in
+            let low : s < 4 = omega (arith, from-in 0 4 (k .found) (k .inside), found, q) in
+            let order = subst (Ascending _<_) (k .split) (ascending-from 0 4) in
+            let earlier = ascending-before _<_ (λ a b c d. omega arith) (k .earlier) (k .found) (k .later) order s
+            (subst (In s) (k .split) (in-from 0 4 s (omega arith) low)) (omega (arith, found, q)) in
+            (low, given-none (p s) s (k .before s earlier))

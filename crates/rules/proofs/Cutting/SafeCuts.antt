@@ -88,7 +88,8 @@ module _ (t : Table) (m : PlainMap) (whole : SoundMap t m) where
 
   -- a step: one move, or two
   module _ (x : Slot) (item : InterimItem t x) where
-    step-cuts : (p : Placing) → somewhere p ≡ true → placing t (headerOf t) (keyIn t x) ≡ p → EveryCut (λ (u : Table). Mends u m) t (stepStores t (headerOf t) x p)
+    step-cuts : (p : Placing) → somewhere p ≡ true → placing t (headerOf t) (keyIn t x) ≡ p
+        → EveryCut (λ (u : Table). Mends u m) t (stepStores t (headerOf t) x p)
     unfolding stepStores placingStores moveStores
     step-cuts (Free y) o e =
         let f = placing-free t (headerOf t) (keyIn t x) y e in

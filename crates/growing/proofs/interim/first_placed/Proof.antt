@@ -30,7 +30,8 @@ few c = rw (c .power .ensures .0) (pow-mono (c .before .interim .ensures .1))
 -- the search begins at the bucket of the first item
 start : (c : tie.After-power Inv-loop μ-loop) →
     let s = c .before .before .before in
-    (i : ℕ) × (s .args .first .bucket ≡ c .power .result - 1 + i) × (stepItem (now (s .args .t)) (s .args .h) ≡ foundFrom (s .args .h) (placeable (now (s .args .t)) (s .args .h)) i)
+    (i : ℕ) × (s .args .first .bucket ≡ c .power .result - 1 + i)
+    × (stepItem (now (s .args .t)) (s .args .h) ≡ foundFrom (s .args .h) (placeable (now (s .args .t)) (s .args .h)) i)
 start c =
     let s = c .before .before .before in
     placeable-from _ _ _ _ (c .before .interim .ensures .0) (c .power .ensures .0) (s .pre .1) (s .pre .2)
