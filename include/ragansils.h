@@ -155,7 +155,7 @@ uint64_t ragansils_begin(const uint64_t *table, size_t words, uint64_t *list, si
 
 /*
  * The first item of the interim level that has a place in top or bottom moves there: 5 stores, or 10 where another item has to move
- * first. The map stays. Every other call may come between two steps. Refusal 6 comes just where items are left in the interim level and
+ * first. The map stays. Every other call may come between two steps. Refusal 6 comes exactly where items are left in the interim level and
  * none has a place; 11, where none is left. Refusals 1 to 3, 6, 8, 11.
  *
  * A step looks for that item from the first interim bucket on, past all that earlier steps have emptied and all items without a place,

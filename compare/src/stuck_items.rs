@@ -88,7 +88,7 @@ pub struct Step {
     pub kind: Option<Kind>,
 }
 
-/// The answer of a step, found without a step: an item has a place just where it could be inserted if it stood nowhere, and a step is
+/// The answer of a step, found without a step: an item has a place exactly where it could be inserted if it stood nowhere, and a step is
 /// that insert, and then the item's token cleared. None where the table's words keep an insert from telling it, as no sound table's do.
 pub fn step_by_inserts(words: &[u64]) -> Option<Step> {
     let table = Table::read(words).ok()?;

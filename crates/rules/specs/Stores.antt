@@ -72,7 +72,8 @@ beginStores s = (wordOfState, stateWord (begunOf s)) ∷ []
 unfoldable pub endStores : State → List Store
 endStores s = (wordOfState, stateWord (endedOf s)) ∷ []
 
--- "growth step | placing of the first taken interim slot .., then its interim token cleared", where request b) says which slot: here x
+-- "growth step | placing of the first taken interim slot .., then its interim token cleared", for slot x; which one that is, request b)
+-- says (`stepItem` of `Calls`)
 unfoldable pub stepStores : Table → Header → Slot → Placing → List Store
 stepStores t h x p = placingStores t h p (keyIn t x) (recordIn t x) ++ clearStores h (tokenOf t (x .bucket)) x
 
