@@ -1,7 +1,7 @@
 -- Searches along the interim level: bucket by bucket, in each slot by slot. One finds the first taken slot, the other the first that is
 -- taken by an item that has a place; this one may begin at the bucket where the first ended.
 -- Assumes nothing.
-use Prim.Native.Nat.{ℕ, zero, suc, _+_, _-_, _≤_, _<_}
+use Prim.Native.Nat.{ℕ, zero, suc, _+_, _-_, _*_, _^_, _≤_, _<_}
 use mathlib.Core.Path.{_≡_, refl, sym, ap, _∙_}
 use mathlib.Core.Bool.{Bool, true, false, cond}
 use mathlib.Core.List.{List, [], _∷_, map, flatMap, head?, append-nil}
@@ -12,8 +12,9 @@ use native.Mathlib.Omega.{arith}
 use denote.Enum.Declared.{tagOf}
 use types.Run.{OneOf}
 use lib.ListN.{drop}
+use lib.Pow.{pow-mono}
 use Rattle.rules.specs.Choice.{given, orElse, select, firstOf, from}
-use Rattle.rules.specs.Words.{Table, atRest, sizeOf, topOf, bottomOf, interimOf, levelsInUse, bucketsOf, slotAt, slotsIn, placeOf, placeAt}
+use Rattle.rules.specs.Words.{Table, GoodHeader, atRest, sizeOf, topOf, bottomOf, interimOf, levelsInUse, bucketsOf, slotAt, slotsIn, placeOf, placeAt}
 use Rattle.rules.specs.Words.{slotsOf, keyIn, tokenOf, isTaken, slots, lowestTaken, taken}
 use Rattle.rules.specs.Placing.{placing, somewhere}
 use Rattle.rules.specs.Calls.{interimSlots, interimItems, hasPlace, stepItem}
@@ -27,13 +28,15 @@ use Rattle.rules.specs.declared.Placing.the-variants.{Free, Move, Nowhere}
 use Rattle.rules.proofs.Placing.{the-type}
 use Rattle.rules.proofs.Basics.Lists.{never, firstOf-some, firstOf-none, none-firstOf, given-some, given-none, firstOf-select, firstOf-map}
 use Rattle.rules.proofs.Basics.Lists.{firstOf-given, firstOf-flatMap}
-use Rattle.rules.proofs.Basics.Along.{along, along-all, along-pass, along-hit, along-over, Begins, along-begins}
+use Rattle.rules.proofs.Basics.Along.{along, along-all, along-pass, along-hit, along-over, along-begins}
 use Rattle.rules.proofs.Basics.Walks.{slots-next, from-next, from-end}
+use Rattle.rules.proofs.Words.Headers.{next-bucket-fits}
+use Rattle.rules.proofs.Words.Levels.{interim-used, exponent-fits}
 use Rattle.rules.proofs.Words.FreeSlots.{slot-place}
 use Rattle.rules.proofs.Basics.Lowest.{passing, lowest-some, lowest-none, lowest-below}
 use Rattle.reading.specs.Within.{SlotWithin, PlacingWithin}
-use Rattle.growing.specs.Interim.{placeable, placeableIn, PlacedBy}
-use Rattle.growing.specs.declared.interim.Placed.{Placed}
+use Rattle.growing.specs.Interim.{placeable, placeableIn, FoundBy}
+use Rattle.growing.specs.declared.interim.Found.{Found}
 
 level-slots : (s : State) → atRest s ≡ false → interimSlots s ≡ slotsOf (interimOf s)
 unfolding interimSlots levelsInUse topOf bottomOf interimOf flatMap
@@ -52,20 +55,30 @@ is-somewhere (Move from to) e = refl
 is-somewhere Nowhere e = absurd (⊎-elim (λ k. omega arith) (λ k. omega arith) e)
 
 -- what a search found, and whether it found anything
-module _ (t : Table) (h : Header) (r : Placed) where
-  pub placed-none : (o : Option Slot) → PlacedBy t h o r → r .placing ≡ Nowhere → o ≡ none
-  unfolding PlacedBy
+module _ (t : Table) (h : Header) (r : Found) where
+  pub placed-none : (o : Option Slot) → FoundBy t h o r → r .placing ≡ Nowhere → o ≡ none
+  unfolding FoundBy
   placed-none none k e = refl
   placed-none (some x) k e = never (k .2) (ap somewhere e)
 
-  pub none-placed : (o : Option Slot) → o ≡ none → r .placing ≡ Nowhere → PlacedBy t h o r
-  unfolding PlacedBy
+  pub none-placed : (o : Option Slot) → o ≡ none → r .placing ≡ Nowhere → FoundBy t h o r
+  unfolding FoundBy
   none-placed o e k = rw e k
 
-  pub placed-some : (o : Option Slot) → PlacedBy t h o r → somewhere (r .placing) ≡ true → o ≡ some (r .item)
-  unfolding PlacedBy
+  pub placed-some : (o : Option Slot) → FoundBy t h o r → somewhere (r .placing) ≡ true → o ≡ some (r .item)
+  unfolding FoundBy
   placed-some none k e = never e (ap somewhere k)
   placed-some (some x) k e = ap some (sym (k .0))
+
+-- the interim level's buckets are few enough to count, and lie in the table
+pub few-buckets : (m exponent : ℕ) → m ≡ 2 ^ exponent → exponent ≤ 20 → m ≤ 2 ^ 20
+few-buckets m exponent e low = rw e (pow-mono low)
+
+pub bucket-within : (n : ℕ) (h : Header) {m i : ℕ} {l : Level} → GoodHeader n h → atRest (h .state) ≡ false → l ≡ interimOf (h .state) → m ≡ sizeOf l
+    → i < m → 9 + 13 * (m - 1 + i) + 13 ≤ n
+bucket-within n h good growing e q r =
+    let fits = exponent-fits (h .c) (h .state) (good .state) (interimOf (h .state)) (interim-used (h .state) growing) in
+    next-bucket-fits n h good _ (rw e fits) q _ r
 
 -- ---- along the level's buckets, from the i-th on
 
@@ -165,8 +178,8 @@ module _ (t : Table) (h : Header) where
       slot-placeable g = rw (← u, ← v, e, ← k, ← f, g)
 
       pub slot-placed : somewhere q ≡ true → SlotWithin t (slotAt p s) → PlacingWithin t q → placeableIn t h p ≡ along (placeable t h) (slotsIn p) s
-          → PlacedBy t h (placeableIn t h p) (record { item = slotAt p s; placing = q })
-      unfolding PlacedBy
+          → FoundBy t h (placeableIn t h p) (record { item = slotAt p s; placing = q })
+      unfolding FoundBy
       slot-placed g near far i =
           rw (i ∙ along-hit (placeable t h) (slotsIn p) s (slots-next p s low) (slot-placeable g))
           (refl, f ∙ ap (placing t h) k, g, near, far)
@@ -185,8 +198,8 @@ module _ (t : Table) (h : Header) where
             go m (λ s l. k s (omega arith)) ∙ slot-free p m (f .0) u refl (f .1) ∙ ap (along (placeable t h) (slotsIn p)) next
 
   -- one bucket of the level, by what its own search found
-  module _ (m i : ℕ) {l : Level} (e : l ≡ interimOf (h .state)) (q : m ≡ sizeOf l) (r : i < m) (p : Place) (z : p ≡ placeAt l (m - 1 + i)) (f : Placed)
-      (k : PlacedBy t h (placeableIn t h p) f) where
+  module _ (m i : ℕ) {l : Level} (e : l ≡ interimOf (h .state)) (q : m ≡ sizeOf l) (r : i < m) (p : Place) (z : p ≡ placeAt l (m - 1 + i)) (f : Found)
+      (k : FoundBy t h (placeableIn t h p) f) where
     bucket-search : foundIn h (placeable t h) (m - 1 + i) ≡ placeableIn t h p
     unfolding placeableIn foundIn
     bucket-search = rw (z, e)
@@ -194,7 +207,7 @@ module _ (t : Table) (h : Header) where
     pub bucket-stuck : f .placing ≡ Nowhere → foundFrom h (placeable t h) i ≡ foundFrom h (placeable t h) (i + 1)
     bucket-stuck g = found-pass h (placeable t h) m i e q r (bucket-search ∙ placed-none t h f (placeableIn t h p) k g)
 
-    pub bucket-placed : somewhere (f .placing) ≡ true → stepItem t h ≡ foundFrom h (placeable t h) i → PlacedBy t h (stepItem t h) f
+    pub bucket-placed : somewhere (f .placing) ≡ true → stepItem t h ≡ foundFrom h (placeable t h) i → FoundBy t h (stepItem t h) f
     bucket-placed g j =
         let found = placed-some t h f (placeableIn t h p) k g in
         rw (j ∙ found-hit h (placeable t h) m i e q r (bucket-search ∙ found)) (rw found at k)

@@ -35,11 +35,11 @@ use Rattle.reading.proofs.Gated.{gate-open, gate-shut}
 use Rattle.listing.specs.Listing.{listedAt, Run, Takes}
 use Rattle.listing.specs.Promises.{StepTaken}
 use Rattle.listing.proofs.Runs.{then, front}
-use Rattle.growing.specs.Interim.{itemOf, PlacedBy}
+use Rattle.growing.specs.Interim.{itemOf, FoundBy}
 use Rattle.growing.specs.Steps.{DidStep}
 use Rattle.growing.proofs.Searches.{is-nowhere, placed-none}
 use Rattle.growing.specs.declared.interim.Item.the-variants.{At}
-use Rattle.growing.specs.declared.interim.Placed.{Placed}
+use Rattle.growing.specs.declared.interim.Found.{Found}
 
 -- ---- the item
 
@@ -64,18 +64,18 @@ module _ (t : Table) (h : Header) where
     step-on e = rw (p, e)
 
   -- what the search found is the item that the step takes
-  module _ (r : Placed) where
-    pub step-nowhere : (o : Option Slot) → PlacedBy t h o r → OneOf (2 ∷ []) (tagOf placing-type (r .placing)) → refused NoPlace ≡ stepIn t h o
+  module _ (r : Found) where
+    pub step-nowhere : (o : Option Slot) → FoundBy t h o r → OneOf (2 ∷ []) (tagOf placing-type (r .placing)) → refused NoPlace ≡ stepIn t h o
     step-nowhere o k e = rw (placed-none t h r o k (is-nowhere (r .placing) e))
 
-    pub step-within : (o : Option Slot) → PlacedBy t h o r → PlacingWithin t (r .placing)
-    unfolding PlacedBy
+    pub step-within : (o : Option Slot) → FoundBy t h o r → PlacingWithin t (r .placing)
+    unfolding FoundBy
     step-within none k = rw k tt
     step-within (some x) k = k .4
 
-    pub step-somewhere : (o : Option Slot) (p : Placing) (y : Slot) → PlacedBy t h o r → p ≡ r .placing → Takes t p y
+    pub step-somewhere : (o : Option Slot) (p : Placing) (y : Slot) → FoundBy t h o r → p ≡ r .placing → Takes t p y
         → (o ≡ some (r .item)) × (p ≡ placing t h (keyIn t (r .item))) × SlotWithin t (r .item)
-    unfolding Takes PlacedBy
+    unfolding Takes FoundBy
     step-somewhere none p y k q e = absurd (rw (q, k) at e)
     step-somewhere (some x) p y k q e = rw (k .0) (refl, q ∙ k .1, k .3)
 

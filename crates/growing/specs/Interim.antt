@@ -14,7 +14,7 @@ use Rattle.rules.specs.declared.Placing.the-variants.{Nowhere}
 use Rattle.reading.specs.Within.{SlotWithin, PlacingWithin}
 use Rattle.growing.specs.declared.interim.Item.{Item}
 use Rattle.growing.specs.declared.interim.Item.the-variants.{At, Empty}
-use Rattle.growing.specs.declared.interim.Placed.{Placed}
+use Rattle.growing.specs.declared.interim.Found.{Found}
 
 abbrev pub itemOf : Option Slot → Item
 itemOf (some x) = At x
@@ -32,8 +32,8 @@ placeable t h x = cond (taken t h x) (given (hasPlace t h x) x) none
 unfoldable pub placeableIn : Table → Header → Place → Option Slot
 placeableIn t h p = firstOf (placeable t h) (slotsIn p)
 
--- a search for such a slot, by what the rules say that it finds: the item and its placing, or no placing
-unfoldable pub PlacedBy : Table → Header → Option Slot → Placed → Type 0
-PlacedBy t h (some x) r =
+-- the answer of a search for such a slot, where the rules find o: the item and its placing, or no placing
+unfoldable pub FoundBy : Table → Header → Option Slot → Found → Type 0
+FoundBy t h (some x) r =
     (r .item ≡ x) × (r .placing ≡ placing t h (keyIn t x)) × (somewhere (r .placing) ≡ true) × SlotWithin t x × PlacingWithin t (r .placing)
-PlacedBy t h none r = r .placing ≡ Nowhere
+FoundBy t h none r = r .placing ≡ Nowhere

@@ -18,8 +18,8 @@ ghost use mathlib.Core.Option.{some};
 ghost use lib.ListN.{length};
 ghost use Rattle.rules.specs.Words.{GoodHeader, atRest};
 ghost use Rattle.rules.specs.Calls.{interimItems, stepItem};
-ghost use Rattle.reading.specs.Within.{BucketWithin, SlotWithin};
-ghost use Rattle.growing.specs.Interim.{itemOf, ItemWithin, placeableIn, PlacedBy};
+ghost use Rattle.reading.specs.Within.{BucketWithin};
+ghost use Rattle.growing.specs.Interim.{itemOf, ItemWithin, placeableIn, FoundBy};
 
 pub enum Item {
     At(Slot),
@@ -27,7 +27,7 @@ pub enum Item {
 }
 
 // An item and the placing that was found for it: nothing where no item has a place.
-pub struct Placed {
+pub struct Found {
     pub item: Slot,
     pub placing: Placing,
 }
@@ -54,9 +54,9 @@ pub fn first_item(t: &[u64], h: Header) -> Item
 }
 
 // Of one bucket, the first item that has a place.
-fn placed_in(t: &[u64], h: Header, p: Place) -> Placed
+fn placed_in(t: &[u64], h: Header, p: Place) -> Found
     requires { ⌜ GoodHeader (length (now t)) h × BucketWithin (now t) (p .bucket) ⌝ }
-    ensures { λ r. ⌜ PlacedBy (now (t .entry)) h (placeableIn (now (t .entry)) h p) r ⌝ }
+    ensures { λ r. ⌜ FoundBy (now (t .entry)) h (placeableIn (now (t .entry)) h p) r ⌝ }
 {
     let word = token(t, p.bucket);
     for s in lowest_taken(h, word)..4 {
@@ -69,14 +69,14 @@ fn placed_in(t: &[u64], h: Header, p: Place) -> Placed
             let key = key_at(t, x);
             let found = interim_placing(t, h, key, hashes(h, key));
             let Placing::Nowhere = found else {
-                return Placed {
+                return Found {
                     item: x,
                     placing: found,
                 };
             };
         }
     }
-    Placed {
+    Found {
         item: Slot {
             level: p.level,
             bucket: p.bucket,
@@ -87,9 +87,9 @@ fn placed_in(t: &[u64], h: Header, p: Place) -> Placed
 }
 
 // "the first interim item, in the same order, that has a place". No bucket before that of the first item has one.
-pub fn first_placed(t: &[u64], h: Header, first: Slot) -> Placed
+pub fn first_placed(t: &[u64], h: Header, first: Slot) -> Found
     requires { ⌜ GoodHeader (length (now t)) h × (atRest (h .state) ≡ false) × (head? (interimItems (now t) h) ≡ some first) ⌝ }
-    ensures { λ r. ⌜ PlacedBy (now (t .entry)) h (stepItem (now (t .entry)) h) r ⌝ }
+    ensures { λ r. ⌜ FoundBy (now (t .entry)) h (stepItem (now (t .entry)) h) r ⌝ }
 {
     let level = interim(h.state);
     let m = power(level.exponent);
@@ -104,7 +104,7 @@ pub fn first_placed(t: &[u64], h: Header, first: Slot) -> Placed
             return found;
         };
     }
-    Placed {
+    Found {
         item: first,
         placing: Placing::Nowhere,
     }

@@ -1,8 +1,8 @@
 // Growth in small steps: begin, step and end.
 pub mod interim;
 
+use interim::Found;
 use interim::Item;
-use interim::Placed;
 use interim::first_item;
 use interim::first_placed;
 use listing::clear;
@@ -28,7 +28,7 @@ ghost use Rattle.rules.specs.declared.Call.the-variants.{Begin as beginCall, En
 ghost use Rattle.rules.specs.declared.Change.the-variants.{Refused};
 ghost use Rattle.rules.specs.declared.Placing.the-variants.{Nowhere};
 ghost use Rattle.listing.specs.Promises.{Changed, StepTaken, Did};
-ghost use Rattle.growing.specs.Interim.{PlacedBy};
+ghost use Rattle.growing.specs.Interim.{FoundBy};
 ghost use Rattle.growing.specs.Steps.{DidStep};
 
 // "begin growth | state: k + 1, phase 1"
@@ -68,10 +68,10 @@ fn unplaced(refusal: Refusal) -> Stepped
     }
 }
 
-// "placing of the first taken interim slot .., then its interim token cleared", for the first that has a place. "Refusal 6 is then given
-// exactly when interim items remain and none has one".
-fn step_item(t: &[u64], list: &mut [u64], h: Header, found: Placed) -> Stepped
-    requires { ⌜ (20 ≤ length (now list)) × GoodHeader (length (now t)) h × PlacedBy (now t) h (stepItem (now t) h) found ⌝ }
+// The placing of the item that was found, "then its interim token cleared". "Refusal 6 is then given exactly when interim items remain
+// and none has one": then the search has found no placing.
+fn step_item(t: &[u64], list: &mut [u64], h: Header, found: Found) -> Stepped
+    requires { ⌜ (20 ≤ length (now list)) × GoodHeader (length (now t)) h × FoundBy (now t) h (stepItem (now t) h) found ⌝ }
     ensures { λ r. ⌜ DidStep (now (t .entry)) h (stepIn (now (t .entry)) h (stepItem (now (t .entry)) h)) (now (list .entry)) r (now (list .exit)) ⌝ }
 {
     let p = found.placing;

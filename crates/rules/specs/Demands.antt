@@ -370,6 +370,12 @@ UpdateWritten t h x key r (some y) xs = xs ≡ recordStores h (hide h (tokenOf t
 UpdateWritten t h x key r none xs =
     xs ≡ (6, slotStart x) ∷ (7, r .function) ∷ (8, r .place) ∷ (5, 1) ∷ (slotStart x + 1, r .function) ∷ (slotStart x + 2, r .place) ∷ (5, 0) ∷ []
 
+-- "growth step": the placing of the item x, "then its interim token cleared"
+abbrev pub StepWritten : Table → Header → Slot → List Store → Type 0
+StepWritten t h x xs =
+    (ys : List Store) × PlacingWritten t h (keyIn t x) (recordIn t x) (placing t h (keyIn t x)) ys
+    × (xs ≡ ys ++ ((bucketStart (x .bucket), hide h (tokenOf t (x .bucket)) (x .slot)) ∷ []))
+
 abbrev pub RecoveryWritten : Table → Header → Finding → List Store → Type 0
 RecoveryWritten t h Sound xs = xs ≡ []
 RecoveryWritten t h (Doubled kept later) xs = xs ≡ (bucketStart (later .bucket), hide h (tokenOf t (later .bucket)) (later .slot)) ∷ []
@@ -382,9 +388,7 @@ Written t h (insert key r) xs = PlacingWritten t h key r (placing t h key) xs
 Written t h (update key r) xs = (x : Slot) × FirstHolder t key x × UpdateWritten t h x key r (freeSlot t h (placeOf x)) xs
 Written t h (delete key) xs = (x : Slot) × FirstHolder t key x × (xs ≡ (bucketStart (x .bucket), hide h (tokenOf t (x .bucket)) (x .slot)) ∷ [])
 Written t h begin xs = xs ≡ (4, h .state .k + 1 + 256 * 1) ∷ []
-Written t h step xs =
-    (x : Slot) × (ys : List Store) × FirstWithPlace t x × PlacingWritten t h (keyIn t x) (recordIn t x) (placing t h (keyIn t x)) ys
-    × (xs ≡ ys ++ ((bucketStart (x .bucket), hide h (tokenOf t (x .bucket)) (x .slot)) ∷ []))
+Written t h step xs = (x : Slot) × FirstWithPlace t x × StepWritten t h x xs
 Written t h end xs = xs ≡ (4, h .state .k + 256 * 0) ∷ []
 Written t h recover xs = RecoveryWritten t h (finding t) xs
 

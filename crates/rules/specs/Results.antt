@@ -44,7 +44,7 @@ listAfter (listed stores) l = written stores l
 unfoldable pub changeResult : Table → List ℕ → Call → Change × List ℕ
 changeResult t l q = (changeOf (outcome t (length l) q), listAfter (outcome t (length l) q) l)
 
--- step: the same, with the placing found for the interim item in its answer
+-- step: the same, with the placing of the item that it takes in its answer
 abbrev pub stepPlacing : Table → Header → Outcome → Option Slot → Placing
 stepPlacing t h (refused r) o = Nowhere
 stepPlacing t h (listed stores) none = Nowhere

@@ -18,7 +18,7 @@ use Rattle.rules.specs.Calls.{headerGood, listLong, flagClear, changingT
 use Rattle.rules.specs.Calls.{stepTests, stepOf, endTests, endOf, delete, begin, step, end, outcome}
 use Rattle.rules.specs.Results.{changeResult, stepResult, createTests, created, createResult, makeTests, makeResult}
 use Rattle.rules.specs.declared.Record.{Record}
-use Rattle.rules.specs.Examples.{Shown, lists, refuses, tells, Row, row, sees, inserted, madeFirst, madeAll, fresh}
+use Rattle.rules.specs.Examples.{Shown, lists, refuses, tells, words, Row, row, sees, inserted, answered, madeFirst, madeAll, fresh}
 
 -- what a step tells beside its stores: its number, how many stores, and the slots of its placing
 abbrev pub told : Table → Shown
@@ -26,17 +26,21 @@ told t = let a = steppedMeans (stepResult t (replicate 20 0) .0) in tells (a .nu
 
 -- ---- c = 2, and one interim bucket: keys 16 and 17 stand in its slots 0 and 1
 
--- the old top is full of keys that have the same places as 16; and of others
+-- before the growth: keys 0, 4, 8 and 12 fill the bucket of the top where 16 would go, and then come these keys
 unfoldable pub filled : (ℕ → Record) → List ℕ → Table
 filled r keys = inserted r (fresh 4294967297 4294967297) (0 ∷ 4 ∷ 8 ∷ 12 ∷ keys)
 
--- 16 is stuck: its bucket of the new top is filled; 17 has room in the new top
+-- 16 is stuck: its bucket of the new top is full, too; 17 has room in the new top
 unfoldable pub blocked : (ℕ → Record) → Table
 blocked r = inserted r (madeAll (filled r (1 ∷ 5 ∷ 9 ∷ 13 ∷ 16 ∷ 17 ∷ [])) begin) (32 ∷ 36 ∷ 40 ∷ 44 ∷ [])
 
--- 16 is stuck; 17's places are full, too, but one of the bottom items there can rise to the new top
+-- 16 is stuck; 17's places are full, but an item of the bottom there can rise to the new top
 unfoldable pub crowded : (ℕ → Record) → Table
 crowded r = inserted r (madeAll (filled r (3 ∷ 7 ∷ 11 ∷ 15 ∷ 16 ∷ 17 ∷ [])) begin) (32 ∷ 36 ∷ 40 ∷ 44 ∷ 21 ∷ 25 ∷ 29 ∷ 33 ∷ [])
+
+-- 17 stands first, and needs that move; 16 has room in the new top
+unfoldable pub turned : (ℕ → Record) → Table
+turned r = inserted r (madeAll (filled r (3 ∷ 7 ∷ 11 ∷ 15 ∷ 17 ∷ 16 ∷ [])) begin) (21 ∷ 25 ∷ 29 ∷ 33 ∷ [])
 
 -- after the step that takes 17; and then without 32
 unfoldable pub stepped : (ℕ → Record) → Table
@@ -58,6 +62,15 @@ half r = inserted r (wide r) (48 ∷ 56 ∷ 64 ∷ 72 ∷ [])
 unfoldable pub whole : (ℕ → Record) → Table
 whole r = inserted r (half r) (36 ∷ 44 ∷ 52 ∷ 60 ∷ [])
 
+-- what these tables take as done was answered with 0
+unfoldable pub ready : (ℕ → Record) → List Row
+ready r =
+    row 17 (words (answered r (fresh 4294967297 4294967297) (0 ∷ 4 ∷ 8 ∷ 12 ∷ 1 ∷ 5 ∷ 9 ∷ 13 ∷ 16 ∷ 17 ∷ []))) (words (replicate 10 0))
+    ∷ row 18 (words (answered r (madeAll (filled r (1 ∷ 5 ∷ 9 ∷ 13 ∷ 16 ∷ 17 ∷ [])) begin) (32 ∷ 36 ∷ 40 ∷ 44 ∷ []))) (words (replicate 4 0))
+    ∷ row 19 (words (answered r (fresh 4294967297 4294967297) (0 ∷ 4 ∷ 8 ∷ 12 ∷ 3 ∷ 7 ∷ 11 ∷ 15 ∷ 16 ∷ 17 ∷ []))) (words (replicate 10 0))
+    ∷ row 20 (words (answered r (wide r) (48 ∷ 56 ∷ 64 ∷ 72 ∷ 36 ∷ 44 ∷ 52 ∷ 60 ∷ []))) (words (replicate 8 0))
+    ∷ []
+
 unfoldable pub cases : (ℕ → Record) → List Row
 cases r =
     -- "The step must take the first interim item, in the same order, that has a place": behind a stuck one, by a free slot
@@ -66,25 +79,28 @@ cases r =
     -- by a move: "The ten-store .. bounds stay"
     ∷ row 3 (sees (crowded r) step) (lists ((88, 3) ∷ (89, r 3 .function) ∷ (90, r 3 .place) ∷ (87, 1) ∷ (35, 14) ∷ (36, 17) ∷ (37, r 17 .function)
     ∷ (38, r 17 .place) ∷ (35, 15) ∷ (9, 1) ∷ []))
+    -- the first that has a place, be it by a move, and not the first that has a free slot
+    ∷ row 4 (sees (turned r) step) (lists ((88, 3) ∷ (89, r 3 .function) ∷ (90, r 3 .place) ∷ (87, 1) ∷ (35, 14) ∷ (36, 17) ∷ (37, r 17 .function)
+    ∷ (38, r 17 .place) ∷ (35, 15) ∷ (9, 2) ∷ []))
     -- of two that have a place the first, once a delete has made room for it
-    ∷ row 4 (sees (madeAll (blocked r) (delete 32)) step) (lists ((49, 16) ∷ (50, r 16 .function) ∷ (51, r 16 .place) ∷ (48, 15) ∷ (9, 2) ∷ []))
+    ∷ row 5 (sees (madeAll (blocked r) (delete 32)) step) (lists ((49, 16) ∷ (50, r 16 .function) ∷ (51, r 16 .place) ∷ (48, 15) ∷ (9, 2) ∷ []))
     -- slot after slot of one bucket
-    ∷ row 5 (sees (half r) step) (lists ((153, 20) ∷ (154, r 20 .function) ∷ (155, r 20 .place) ∷ (152, 1) ∷ (22, 13) ∷ []))
-    ∷ row 6 (sees (madeAll (half r) step) step) (lists ((156, 28) ∷ (157, r 28 .function) ∷ (158, r 28 .place) ∷ (152, 3) ∷ (22, 5) ∷ []))
+    ∷ row 6 (sees (half r) step) (lists ((153, 20) ∷ (154, r 20 .function) ∷ (155, r 20 .place) ∷ (152, 1) ∷ (22, 13) ∷ []))
+    ∷ row 7 (sees (madeAll (half r) step) step) (lists ((156, 28) ∷ (157, r 28 .function) ∷ (158, r 28 .place) ∷ (152, 3) ∷ (22, 5) ∷ []))
     -- bucket after bucket
-    ∷ row 7 (sees (whole r) step) (lists ((114, 17) ∷ (115, r 17 .function) ∷ (116, r 17 .place) ∷ (113, 1) ∷ (35, 0) ∷ []))
+    ∷ row 8 (sees (whole r) step) (lists ((114, 17) ∷ (115, r 17 .function) ∷ (116, r 17 .place) ∷ (113, 1) ∷ (35, 0) ∷ []))
     -- "Refusal 6 is then given exactly when interim items remain and none has one"
-    ∷ row 8 (sees (stepped r) step) (refuses 6)
-    ∷ row 9 (sees (madeAll (whole r) step) step) (refuses 6)
-    ∷ row 10 (told (stepped r)) (tells 6 (0 ∷ []))
+    ∷ row 9 (sees (stepped r) step) (refuses 6)
+    ∷ row 10 (sees (madeAll (whole r) step) step) (refuses 6)
+    ∷ row 11 (told (stepped r)) (tells 6 (0 ∷ []))
     -- the growth goes to its end once a delete has made room: the stuck item moves, and "11 keeps its meaning"
-    ∷ row 11 (sees (cleared r) step) (lists ((49, 16) ∷ (50, r 16 .function) ∷ (51, r 16 .place) ∷ (48, 15) ∷ (9, 0) ∷ []))
-    ∷ row 12 (sees (madeAll (cleared r) step) step) (refuses 11)
-    ∷ row 13 (sees (madeAll (cleared r) step) end) (lists ((4, 2) ∷ []))
+    ∷ row 12 (sees (cleared r) step) (lists ((49, 16) ∷ (50, r 16 .function) ∷ (51, r 16 .place) ∷ (48, 15) ∷ (9, 0) ∷ []))
+    ∷ row 13 (sees (madeAll (cleared r) step) step) (refuses 11)
+    ∷ row 14 (sees (madeAll (cleared r) step) end) (lists ((4, 2) ∷ []))
     -- 8 comes before 6 and 11, and 3 before 8
-    ∷ row 14 (sees (madeAll (madeAll (cleared r) step) end) step) (refuses 8)
-    ∷ row 15 (sees (set (stepped r) 5 1) step) (refuses 3)
-    ∷ []
+    ∷ row 15 (sees (madeAll (madeAll (cleared r) step) end) step) (refuses 8)
+    ∷ row 16 (sees (set (stepped r) 5 1) step) (refuses 3)
+    ∷ ready r
 
 -- the rules compute what request b) asks for
 pub stepCases : (r : ℕ → Record) → map (λ (x : Row). x .computed) (cases r) ≡ map (λ (x : Row). x .paper) (cases r)
@@ -93,5 +109,6 @@ unfolding productOf hashOf flatMap wordsFor stateOf stateWord atRest headerOf fl
     takenOf taken hashesOf firstPlace secondPlace samePlace placesIn probes placesOf holds hitIn lookup takenIn freeSlot fewer emptier roomIn otherPlace
     itemsOf candidates moveOf placing putStores clearStores moveStores placingStores beginStores endStores stepStores written steppedMeans headerGood
     listLong flagClear changingTests beginTests beginOf interimSlots interimItems hasPlace stepItem stepTests stepOf endTests endOf outcome changeResult
-    stepResult createTests created createResult makeTests makeResult madeFirst madeAll fresh filled blocked crowded stepped cleared wide half whole cases
+    stepResult createTests created createResult makeTests makeResult madeFirst madeAll fresh filled blocked crowded turned stepped cleared wide half
+    whole ready cases
 stepCases r = refl

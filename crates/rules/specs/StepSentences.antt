@@ -4,14 +4,13 @@
 -- Assumes nothing.
 use Prim.Native.Nat.{ℕ, _≤_}
 use mathlib.Core.Path.{_≡_}
-use mathlib.Core.List.{List, [], _∷_, _++_}
+use mathlib.Core.List.{List}
 use mathlib.Core.Logic.{_↔_}
-use Rattle.rules.specs.Words.{Table, word, headerOf, keyIn, recordIn, tokenOf, hide}
-use Rattle.rules.specs.Placing.{placing}
+use Rattle.rules.specs.Words.{Table, word, headerOf, keyIn}
 use Rattle.rules.specs.Stores.{Store}
 use Rattle.rules.specs.Calls.{refused, listed, step, outcome}
 use Rattle.rules.specs.NoPlace.{NoPlaceFor}
-use Rattle.rules.specs.Demands.{Growing, HeaderWords, InterimItem, NoInterim, FirstWithPlace, NoneHasPlace, bucketStart, PlacingWritten}
+use Rattle.rules.specs.Demands.{Growing, HeaderWords, InterimItem, NoInterim, FirstWithPlace, NoneHasPlace, StepWritten}
 use Rattle.rules.specs.declared.Slot.{Slot}
 use Rattle.rules.specs.declared.Refusal.the-variants.{NoPlace, InterimEmpty}
 
@@ -28,8 +27,7 @@ pub record MayStep (t : Table) (n : ℕ) : Type 0 where
 abbrev pub StepTakesTheFirst : Type 0
 StepTakesTheFirst =
     (t : Table) (n : ℕ) (x : Slot) → MayStep t n → FirstWithPlace t x
-    → (ys : List Store) × PlacingWritten t (headerOf t) (keyIn t x) (recordIn t x) (placing t (headerOf t) (keyIn t x)) ys
-    × (outcome t n step ≡ listed (ys ++ ((bucketStart (x .bucket), hide (headerOf t) (tokenOf t (x .bucket)) (x .slot)) ∷ [])))
+    → (stores : List Store) × (outcome t n step ≡ listed stores) × StepWritten t (headerOf t) x stores
 
 -- "One stubborn item blocks a whole growth": no longer. Where any interim item has a place, the step is accepted
 abbrev pub NoItemBlocks : Type 0
@@ -42,10 +40,11 @@ NoItemBlocks =
 abbrev pub SixExactly : Type 0
 SixExactly = (t : Table) (n : ℕ) → (outcome t n step ≡ refused NoPlace) ↔ (MayStep t n × NoneHasPlace t)
 
--- ==== "11 keeps its meaning": "interim empty"; and the two exclude each other
+-- ==== "11 keeps its meaning": "interim empty"
 
 abbrev pub ElevenExactly : Type 0
 ElevenExactly = (t : Table) (n : ℕ) → (outcome t n step ≡ refused InterimEmpty) ↔ (MayStep t n × NoInterim t)
 
+-- the two conditions exclude each other, so that no order of 6 and 11 is needed
 abbrev pub SixIsNotEleven : Type 0
 SixIsNotEleven = (t : Table) → NoneHasPlace t → NoInterim t → ⊥

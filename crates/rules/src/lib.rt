@@ -110,8 +110,7 @@ pub enum Change {
     Refused(Refusal),
 }
 
-// What a growth step answers: the change, and the placing that it found for the interim item; nothing where it
-// was refused.
+// What a growth step answers: the change, and the placing of the item that it takes; nothing where it was refused.
 pub struct Stepped {
     pub change: Change,
     pub placing: Placing,

@@ -9,15 +9,12 @@ use borrow.Author.Needs.{needs}
 use Rattle.growing.proofs.step_at.Statement.{statement}
 use Rattle.growing.proofs.step_at.Tie as tie
 
--- src/lib.rt:96:8
 at-rest-requires : tie.Need-at-rest-requires
 at-rest-requires c κs = search needs
 
--- src/lib.rt:97:9
 unplaced-requires : tie.Need-unplaced-requires
 unplaced-requires c κs = search needs
 
--- src/lib.rt:97:9
 returns : tie.Need-returns
 returns c = did-step-refuse _ _ _ (step-resting _ _ (sym (c .before .before .at-rest .ensures) ∙ c .before .if1 .taken)) (c .unplaced .ensures)
 
@@ -25,23 +22,18 @@ returns c = did-step-refuse _ _ _ (step-resting _ _ (sym (c .before .before .at-
 growing : (c : tie.Else1) → atRest (c .before .before .before .before .before .args .h .state) ≡ false
 growing c = sym (c .before .at-rest .ensures) ∙ c .if1 .left
 
--- src/lib.rt:99:9
 first-item-requires : tie.Need-first-item-requires
 first-item-requires c κs = (c .before .before .before .before .before .pre .1, growing c)
 
--- src/lib.rt:100:18
 enum-known-item : tie.Need-enum-known-item
 enum-known-item c = search needs
 
--- src/lib.rt:101:25
 enum-told : tie.Need-enum-told
 enum-told c = search needs
 
--- src/lib.rt:101:9
 unplaced-requires-2 : tie.Need-unplaced-requires-2
 unplaced-requires-2 c κs = search needs
 
--- src/lib.rt:101:9
 returns-2 : tie.Need-returns-2
 returns-2 c =
     let m = c .before .before in
@@ -49,22 +41,18 @@ returns-2 c =
     did-step-refuse _ _ _ (step-empty _ _ (growing (f .before)) (nothing _ _ (sym (f .first-item .ensures .0) ∙ is-empty _ (m .match .keys2))))
     (c .unplaced2 .ensures)
 
--- src/lib.rt:103:27
 first-placed-requires : tie.Need-first-placed-requires
 first-placed-requires c κs =
     let i = c .before .before in
     let f = i .before .before in
     (f .before .before .before .before .before .before .pre .1, growing (f .before), item-some _ (sym (f .first-item .ensures .0) ∙ i .item .given .1))
 
--- src/lib.rt:103:5
 step-item-requires : tie.Need-step-item-requires
 step-item-requires c κs = search needs
 
--- src/lib.rt:91:1
 same-length : tie.Need-same-length
 same-length c = search needs
 
--- src/lib.rt:91:1
 returns-3 : tie.Need-returns-3
 returns-3 c =
     let d = c .before .before in

@@ -33,49 +33,39 @@ found : (c : tie.At-match-came) →
     × SlotWithin (now (s .args .t)) x
 found c = let z = taken c in step-somewhere _ _ _ _ _ _ (c .before .before .before .pre .2) (z .0) (z .1)
 
--- src/lib.rt:78:24
 enum-known-p : tie.Need-enum-known-p
 enum-known-p c = search needs
 
--- src/lib.rt:78:43
 enum-known-p-2 : tie.Need-enum-known-p-2
 enum-known-p-2 c = search needs
 
--- src/lib.rt:79:25
 enum-told : tie.Need-enum-told
 enum-told c = search needs
 
--- src/lib.rt:79:9
 unplaced-requires : tie.Need-unplaced-requires
 unplaced-requires c κs = search needs
 
--- src/lib.rt:79:9
 returns : tie.Need-returns
 returns c =
     let m = c .before .before in
     let s = m .before .before .before in
     did-step-refuse _ _ _ (step-nowhere _ _ (s .args .found) _ (s .pre .2) (m .match .keys3)) (c .unplaced .ensures)
 
--- src/lib.rt:82:45
 key-at-requires : tie.Need-key-at-requires
 key-at-requires c κs = found (c .before .before) .2
 
--- src/lib.rt:82:59
 record-at-requires : tie.Need-record-at-requires
 record-at-requires c κs = found (c .before .before .before) .2
 
--- src/lib.rt:82:9
 list-placing-requires : tie.Need-list-placing-requires
 list-placing-requires c κs =
     let m = c .before .before .before .before in
     let s = m .before .before .before in
     (omega (arith, s .pre .0), table-small _ _ (s .pre .1), taken m .1)
 
--- src/lib.rt:83:32
 token-requires : tie.Need-token-requires
 token-requires c κs = found (c .before .before .before .before .before .before .before .before) .2 .0
 
--- src/lib.rt:83:9
 clear-requires : tie.Need-clear-requires
 clear-requires c κs =
     let d = c .before .before .before .before in
@@ -84,11 +74,9 @@ clear-requires c κs =
     let x = found m .2 in
     omega (arith, s .pre .0, table-small _ _ (s .pre .1), x .0, x .1, d .list-placing .ensures .1)
 
--- src/lib.rt:73:1
 same-length : tie.Need-same-length
 same-length c = search needs
 
--- src/lib.rt:73:1
 returns-2 : tie.Need-returns-2
 returns-2 c =
     let u = c .before .before in

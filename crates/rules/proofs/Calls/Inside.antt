@@ -145,7 +145,7 @@ module _ (t : Table) (good : GoodHeader (length t) (headerOf t)) where
   written-each n (update key r) xs o (x, s, e) = update-each x (holder-taken t key x s .0 .used) key r xs (freeSlot t (headerOf t) (placeOf x)) refl e
   written-each n (delete key) xs o (x, s, e) = rw e (clear-each (length t) x (within x (holder-taken t key x s .0 .used)) (headerOf t) (tokenOf t (x .bucket)))
   written-each n begin xs o e = rw e (to-header 4 _ (omega arith), tt)
-  written-each n step xs o (x, ys, s, w, e) =
+  written-each n step xs o (x, s, (ys, w, e)) =
       let cleared = clear-each (length t) x (within x (s .item .item .used)) (headerOf t) (tokenOf t (x .bucket)) in
       rw e (each-append (Fits (length t)) ys _ (placing-each (keyIn t x) (recordIn t x) ys (placing t (headerOf t) (keyIn t x)) refl w) cleared)
   written-each n end xs o e = rw e (to-header 4 _ (omega arith), tt)

@@ -26,7 +26,8 @@ module _ (t : Table) where
   refused-bare (refused r) n = refl
   refused-bare (listed xs) n = absurd (n refl)
 
-  tells-placing : (o : Outcome) → steppedMeans (answer o) .number ≡ 0 → (x : Slot) → FirstWithPlace t x → answer o .placing ≡ placing t (headerOf t) (keyIn t x)
+  tells-placing : (o : Outcome) → steppedMeans (answer o) .number ≡ 0 → (x : Slot) → FirstWithPlace t x
+      → answer o .placing ≡ placing t (headerOf t) (keyIn t x)
   unfolding steppedMeans
   tells-placing (refused r) e x f = absurd (eqb-false (numberOf r) 0 (refusal-number r) e)
   tells-placing (listed xs) e x f = rw (first-item t x f)

@@ -1,10 +1,10 @@
 -- Request b)'s sentences: which item a step takes, and when it gives 6 and 11, on every table.
 -- Assumes nothing.
-use Prim.Native.Nat.{ℕ, _≤_, _<_}
-use mathlib.Core.Path.{_≡_, refl, sym, ap, _∙_}
+use Prim.Native.Nat.{ℕ, _<_}
+use mathlib.Core.Path.{_≡_, refl, sym, ap, _∙_, subst}
 use mathlib.Core.Bool.{Bool, true, false}
 use mathlib.Core.List.{List, [], _∷_}
-use mathlib.Core.Logic.{inl, inr, Iff·trans}
+use mathlib.Core.Logic.{_↔_, inl, inr, Iff·trans}
 use native.Mathlib.Decide.{ℕ-discrete}
 use native.Mathlib.Omega.{arith}
 use lib.ListN.{length}
@@ -13,9 +13,8 @@ use Rattle.rules.specs.Words.{Table, headerOf, headerTests, word}
 use Rattle.rules.specs.Stores.{Store}
 use Rattle.rules.specs.Answers.{numberOf}
 use Rattle.rules.specs.Calls.{Outcome, refused, listed, step, outcome}
-use Rattle.rules.specs.Demands.{NoInterim, NoneHasPlace, HeaderWords, refusals, FirstRefuses}
+use Rattle.rules.specs.Demands.{NoInterim, NoneHasPlace, HeaderWords, refusals, FirstRefuses, StepWritten}
 use Rattle.rules.specs.StepSentences.{MayStep, StepTakesTheFirst, NoItemBlocks, SixExactly, ElevenExactly, SixIsNotEleven}
-use Rattle.rules.specs.declared.Slot.{Slot}
 use Rattle.rules.specs.declared.Refusal.{Refusal}
 use Rattle.rules.specs.declared.Refusal.the-variants.{InterimEmpty, NoPlace}
 use Rattle.rules.proofs.Basics.Lists.{never}
@@ -37,8 +36,8 @@ module _ (t : Table) (n : ℕ) where
   abbrev Behind : Outcome → Type 0
   Behind = FirstRefuses ((NoInterim t, InterimEmpty) ∷ (NoneHasPlace t, NoPlace) ∷ [])
 
-  passes : MayStep t n → Behind (outcome t n step)
-  passes may = go (refusalsInOrder t n step)
+  past-tests : MayStep t n → Behind (outcome t n step)
+  past-tests may = go (refusalsInOrder t n step)
     where
       go : FirstRefuses (refusals t n step) (outcome t n step) → Behind (outcome t n step)
       go (inl (bad, e)) = absurd (bad (may .header))
@@ -76,39 +75,31 @@ module _ (t : Table) (n : ℕ) where
       go (inr (h, inr (l, inr (f, inr (g, k))))) =
           (record { header = header-stands h; list = omega (arith, l); flag = flag-clear f; growing = g }, k)
 
-pub sixExactly : SixExactly
-sixExactly t n = (
-  λ e. let b = came-behind t n NoPlace (omega arith) (λ k. omega arith) e in (b .0, stuck e (b .1)),
-  λ k. given (k .1) (passes t n (k .0)),
+-- where the first tests let a step pass, 11 and 6 mean what they should
+behind-exactly : (t : Table) (n : ℕ) (o : Outcome) → Behind t n o → ((o ≡ refused InterimEmpty) ↔ NoInterim t) × ((o ≡ refused NoPlace) ↔ NoneHasPlace t)
+behind-exactly t n o (inl (empty, q)) = (
+  (λ e. empty, λ k. q),
+  (λ e. let z = same-number (sym q ∙ e) in absurd (omega arith), λ none. absurd (sixIsNotEleven t none empty)),
 )
-  where
-    stuck : outcome t n step ≡ refused NoPlace → Behind t n (outcome t n step) → NoneHasPlace t
-    stuck e (inl (empty, q)) = absurd (let z = same-number (sym q ∙ e) in omega arith)
-    stuck e (inr (i, inl (none, q))) = none
-    stuck e (inr (i, inr (d, (xs, q)))) = never-listed (sym e ∙ q)
-
-    given : NoneHasPlace t → Behind t n (outcome t n step) → outcome t n step ≡ refused NoPlace
-    given none (inl (empty, q)) = absurd (sixIsNotEleven t none empty)
-    given none (inr (i, inl (k, q))) = q
-    given none (inr (i, inr (d, q))) = absurd (d none)
+behind-exactly t n o (inr (i, inl (none, q))) =
+    ((λ e. let z = same-number (sym q ∙ e) in absurd (omega arith), λ k. absurd (i k)), (λ e. none, λ k. q))
+behind-exactly t n o (inr (i, inr (d, (xs, q)))) =
+    ((λ e. never-listed (sym e ∙ q), λ k. absurd (i k)), (λ e. never-listed (sym e ∙ q), λ k. absurd (d k)))
 
 pub elevenExactly : ElevenExactly
 elevenExactly t n = (
-  λ e. let b = came-behind t n InterimEmpty (omega arith) (λ k. omega arith) e in (b .0, none-left e (b .1)),
-  λ k. given (k .1) (passes t n (k .0)),
+  λ e. let b = came-behind t n InterimEmpty (omega arith) (λ k. omega arith) e in (b .0, behind-exactly t n _ (b .1) .0 .0 e),
+  λ k. behind-exactly t n _ (past-tests t n (k .0)) .0 .1 (k .1),
 )
-  where
-    none-left : outcome t n step ≡ refused InterimEmpty → Behind t n (outcome t n step) → NoInterim t
-    none-left e (inl (empty, q)) = empty
-    none-left e (inr (i, inl (none, q))) = absurd (let z = same-number (sym q ∙ e) in omega arith)
-    none-left e (inr (i, inr (d, (xs, q)))) = never-listed (sym e ∙ q)
 
-    given : NoInterim t → Behind t n (outcome t n step) → outcome t n step ≡ refused InterimEmpty
-    given empty (inl (k, q)) = q
-    given empty (inr (i, k)) = absurd (i empty)
+pub sixExactly : SixExactly
+sixExactly t n = (
+  λ e. let b = came-behind t n NoPlace (omega arith) (λ k. omega arith) e in (b .0, behind-exactly t n _ (b .1) .1 .0 e),
+  λ k. behind-exactly t n _ (past-tests t n (k .0)) .1 .1 (k .1),
+)
 
 pub noItemBlocks : NoItemBlocks
-noItemBlocks t n x may item place = go (passes t n may)
+noItemBlocks t n x may item place = go (past-tests t n may)
   where
     go : Behind t n (outcome t n step) → (stores : List Store) × (outcome t n step ≡ listed stores)
     go (inl (empty, q)) = absurd (empty x item)
@@ -119,4 +110,4 @@ pub stepTakesTheFirst : StepTakesTheFirst
 stepTakesTheFirst t n x may first =
     let a = noItemBlocks t n x may (first .item) (first .place) in
     let w = storesAsWritten t n step (a .0) (a .1) in
-    rw (first-one t x (w .0) first (w .2)) (w .1, w .3, a .1 ∙ ap listed (w .4))
+    (a .0, a .1, subst (λ y. StepWritten t (headerOf t) y (a .0)) (first-one t (w .0) x (w .1) first) (w .2))

@@ -78,7 +78,7 @@ module _ (t : Table) (h : Header) (xs : List Store) where
       → stepIn t h o ≡ listed xs → Written t h step xs
   unfolding clearStores tokenWord
   step-written none q e = never-listed e
-  step-written (some x) q e = let r = step-by x (placing t h (keyIn t x)) (q x refl .1) (listed-one e) in (x, r .0, q x refl .0, r .1, r .2)
+  step-written (some x) q e = let r = step-by x (placing t h (keyIn t x)) (q x refl .1) (listed-one e) in (x, q x refl .0, r)
 
   recover-written : (f : Finding) → recoverOf t h f ≡ listed xs → RecoveryWritten t h f xs
   unfolding clearStores redoStores loggedOf keyWord tokenWord functionWord placeWord

@@ -50,7 +50,7 @@ module _ (t : Table) (h : Header) where
   written-number xs (update key r) (x, s, e) = update-number xs x key r (freeSlot t h (placeOf x)) e
   written-number xs (delete key) (x, s, e) = ap length e
   written-number xs begin e = ap length e
-  written-number xs step (x, ys, s, w, e) =
+  written-number xs step (x, s, (ys, w, e)) =
       ⊎-elim (λ (k : length ys ≡ 4). inl (rw (e, length-append, k))) (λ (k : length ys ≡ 9). inr (rw (e, length-append, k)))
       (placing-number ys (keyIn t x) (recordIn t x) (placing t h (keyIn t x)) w)
   written-number xs end e = ap length e

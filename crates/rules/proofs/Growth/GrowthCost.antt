@@ -12,17 +12,17 @@ use lib.ListN.{length}
 use lib.Pow.{pow-pos, pow-add}
 use borrow.Author.Tests.{eqb-true}
 use Rattle.rules.specs.Choice.{from}
-use Rattle.rules.specs.Words.{Table, GoodHeader, headerOf, flagOf, atRest, stateWord, sizeOf, interimOf, bucketsOf, InLevel, placeOf, keyIn}
+use Rattle.rules.specs.Words.{Table, GoodHeader, headerOf, flagOf, atRest, stateWord, sizeOf, interimOf, bucketsOf, InLevel, placeOf}
 use Rattle.rules.specs.Words.{tokenOf, takenOf}
 use Rattle.rules.specs.Places.{lookup}
 use Rattle.rules.specs.Placing.{freeSlot, placing}
-use Rattle.rules.specs.Stores.{Store, placingStores, updateStores, stepStores, made}
+use Rattle.rules.specs.Stores.{Store, placingStores, updateStores, made}
 use Rattle.rules.specs.Soundness.{finding}
 use Rattle.rules.specs.Calls.{flagClear, changingTests, Outcome, refused, listed, placedBy, insertIn, updateIn, deleteIn, beginTests, beginOf}
 use Rattle.rules.specs.Calls.{stepItem, stepIn, stepTests, stepOf, recoverOf, Call, query, insert, update, delete, begin, step, end, recover}
 use Rattle.rules.specs.Calls.{testsOf, outcome}
 use Rattle.rules.specs.Histories.{Event, whole, cut, kept, after, Every, Whole, ownStores, spent, OneGrowth}
-use Rattle.rules.specs.Demands.{Growing, InterimItem, withState, GrowthBound}
+use Rattle.rules.specs.Demands.{Growing, withState, GrowthBound}
 use Rattle.rules.specs.declared.State.{State}
 use Rattle.rules.specs.declared.Header.{Header}
 use Rattle.rules.specs.declared.Slot.{Slot}

@@ -1,17 +1,15 @@
 -- `growing::interim::first_item` meets its contract.
 -- Assumes nothing.
 use borrow.Author.Needs.{needs}
-use Prim.Native.Nat.{_+_, _-_, _^_, _≤_}
+use Prim.Native.Nat.{_+_, _-_}
 use mathlib.Core.Path.{_≡_, refl, sym, ap, _∙_}
 use native.Mathlib.Omega.{arith}
 use denote.Ref.{now}
-use lib.Pow.{pow-mono}
 use Rattle.rules.specs.Words.{slotAt, placeAt}
-use Rattle.rules.proofs.Words.Headers.{header-state, next-bucket-fits}
-use Rattle.rules.proofs.Words.Levels.{interim-used, exponent-fits}
+use Rattle.rules.proofs.Words.Headers.{header-state}
 use Rattle.reading.specs.Within.{BucketWithin}
 use Rattle.growing.specs.Interim.{itemOf}
-use Rattle.growing.proofs.Searches.{foundFrom, found-hit, found-pass, found-over, itemAt, items-all, item-here, item-none}
+use Rattle.growing.proofs.Searches.{few-buckets, bucket-within, foundFrom, found-hit, found-pass, found-over, itemAt, items-all, item-here, item-none}
 use Rattle.growing.proofs.interim.first_item.Statement.{statement}
 use Rattle.growing.proofs.interim.first_item.Tie as tie
 
@@ -21,18 +19,13 @@ Inv-loop t h level m i₀ i = foundFrom h (itemAt t h) 0 ≡ foundFrom h (itemAt
 abbrev μ-loop : tie.MeasureT-loop
 μ-loop t h level m i₀ i = m - i
 
--- the interim level has few enough buckets to count
-few : (c : tie.After-power Inv-loop μ-loop) → c .power .result ≤ 2 ^ 20
-few c = rw (c .power .ensures .0) (pow-mono (c .before .interim .ensures .1))
-
--- and they lie in the table
+-- its buckets lie in the table
 within : (c : tie.In-loop Inv-loop μ-loop) →
     let p = c .before .before in BucketWithin (now (p .before .before .before .args .t)) (p .power .result - 1 + c .before .loop .i)
 within c =
     let p = c .before .before in
     let s = p .before .before .before in
-    let fits = exponent-fits (s .args .h .c) _ (s .pre .0 .state) _ (interim-used (s .args .h .state) (s .pre .1)) in
-    next-bucket-fits _ _ (s .pre .0) _ (rw (p .before .interim .ensures .0) fits) (p .power .ensures .0) _ (c .loop-test .taken)
+    bucket-within _ _ (s .pre .0) (s .pre .1) (p .before .interim .ensures .0) (p .power .ensures .0) (c .loop-test .taken)
 
 interim-requires : tie.Need-interim-requires Inv-loop μ-loop
 interim-requires c κs = (header-state _ _ (c .before .pre .0), c .before .pre .1)
@@ -47,7 +40,10 @@ sub-j : tie.Need-sub-j Inv-loop μ-loop
 sub-j c = omega (arith, c .before .before .power .ensures .1)
 
 add-j : tie.Need-add-j Inv-loop μ-loop
-add-j c = let l = few (c .before .before) in omega arith
+add-j c =
+    let p = c .before .before in
+    let l = few-buckets _ _ (p .power .ensures .0) (p .before .interim .ensures .1) in
+    omega arith
 
 token-requires : tie.Need-token-requires Inv-loop μ-loop
 token-requires c κs = within c

@@ -1,18 +1,16 @@
 -- `growing::interim::first_placed` meets its contract: the item that the step takes is the first that has a place from bucket i on.
 -- Assumes nothing.
 use borrow.Author.Needs.{needs}
-use Prim.Native.Nat.{ℕ, _+_, _-_, _^_, _≤_}
-use mathlib.Core.Path.{_≡_, refl, sym, ap, _∙_}
+use Prim.Native.Nat.{ℕ, _+_, _-_}
+use mathlib.Core.Path.{_≡_, refl, ap, _∙_}
 use native.Mathlib.Omega.{arith}
 use denote.Ref.{now}
-use lib.Pow.{pow-mono}
 use Rattle.rules.specs.Words.{placeAt}
 use Rattle.rules.specs.Calls.{stepItem}
-use Rattle.rules.proofs.Words.Headers.{header-state, next-bucket-fits}
-use Rattle.rules.proofs.Words.Levels.{interim-used, exponent-fits}
-use Rattle.reading.specs.Within.{BucketWithin}
+use Rattle.rules.proofs.Words.Headers.{header-state}
 use Rattle.growing.specs.Interim.{placeable}
-use Rattle.growing.proofs.Searches.{is-nowhere, is-somewhere, none-placed, foundFrom, found-over, bucket-stuck, bucket-placed, placeable-from}
+use Rattle.growing.proofs.Searches.{few-buckets, bucket-within, is-nowhere, is-somewhere, none-placed, foundFrom, found-over, bucket-stuck}
+use Rattle.growing.proofs.Searches.{bucket-placed, placeable-from}
 use Rattle.growing.proofs.interim.first_placed.Statement.{statement}
 use Rattle.growing.proofs.interim.first_placed.Tie as tie
 
@@ -22,11 +20,6 @@ Inv-loop t h first level m i₀ i = stepItem t h ≡ foundFrom h (placeable t h)
 abbrev μ-loop : tie.MeasureT-loop
 μ-loop t h first level m i₀ i = m - i
 
--- the interim level has few enough buckets to count
-few : (c : tie.After-power Inv-loop μ-loop) → c .power .result ≤ 2 ^ 20
-few c = rw (c .power .ensures .0) (pow-mono (c .before .interim .ensures .1))
-
--- src/interim.rt:94:9
 -- the search begins at the bucket of the first item
 start : (c : tie.After-power Inv-loop μ-loop) →
     let s = c .before .before .before in
@@ -39,19 +32,15 @@ start c =
 interim-requires : tie.Need-interim-requires Inv-loop μ-loop
 interim-requires c κs = (header-state _ _ (c .before .pre .0), c .before .pre .1)
 
--- src/interim.rt:95:9
 power-requires : tie.Need-power-requires Inv-loop μ-loop
 power-requires c κs = omega (arith, c .interim .ensures .1)
 
--- src/interim.rt:96:30
 sub-i : tie.Need-sub-i Inv-loop μ-loop
 sub-i c = omega (arith, c .power .ensures .1)
 
--- src/interim.rt:96:14
 sub-i-2 : tie.Need-sub-i-2 Inv-loop μ-loop
 sub-i-2 c = omega (arith, start (c .before) .1)
 
--- src/interim.rt:96:5
 loop-holds : tie.Need-loop-holds Inv-loop μ-loop
 loop-holds c =
     let p = c .before in
@@ -59,26 +48,24 @@ loop-holds c =
     let same : s .0 ≡ p .before .before .before .args .first .bucket - (p .power .result - 1) = omega (arith, s .1) in
     s .2 ∙ ap (foundFrom _ _) same
 
--- src/interim.rt:99:21
 sub-t12 : tie.Need-sub-t12 Inv-loop μ-loop
 sub-t12 c = omega (arith, c .before .before .before .power .ensures .1)
 
--- src/interim.rt:99:21
 add-t13 : tie.Need-add-t13 Inv-loop μ-loop
-add-t13 c = let l = few (c .before .before .before) in omega arith
+add-t13 c =
+    let p = c .before .before .before in
+    let l = few-buckets _ _ (p .power .ensures .0) (p .before .interim .ensures .1) in
+    omega arith
 
--- src/interim.rt:101:13
 placed-in-requires : tie.Need-placed-in-requires Inv-loop μ-loop
 placed-in-requires c κs =
     let p = c .before .before .before in
     let s = p .before .before .before in
-    let fits = exponent-fits (s .args .h .c) _ (s .pre .0 .state) _ (interim-used (s .args .h .state) (s .pre .1)) in
-    (s .pre .0, next-bucket-fits _ _ (s .pre .0) _ (rw (p .before .interim .ensures .0) fits) (p .power .ensures .0) _ (c .loop-test .taken))
+    (s .pre .0, bucket-within _ _ (s .pre .0) (s .pre .1) (p .before .interim .ensures .0) (p .power .ensures .0) (c .loop-test .taken))
 
 enum-told : tie.Need-enum-told Inv-loop μ-loop
 enum-told c = search needs
 
--- src/interim.rt:104:13
 returns : tie.Need-returns Inv-loop μ-loop
 unfolding placeAt
 returns c =
@@ -88,15 +75,12 @@ returns c =
     bucket-placed _ _ _ _ (p .before .interim .ensures .0) (p .power .ensures .0) (d .loop-test .taken) _ refl (f .placed-in .result)
     (f .placed-in .ensures) (is-somewhere (f .placed-in .result .placing) (c .match .keys2)) (d .before .loop .inv)
 
--- src/interim.rt:96:9
 add-i : tie.Need-add-i Inv-loop μ-loop
 add-i c = omega arith
 
--- src/interim.rt:96:5
 loop-less : tie.Need-loop-less Inv-loop μ-loop
 loop-less c = omega arith
 
--- src/interim.rt:96:5
 loop-again : tie.Need-loop-again Inv-loop μ-loop
 unfolding placeAt
 loop-again c =
@@ -106,7 +90,6 @@ loop-again c =
     d .before .loop .inv ∙ bucket-stuck _ _ _ _ (p .before .interim .ensures .0) (p .power .ensures .0) (d .loop-test .taken) _ refl (f .placed-in .result)
     (f .placed-in .ensures) (is-nowhere (f .placed-in .result .placing) (c .before .match .keys1))
 
--- src/interim.rt:90:1
 returns-2 : tie.Need-returns-2 Inv-loop μ-loop
 returns-2 c =
     let p = c .before .before .before in

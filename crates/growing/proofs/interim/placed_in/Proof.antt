@@ -5,7 +5,6 @@ use Prim.Native.Nat.{_-_}
 use mathlib.Core.Path.{_≡_, refl, _∙_}
 use mathlib.Core.Logic.{⊎-elim}
 use native.Mathlib.Omega.{arith}
-use denote.Ref.{now}
 use Rattle.rules.specs.Words.{slotAt, slotsIn}
 use Rattle.rules.proofs.Basics.Walks.{slots-end}
 use Rattle.rules.proofs.Basics.Along.{along, along-over}
@@ -21,37 +20,30 @@ Inv-loop t h p word s₀ s = placeableIn t h p ≡ along (placeable t h) (slotsI
 abbrev μ-loop : tie.MeasureT-loop
 μ-loop t h p word s₀ s = 4 - s
 
--- src/interim.rt:61:9
 token-requires : tie.Need-token-requires Inv-loop μ-loop
 token-requires c κs = search needs
 
--- src/interim.rt:62:5
 lowest-taken-requires : tie.Need-lowest-taken-requires Inv-loop μ-loop
 lowest-taken-requires c κs = search needs
 
 loop-holds : tie.Need-loop-holds Inv-loop μ-loop
 loop-holds c = slots-skipped _ _ _ (c .before .token .ensures) (c .lowest-taken .ensures)
 
--- src/interim.rt:68:12
 is-taken-requires : tie.Need-is-taken-requires Inv-loop μ-loop
 is-taken-requires c κs = search needs
 
--- src/interim.rt:69:17
 key-at-requires : tie.Need-key-at-requires Inv-loop μ-loop
 key-at-requires c κs = search needs
 
--- src/interim.rt:70:52
 hashes-requires : tie.Need-hashes-requires Inv-loop μ-loop
 hashes-requires c κs = search needs
 
--- src/interim.rt:70:17
 interim-placing-requires : tie.Need-interim-placing-requires Inv-loop μ-loop
 interim-placing-requires c κs = (c .before .before .before .before .before .before .before .before .before .pre .0, c .hashes .ensures)
 
 enum-told : tie.Need-enum-told Inv-loop μ-loop
 enum-told c = search needs
 
--- src/interim.rt:72:17
 returns : tie.Need-returns Inv-loop μ-loop
 unfolding slotAt
 returns c =
@@ -64,15 +56,12 @@ returns c =
     (f .interim-placing .result) (placing-told-by (f .interim-placing .ensures .0)) (is-somewhere (f .interim-placing .result) (c .match .keys2))
     (w .before .before .pre .1, d .loop-test .taken) (f .interim-placing .ensures .1) (d .before .loop .inv)
 
--- src/interim.rt:62:9
 add-s : tie.Need-add-s Inv-loop μ-loop
 add-s c = omega arith
 
--- src/interim.rt:62:5
 loop-less : tie.Need-loop-less Inv-loop μ-loop
 loop-less c = omega arith
 
--- src/interim.rt:62:5
 loop-again : tie.Need-loop-again Inv-loop μ-loop
 unfolding slotAt
 loop-again c =
@@ -84,7 +73,6 @@ loop-again c =
     (is-nowhere (u .3 .result) (u .4 .keys1)))
     (λ u. slot-free _ _ _ _ (d .loop-test .taken) (w .token .ensures) i (u .left)) (c .if1 .came)
 
--- src/interim.rt:57:1
 returns-2 : tie.Need-returns-2 Inv-loop μ-loop
 returns-2 c = none-placed _ _ _ _ (c .before .loop .inv ∙ along-over _ _ _ (slots-end _ _ (c .loop-test .left))) refl
 
