@@ -26,9 +26,14 @@ pub enum Passed {
     PartsOfBuckets,
     /// All four of one earlier bucket, and perhaps others.
     WholeBucket,
-    /// All four of several.
+    /// All four of several, but not of many.
     WholeBuckets,
+    /// All four of `MANY_BUCKETS` or more.
+    ManyBuckets,
 }
+
+/// The stuck items of so many whole buckets are 32: a search that goes on only so far would give up among them.
+pub const MANY_BUCKETS: usize = 8;
 
 /// How an item finds its place.
 #[derive(Clone, Copy, Debug, PartialEq, Eq, PartialOrd, Ord)]
@@ -39,7 +44,7 @@ pub enum Way {
     Move,
 }
 
-pub const KINDS: [Kind; 11] = [
+pub const KINDS: [Kind; 13] = [
     takes(Passed::Nothing, Way::FreeSlot),
     takes(Passed::Nothing, Way::Move),
     takes(Passed::ItsBucket, Way::FreeSlot),
@@ -50,11 +55,19 @@ pub const KINDS: [Kind; 11] = [
     takes(Passed::WholeBucket, Way::Move),
     takes(Passed::WholeBuckets, Way::FreeSlot),
     takes(Passed::WholeBuckets, Way::Move),
+    takes(Passed::ManyBuckets, Way::FreeSlot),
+    takes(Passed::ManyBuckets, Way::Move),
     Kind::AllStuck,
 ];
 
 const fn takes(passed: Passed, way: Way) -> Kind {
     Kind::Takes { passed, way }
+}
+
+impl Kind {
+    pub fn passes_many_buckets(self) -> bool {
+        matches!(self, Kind::Takes { passed: Passed::ManyBuckets, .. })
+    }
 }
 
 impl Display for Kind {
@@ -69,6 +82,7 @@ impl Display for Kind {
             Passed::PartsOfBuckets => "parts of buckets",
             Passed::WholeBucket => "a whole bucket",
             Passed::WholeBuckets => "whole buckets",
+            Passed::ManyBuckets => "many whole buckets",
         };
         let way = match way {
             Way::FreeSlot => "to a free slot",
@@ -164,7 +178,8 @@ fn passed(stuck: &[Slot], taken: Slot) -> Passed {
         0 if stuck_in(taken.bucket) == stuck.len() => Passed::ItsBucket,
         0 => Passed::PartsOfBuckets,
         1 => Passed::WholeBucket,
-        _ => Passed::WholeBuckets,
+        whole if whole < MANY_BUCKETS => Passed::WholeBuckets,
+        _ => Passed::ManyBuckets,
     }
 }
 
@@ -235,7 +250,7 @@ mod tests {
         for kind in kinds.into_iter().chain([Some(takes(Passed::WholeBucket, Way::FreeSlot))]) {
             tally.count(&Step { number: 0, list: vec![], kind });
         }
-        assert_eq!((tally.unseen().len(), tally.unseen().contains(&Kind::AllStuck)), (8, false));
+        assert_eq!((tally.unseen().len(), tally.unseen().contains(&Kind::AllStuck)), (10, false));
         assert_eq!([Way::FreeSlot, Way::Move].map(|way| tally.past_stuck_items(way)), [1, 0]);
     }
 }

@@ -10,13 +10,20 @@ use ragansils_model::{Event, SLOTS_PER_BUCKET};
 
 use crate::history::{Setting, MARKED_1, MARKED_2};
 use crate::random::Random;
-use crate::stuck_items::{Kind, Passed, Way};
+use crate::stuck_items::{Kind, Passed, Way, KINDS, MANY_BUCKETS};
+
+/// One history in so many, the first among them, comes with tables of stuck items, one for each kind of step.
+const STUCK_ITEMS_ONE_IN: u64 = 4;
+/// Steps past many buckets need large tables, so these come less often.
+const MANY_BUCKETS_ONE_IN: u64 = 16;
 
 /// The largest interim level has 2 to the power of this many buckets.
 const LARGEST_EXPONENT: u64 = 3;
+/// The same where many of them are passed.
+const LARGEST_EXPONENT_OF_MANY: u64 = 5;
 
-/// So often a key is looked for. In the largest table one word in 1,024 is what is looked for, or more than that.
-const MOST_TRIES: u64 = 100_000;
+/// So often a key is looked for. In the largest table one word in 16,384 is what is looked for, or more than that.
+const MOST_TRIES: u64 = 1_000_000;
 
 /// What an interim item is meant to be when a step comes to it.
 #[derive(Clone, Copy, PartialEq, Eq)]
@@ -25,11 +32,21 @@ enum Fate {
     Placed(Way),
 }
 
+/// The kinds of steps that tables are made for before the history of this number, from 0 on.
+pub fn kinds_before(history: u64) -> impl Iterator<Item = Kind> {
+    let comes = move |kind: &Kind| match kind.passes_many_buckets() {
+        true => history % MANY_BUCKETS_ONE_IN == 0,
+        false => history % STUCK_ITEMS_ONE_IN == 0,
+    };
+    KINDS.into_iter().filter(comes)
+}
+
 /// The creation of a table, and the events that bring it to where a step is of this kind.
 pub fn history_to(random: &mut Random, kind: Kind) -> (Setting, Vec<Event>) {
     let used = fates_for(random, kind);
     let least_exponent = (0..).find(|&exponent| 1 << exponent >= used.len()).unwrap_or(0);
-    let exponent = (least_exponent + random.pick(&[0, 0, 1])).min(LARGEST_EXPONENT);
+    let largest = if kind.passes_many_buckets() { LARGEST_EXPONENT_OF_MANY } else { LARGEST_EXPONENT };
+    let exponent = (least_exponent + random.pick(&[0, 0, 1])).min(largest);
     let fates = with_empty_buckets(random, used, 1 << exponent);
     // While growing, the top has four times as many buckets as the interim level.
     let c = exponent + 2 + random.below(2);
@@ -56,6 +73,10 @@ fn fates_for(random: &mut Random, kind: Kind) -> Vec<Vec<Fate>> {
         Passed::PartsOfBuckets => (vec![stuck(part)], perhaps_part),
         Passed::WholeBucket => (vec![stuck(SLOTS_PER_BUCKET)], perhaps_part),
         Passed::WholeBuckets => (vec![stuck(SLOTS_PER_BUCKET); 2 + random.index(2)], perhaps_part),
+        Passed::ManyBuckets => {
+            let count = MANY_BUCKETS + random.index(MANY_BUCKETS + 1);
+            (vec![stuck(SLOTS_PER_BUCKET); count], perhaps_part)
+        }
     };
     let mut its_bucket = stuck(before_it);
     its_bucket.push(Fate::Placed(way));
@@ -237,20 +258,23 @@ impl Making<'_> {
 #[cfg(test)]
 mod tests {
     use super::*;
-    use crate::stuck_items::{step_by_inserts, KINDS};
+    use crate::stuck_items::step_by_inserts;
     use crate::test_table::table_after;
     use ragansils_model::Table;
     use std::collections::BTreeSet;
 
     #[test]
+    fn the_first_history_comes_with_every_kind() {
+        assert_eq!(kinds_before(0).collect::<Vec<_>>(), KINDS);
+    }
+
+    #[test]
     fn each_history_leads_to_its_kind() {
         let mut random = Random::new(1);
-        for _ in 0..100 {
-            for kind in KINDS {
-                let (setting, events) = history_to(&mut random, kind);
-                let step = step_by_inserts(&table_after(setting, events)).unwrap();
-                assert_eq!(step.kind, Some(kind), "{setting:?}");
-            }
+        for kind in (0..400).flat_map(kinds_before) {
+            let (setting, events) = history_to(&mut random, kind);
+            let step = step_by_inserts(&table_after(setting, events)).unwrap();
+            assert_eq!(step.kind, Some(kind), "{setting:?}");
         }
     }
 
@@ -259,7 +283,7 @@ mod tests {
     fn histories_differ() {
         let mut random = Random::new(1);
         let (mut settings, mut taken) = (BTreeSet::new(), BTreeSet::new());
-        for kind in (0..40).flat_map(|_| KINDS) {
+        for kind in (0..640).flat_map(kinds_before) {
             let (setting, events) = history_to(&mut random, kind);
             settings.insert((setting.k, setting.c, setting.has_equal_multipliers()));
             let words = table_after(setting, events);
@@ -268,7 +292,7 @@ mod tests {
             taken.extend(interim.buckets().map(|bucket| table.taken_count(bucket)));
         }
         let all_settings =
-            (1..=4).flat_map(|k| [(k, k + 1), (k, k + 2)]).flat_map(|(k, c)| [(k, c, false), (k, c, true)]);
+            (1..=6).flat_map(|k| [(k, k + 1), (k, k + 2)]).flat_map(|(k, c)| [(k, c, false), (k, c, true)]);
         assert_eq!(settings, all_settings.collect());
         assert_eq!(taken, (0..=4).collect());
     }

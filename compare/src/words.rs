@@ -12,8 +12,8 @@ use crate::plain_map::PlainMap;
 use crate::random::Random;
 use crate::random_chains::{chain_near, chains_of_history, lent_words, longest_chain};
 use crate::sound_tables::{check_chain, check_change, check_query, Changed, Depth};
-use crate::stuck_items::{step_by_inserts, Kind, KINDS};
-use crate::stuck_tables::history_to;
+use crate::stuck_items::{step_by_inserts, Kind};
+use crate::stuck_tables::{history_to, kinds_before};
 use crate::wild::{any_list, wild_calls};
 
 /// At this capacity a single cut costs as much as a small history.
@@ -25,8 +25,6 @@ const LONGEST_CHAIN_ONE_IN: u64 = 4;
 const CAPACITIES_OF_LONGEST_CHAIN: [u64; 2] = [6, 7];
 const EVENTS_OF_LONGEST_CHAIN: u64 = 20;
 
-/// One history in so many, the first among them, comes with tables of stuck items, one for each kind of step.
-const STUCK_ITEMS_ONE_IN: u64 = 4;
 /// So often room is made for stuck items.
 const ROOM_MADE: u64 = 3;
 const EVENTS_OF_STUCK_ITEMS: u64 = 5;
@@ -42,10 +40,8 @@ pub fn run(seed: u64, calls: u64, both: &mut Both) -> Result<(), Finding> {
         if number % LONGEST_CHAIN_ONE_IN == 0 {
             history_of_longest_chain(&mut random, both, enough)?;
         }
-        if number % STUCK_ITEMS_ONE_IN == 0 {
-            for kind in KINDS {
-                history_of_stuck_items(&mut random, both, kind, enough)?;
-            }
+        for kind in kinds_before(number) {
+            history_of_stuck_items(&mut random, both, kind, enough)?;
         }
         let setting = Setting::random(&mut random);
         let chains = chains_of_history(&mut random, setting);

@@ -5,13 +5,10 @@ use std::collections::BTreeSet;
 use ragansils_compare::damage::damage;
 use ragansils_compare::history::{next_event, Keys, Mood, Setting};
 use ragansils_compare::random::Random;
-use ragansils_compare::stuck_items::{step_by_inserts, Kind, StepTally, KINDS};
-use ragansils_compare::stuck_tables::history_to;
+use ragansils_compare::stuck_items::{step_by_inserts, Kind, StepTally};
+use ragansils_compare::stuck_tables::{history_to, kinds_before};
 use ragansils_model::{table_words, Event, SUCCESS};
 use ragansils_twin::{ListingTwin, Proved, Side, Twin};
-
-/// One history in so many, the first among them, comes with tables of stuck items, one for each kind of step.
-const STUCK_ITEMS_ONE_IN: u64 = 4;
 
 /// What a run has met.
 #[derive(Default)]
@@ -34,10 +31,8 @@ pub fn run(seed: u64, calls: u64) -> Result<Seen, String> {
         if seen.calls >= calls {
             break;
         }
-        if number % STUCK_ITEMS_ONE_IN == 0 {
-            for kind in KINDS {
-                play_past_stuck_items(&mut random, kind, &mut seen)?;
-            }
+        for kind in kinds_before(number) {
+            play_past_stuck_items(&mut random, kind, &mut seen)?;
         }
         let setting = Setting::random(&mut random);
         History::start(&mut random, setting, &mut seen)?.play(&mut seen, calls)?;
