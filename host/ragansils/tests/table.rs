@@ -232,37 +232,92 @@ fn a_growth_without_a_place_goes_on_once_there_is_one() {
     assert_eq!(table.grow_on(), Ok(Growth::Moved));
 }
 
-/// The story of request b) of document 02: the first interim item has no place, and 510 behind it have room.
+/// A growing table of capacity 9 in which the first interim buckets, so many of 128, have no item with a place: the story of request b)
+/// of document 02. Both multipliers are alike, so that a key has one place in a level of M buckets: its remainder by M.
+struct Blocked {
+    table: Table<Vec<u64>, OrdinaryMemory>,
+    stuck_buckets: u64,
+}
+
+/// These fill the top (1,024) and the bottom (512), which is the interim level once growth has begun.
+const KEYS_AT_REST: std::ops::Range<u64> = 0..1536;
+
+impl Blocked {
+    fn new(stuck_buckets: u64) -> Blocked {
+        let creation = Creation { capacity: 9, first_top: 8, multipliers: [MARKED.multipliers[0]; 2] };
+        let words = vec![0; creation.words().unwrap()];
+        let mut table = Table::create(words, &creation, OrdinaryMemory).unwrap();
+        KEYS_AT_REST.for_each(|key| assert_eq!(table.insert(key.into(), record_of(key)), Ok(4)));
+        assert_eq!(table.grow_on(), Ok(Growth::Begun));
+        let mut blocked = Blocked { table, stuck_buckets };
+        for key in blocked.later_keys() {
+            assert_eq!(blocked.table.insert(key.into(), record_of(key)), Ok(4));
+        }
+        blocked
+    }
+
+    /// Interim bucket i holds the keys 1024 + 128f + i for f from 0 to 3. Each has a top bucket of its own, 128f + i. Their bottom
+    /// buckets were filled at rest, and the items there can only go up to these same four top buckets.
+    fn stuck_keys(&self) -> Vec<u64> {
+        (0..4).flat_map(|f| (0..self.stuck_buckets).map(move |i| 1024 + 128 * f + i)).collect()
+    }
+
+    /// Four keys that fill the top bucket of a stuck one.
+    fn keys_above(stuck: u64) -> impl Iterator<Item = u64> {
+        (0..4).map(move |n| stuck + 1024 + 512 * n)
+    }
+
+    fn later_keys(&self) -> Vec<u64> {
+        self.stuck_keys().into_iter().flat_map(Blocked::keys_above).collect()
+    }
+
+    fn keys(&self) -> Vec<u64> {
+        KEYS_AT_REST.chain(self.later_keys()).collect()
+    }
+
+    fn has(&self, key: u64) -> bool {
+        self.table.query(key.into()).unwrap().record == Some(record_of(key))
+    }
+
+    /// In the third bucket looked at.
+    fn is_interim(&self, key: u64) -> bool {
+        self.table.query(key.into()).unwrap().buckets == 3
+    }
+}
+
 #[test]
 fn a_growth_goes_past_items_without_a_place() {
-    // With these multipliers a key has one place in a level of M buckets: its remainder by M.
-    let creation = Creation { capacity: 9, first_top: 8, multipliers: [MARKED.multipliers[0]; 2] };
-    let words = vec![0; creation.words().unwrap()];
-    let mut table = Table::create(words, &creation, OrdinaryMemory).unwrap();
-    // 1,024 keys fill the top, and 512 the bottom, which becomes the interim level.
-    (0..1536).for_each(|key| assert_eq!(table.insert(key.into(), record_of(key)), Ok(4)));
-    assert_eq!(table.grow_on(), Ok(Growth::Begun));
-    // These fill the new top's buckets 0 and 256, where 1,024 and 1,280 could go, and all keys of their bucket below.
-    let later = (2048..4096).step_by(256);
-    later.clone().for_each(|key| assert_eq!(table.insert(key.into(), record_of(key)), Ok(4)));
-
-    (0..510).for_each(|_| assert_eq!(table.step(), Ok(5)));
-    assert_eq!(table.grow_on(), Err(Refusal::NoPlace));
-    assert_eq!(table.end(), Err(Refusal::InterimTaken));
-    let keys = (0..1536).chain(later);
-    assert!(keys.clone().all(|key| table.query(key.into()).unwrap().record == Some(record_of(key))));
-    // An interim item is found in the third bucket looked at.
-    let left = keys.clone().filter(|&key| table.query(key.into()).unwrap().buckets == 3);
-    assert_eq!(left.collect::<Vec<u64>>(), [1024, 1280]);
-
-    for freed in [2048, 2304] {
-        assert_eq!(table.grow_on(), Err(Refusal::NoPlace));
-        table.delete(freed.into()).unwrap();
-        assert_eq!(table.grow_on(), Ok(Growth::Moved));
+    for stuck_buckets in [1, 64] {
+        let mut blocked = Blocked::new(stuck_buckets);
+        let stuck = blocked.stuck_keys();
+        (stuck.len()..512).for_each(|_| assert_eq!(blocked.table.step(), Ok(5)));
+        assert_eq!(blocked.table.grow_on(), Err(Refusal::NoPlace));
+        assert_eq!(blocked.table.end(), Err(Refusal::InterimTaken));
+        let keys = blocked.keys();
+        assert!(keys.iter().all(|&key| blocked.has(key)));
+        let left: Vec<u64> = keys.into_iter().filter(|&key| blocked.is_interim(key)).collect();
+        assert_eq!(left, stuck);
     }
-    assert_eq!(table.grow_on(), Ok(Growth::Ended));
-    let is_there = |key: u64| table.query(key.into()).unwrap().record == Some(record_of(key));
-    assert!(keys.filter(|key| ![2048, 2304].contains(key)).all(is_there));
+}
+
+/// Each delete makes room for one item, and the growth ends at last.
+#[test]
+fn a_growth_without_a_place_goes_on_with_each_delete() {
+    for stuck_buckets in [1, 64] {
+        let mut blocked = Blocked::new(stuck_buckets);
+        while blocked.table.step().is_ok() {}
+        let mut keys = blocked.keys();
+        for stuck in blocked.stuck_keys() {
+            assert_eq!(blocked.table.grow_on(), Err(Refusal::NoPlace));
+            let deleted = Blocked::keys_above(stuck).next().unwrap();
+            blocked.table.delete(deleted.into()).unwrap();
+            keys.retain(|&key| key != deleted);
+            assert_eq!(blocked.table.grow_on(), Ok(Growth::Moved));
+            assert!(!blocked.is_interim(stuck));
+        }
+        assert_eq!(blocked.table.grow_on(), Ok(Growth::Ended));
+        assert!(keys.into_iter().all(|key| blocked.has(key)));
+    }
 }
 
 #[test]
