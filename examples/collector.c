@@ -32,6 +32,7 @@ struct collector {
     bool persistent;
     uint64_t stores_made;
     uint64_t end_after; /* so many stores; 0 never */
+    bool stuck;         /* no item that a growth has left to move has a place, and nothing was deleted since */
 };
 
 /* ---- making stores ---- */
@@ -105,6 +106,7 @@ static uint64_t delete(struct collector *collector, uint64_t key)
 {
     uint64_t list[RAGANSILS_LIST_WORDS], stores;
     uint64_t number = ragansils_delete(collector->table, collector->words, key, list, RAGANSILS_LIST_WORDS, &stores);
+    collector->stuck = false;
     return make(collector, number, list, stores);
 }
 
@@ -120,11 +122,15 @@ static uint64_t change_whole(struct collector *collector, whole_table_call *call
 
 /*
  * One small part of a growth that is under way. The state is in the table, so that a growth goes on after a restart. Refusal 6 says
- * that no item left to move has a place now: the table stays as it is, and every other call goes on working.
+ * that no item left to move has a place now: the table stays as it is, and every other call goes on working. Such a step has tried all
+ * these items, and only a delete can make room for one; so until then it is not tried again.
  */
 static uint64_t grow_on(struct collector *collector)
 {
+    if (collector->stuck)
+        return RAGANSILS_NO_PLACE;
     uint64_t number = change_whole(collector, ragansils_step);
+    collector->stuck = number == RAGANSILS_NO_PLACE;
     return number == RAGANSILS_INTERIM_EMPTY ? change_whole(collector, ragansils_end) : number;
 }
 
@@ -306,14 +312,14 @@ static struct collector open_file(const char *path)
     if (flock(file, LOCK_EX | LOCK_NB) != 0)
         complain("another process has the table in", path);
     size_t words = (size_t)status.st_size / sizeof(uint64_t);
-    struct collector collector = { map_words(file, words, path), words, true, 0, 0 };
+    struct collector collector = { map_words(file, words, path), words, true, 0, 0, false };
     return collector;
 }
 
 static struct collector in_memory(void)
 {
     static uint64_t table[RAGANSILS_WORDS(CAPACITY)];
-    struct collector collector = { table, RAGANSILS_WORDS(CAPACITY), false, 0, 0 };
+    struct collector collector = { table, RAGANSILS_WORDS(CAPACITY), false, 0, 0, false };
     must("create", ragansils_create(table, collector.words, CAPACITY, FIRST_TOP, RAGANSILS_MULTIPLIER_1, RAGANSILS_MULTIPLIER_2));
     printf("made a table of %zu words\n", collector.words);
     return collector;

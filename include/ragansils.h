@@ -43,7 +43,7 @@ enum ragansils_refusal {
     RAGANSILS_FLAG_SET = 3,        /* update flag not 0, so recover first: all but create, make and recover */
     RAGANSILS_KEY_PRESENT = 4,     /* insert */
     RAGANSILS_KEY_ABSENT = 5,      /* query, update, delete; at some depth: chain */
-    RAGANSILS_NO_PLACE = 6,        /* insert: grow, or go without; step: none left has a place, so delete something, or try later */
+    RAGANSILS_NO_PLACE = 6,        /* insert: grow, or go without; step: no interim item has a place, so delete something first */
     RAGANSILS_ALREADY_GROWING = 7, /* begin */
     RAGANSILS_NOT_GROWING = 8,     /* step, end */
     RAGANSILS_AT_CAPACITY = 9,     /* k = c, the table cannot grow: begin */
@@ -162,6 +162,9 @@ uint64_t ragansils_begin(const uint64_t *table, size_t words, uint64_t *list, si
  * so the time of a whole growth from N top buckets rises with N squared. On an Intel Xeon, begun at load 0.8, it took 0.016 ms for
  * N = 256, 0.21 ms for 1,024, 3.4 ms for 4,096, 42 ms for 16,384, 1.5 s for 65,536, 10 s for 131,072 and 206 s for 524,288. The last
  * steps look through N / 2 buckets each. A table that will be large is better created with a large k.
+ *
+ * A step that is refused with 6 has tried every interim item, so it is dear: with top and bottom full it took about 0.05 ms for 450
+ * interim items and 1 ms for 6,500, on an AMD EPYC. Inserts make no room for them: try again after a delete, not after every insert.
  */
 uint64_t ragansils_step(const uint64_t *table, size_t words, uint64_t *list, size_t list_words, uint64_t *stores);
 

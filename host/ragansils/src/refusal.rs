@@ -28,8 +28,8 @@ pub enum Refusal {
     KeyPresent = 4,
     /// Update and delete: the key is absent. Chain: one of the depths has no record.
     KeyAbsent = 5,
-    /// Insert: there is no place for the key; the table may grow, or something may be deleted. Growth step: no item left in the interim
-    /// level has a place; something may be deleted, or the step may be tried later.
+    /// Insert: there is no place for the key; the table may grow, or something may be deleted. Growth step: no interim item
+    /// has a place; a delete may make room for one.
     NoPlace = 6,
     /// Begin: the table is growing already.
     AlreadyGrowing = 7,
