@@ -53,7 +53,7 @@ pub fn first_item(t: &[u64], h: Header) -> Item
     Item::Empty
 }
 
-// Of one bucket, the first item that has a place.
+// Of one bucket, the first item that has a place. Most buckets of a growth are empty: the search begins at the lowest taken slot.
 fn placed_in(t: &[u64], h: Header, p: Place) -> Found
     requires { ⌜ GoodHeader (length (now t)) h × BucketWithin (now t) (p .bucket) ⌝ }
     ensures { λ r. ⌜ FoundBy (now (t .entry)) h (placeableIn (now (t .entry)) h p) r ⌝ }
@@ -86,7 +86,7 @@ fn placed_in(t: &[u64], h: Header, p: Place) -> Found
     }
 }
 
-// "the first interim item, in the same order, that has a place". No bucket before that of the first item has one.
+// "the first interim item, in the same order, that has a place". The buckets before that of the first item are empty.
 pub fn first_placed(t: &[u64], h: Header, first: Slot) -> Found
     requires { ⌜ GoodHeader (length (now t)) h × (atRest (h .state) ≡ false) × (head? (interimItems (now t) h) ≡ some first) ⌝ }
     ensures { λ r. ⌜ FoundBy (now (t .entry)) h (stepItem (now (t .entry)) h) r ⌝ }
