@@ -4,7 +4,7 @@
 -- Assumes nothing.
 use Prim.Native.Nat.{ℕ}
 use mathlib.Core.Path.{_≡_, refl}
-use mathlib.Core.List.{List, [], _∷_, map, flatMap}
+use mathlib.Core.List.{List, [], _∷_, _++_, map, flatMap}
 use lib.ListN.{replicate, set}
 use Rattle.words.specs.Product.{productOf, hashOf}
 use Rattle.rules.specs.Words.{Table, wordsFor, stateOf, stateWord, atRest, headerOf, flagOf, stateGood, odd, capacityTests, headerTests, topOf}
@@ -42,40 +42,23 @@ crowded r = inserted r (madeAll (filled r (3 ∷ 7 ∷ 11 ∷ 15 ∷ 16 ∷ 17 �
 unfoldable pub turned : (ℕ → Record) → Table
 turned r = inserted r (madeAll (filled r (3 ∷ 7 ∷ 11 ∷ 15 ∷ 17 ∷ 16 ∷ [])) begin) (21 ∷ 25 ∷ 29 ∷ 33 ∷ [])
 
--- after the step that takes 17; and then without 32
-unfoldable pub stepped : (ℕ → Record) → Table
-stepped r = madeAll (blocked r) step
-
-unfoldable pub cleared : (ℕ → Record) → Table
-cleared r = madeAll (stepped r) (delete 32)
-
 -- ---- c = 3, and two interim buckets: keys 16, 20, 24 and 28 fill the first, key 17 stands in the second
 
 unfoldable pub wide : (ℕ → Record) → Table
 wide r = madeAll (inserted r (createResult (replicate 204 7) 3 2 4294967297 4294967297 .1)
     (0 ∷ 8 ∷ 32 ∷ 40 ∷ 16 ∷ 20 ∷ 24 ∷ 28 ∷ 1 ∷ 5 ∷ 9 ∷ 13 ∷ 17 ∷ [])) begin
 
--- 16 and 24 are stuck: slots 0 and 2; then the whole bucket
-unfoldable pub half : (ℕ → Record) → Table
-half r = inserted r (wide r) (48 ∷ 56 ∷ 64 ∷ 72 ∷ [])
+-- ---- the table
 
-unfoldable pub whole : (ℕ → Record) → Table
-whole r = inserted r (half r) (36 ∷ 44 ∷ 52 ∷ 60 ∷ [])
-
--- what these tables take as done was answered with 0
-unfoldable pub ready : (ℕ → Record) → List Row
-ready r =
-    row 17 (words (answered r (fresh 4294967297 4294967297) (0 ∷ 4 ∷ 8 ∷ 12 ∷ 1 ∷ 5 ∷ 9 ∷ 13 ∷ 16 ∷ 17 ∷ []))) (words (replicate 10 0))
-    ∷ row 18 (words (answered r (madeAll (filled r (1 ∷ 5 ∷ 9 ∷ 13 ∷ 16 ∷ 17 ∷ [])) begin) (32 ∷ 36 ∷ 40 ∷ 44 ∷ []))) (words (replicate 4 0))
-    ∷ row 19 (words (answered r (fresh 4294967297 4294967297) (0 ∷ 4 ∷ 8 ∷ 12 ∷ 3 ∷ 7 ∷ 11 ∷ 15 ∷ 16 ∷ 17 ∷ []))) (words (replicate 10 0))
-    ∷ row 20 (words (answered r (wide r) (48 ∷ 56 ∷ 64 ∷ 72 ∷ 36 ∷ 44 ∷ 52 ∷ 60 ∷ []))) (words (replicate 8 0))
-    ∷ []
-
-unfoldable pub cases : (ℕ → Record) → List Row
-cases r =
+-- t is `blocked r`
+unfoldable pub oneBucket : (ℕ → Record) → Table → List Row
+oneBucket r t =
+    let moved = madeAll t step in
+    let freed = madeAll moved (delete 32) in
+    let settled = madeAll freed step in
     -- "The step must take the first interim item, in the same order, that has a place": behind a stuck one, by a free slot
-    row 1 (sees (blocked r) step) (lists ((62, 17) ∷ (63, r 17 .function) ∷ (64, r 17 .place) ∷ (61, 1) ∷ (9, 1) ∷ []))
-    ∷ row 2 (told (blocked r)) (tells 0 (5 ∷ 0 ∷ 4 ∷ 0 ∷ []))
+    row 1 (sees t step) (lists ((62, 17) ∷ (63, r 17 .function) ∷ (64, r 17 .place) ∷ (61, 1) ∷ (9, 1) ∷ []))
+    ∷ row 2 (told t) (tells 0 (5 ∷ 0 ∷ 4 ∷ 0 ∷ []))
     -- by a move: "The ten-store .. bounds stay"
     ∷ row 3 (sees (crowded r) step) (lists ((88, 3) ∷ (89, r 3 .function) ∷ (90, r 3 .place) ∷ (87, 1) ∷ (35, 14) ∷ (36, 17) ∷ (37, r 17 .function)
     ∷ (38, r 17 .place) ∷ (35, 15) ∷ (9, 1) ∷ []))
@@ -83,24 +66,42 @@ cases r =
     ∷ row 4 (sees (turned r) step) (lists ((88, 3) ∷ (89, r 3 .function) ∷ (90, r 3 .place) ∷ (87, 1) ∷ (35, 14) ∷ (36, 17) ∷ (37, r 17 .function)
     ∷ (38, r 17 .place) ∷ (35, 15) ∷ (9, 2) ∷ []))
     -- of two that have a place the first, once a delete has made room for it
-    ∷ row 5 (sees (madeAll (blocked r) (delete 32)) step) (lists ((49, 16) ∷ (50, r 16 .function) ∷ (51, r 16 .place) ∷ (48, 15) ∷ (9, 2) ∷ []))
-    -- slot after slot of one bucket
-    ∷ row 6 (sees (half r) step) (lists ((153, 20) ∷ (154, r 20 .function) ∷ (155, r 20 .place) ∷ (152, 1) ∷ (22, 13) ∷ []))
-    ∷ row 7 (sees (madeAll (half r) step) step) (lists ((156, 28) ∷ (157, r 28 .function) ∷ (158, r 28 .place) ∷ (152, 3) ∷ (22, 5) ∷ []))
-    -- bucket after bucket
-    ∷ row 8 (sees (whole r) step) (lists ((114, 17) ∷ (115, r 17 .function) ∷ (116, r 17 .place) ∷ (113, 1) ∷ (35, 0) ∷ []))
+    ∷ row 5 (sees (madeAll t (delete 32)) step) (lists ((49, 16) ∷ (50, r 16 .function) ∷ (51, r 16 .place) ∷ (48, 15) ∷ (9, 2) ∷ []))
     -- "Refusal 6 is then given exactly when interim items remain and none has one"
-    ∷ row 9 (sees (stepped r) step) (refuses 6)
-    ∷ row 10 (sees (madeAll (whole r) step) step) (refuses 6)
-    ∷ row 11 (told (stepped r)) (tells 6 (0 ∷ []))
+    ∷ row 6 (sees moved step) (refuses 6)
+    ∷ row 7 (told moved) (tells 6 (0 ∷ []))
     -- the growth goes to its end once a delete has made room: the stuck item moves, and "11 keeps its meaning"
-    ∷ row 12 (sees (cleared r) step) (lists ((49, 16) ∷ (50, r 16 .function) ∷ (51, r 16 .place) ∷ (48, 15) ∷ (9, 0) ∷ []))
-    ∷ row 13 (sees (madeAll (cleared r) step) step) (refuses 11)
-    ∷ row 14 (sees (madeAll (cleared r) step) end) (lists ((4, 2) ∷ []))
+    ∷ row 8 (sees freed step) (lists ((49, 16) ∷ (50, r 16 .function) ∷ (51, r 16 .place) ∷ (48, 15) ∷ (9, 0) ∷ []))
+    ∷ row 9 (sees settled step) (refuses 11)
+    ∷ row 10 (sees settled end) (lists ((4, 2) ∷ []))
     -- 8 comes before 6 and 11, and 3 before 8
-    ∷ row 15 (sees (madeAll (madeAll (cleared r) step) end) step) (refuses 8)
-    ∷ row 16 (sees (set (stepped r) 5 1) step) (refuses 3)
-    ∷ ready r
+    ∷ row 11 (sees (madeAll settled end) step) (refuses 8)
+    ∷ row 12 (sees (set moved 5 1) step) (refuses 3)
+    ∷ []
+
+-- t is `wide r`
+unfoldable pub twoBuckets : (ℕ → Record) → Table → List Row
+twoBuckets r t =
+    let half = inserted r t (48 ∷ 56 ∷ 64 ∷ 72 ∷ []) in
+    let whole = inserted r half (36 ∷ 44 ∷ 52 ∷ 60 ∷ []) in
+    -- slot after slot of one bucket: 16 and 24 are stuck, in slots 0 and 2
+    row 13 (sees half step) (lists ((153, 20) ∷ (154, r 20 .function) ∷ (155, r 20 .place) ∷ (152, 1) ∷ (22, 13) ∷ []))
+    ∷ row 14 (sees (madeAll half step) step) (lists ((156, 28) ∷ (157, r 28 .function) ∷ (158, r 28 .place) ∷ (152, 3) ∷ (22, 5) ∷ []))
+    -- bucket after bucket: the whole first bucket is stuck
+    ∷ row 15 (sees whole step) (lists ((114, 17) ∷ (115, r 17 .function) ∷ (116, r 17 .place) ∷ (113, 1) ∷ (35, 0) ∷ []))
+    ∷ row 16 (sees (madeAll whole step) step) (refuses 6)
+    ∷ row 17 (words (answered r t (48 ∷ 56 ∷ 64 ∷ 72 ∷ 36 ∷ 44 ∷ 52 ∷ 60 ∷ []))) (words (replicate 8 0))
+    ∷ []
+
+-- what `blocked` takes as done was answered with 0
+unfoldable pub ready : (ℕ → Record) → List Row
+ready r =
+    row 18 (words (answered r (fresh 4294967297 4294967297) (0 ∷ 4 ∷ 8 ∷ 12 ∷ 1 ∷ 5 ∷ 9 ∷ 13 ∷ 16 ∷ 17 ∷ []))) (words (replicate 10 0))
+    ∷ row 19 (words (answered r (madeAll (filled r (1 ∷ 5 ∷ 9 ∷ 13 ∷ 16 ∷ 17 ∷ [])) begin) (32 ∷ 36 ∷ 40 ∷ 44 ∷ []))) (words (replicate 4 0))
+    ∷ []
+
+unfoldable pub cases : (ℕ → Record) → List Row
+cases r = oneBucket r (blocked r) ++ (twoBuckets r (wide r) ++ ready r)
 
 -- the rules compute what request b) asks for
 pub stepCases : (r : ℕ → Record) → map (λ (x : Row). x .computed) (cases r) ≡ map (λ (x : Row). x .paper) (cases r)
@@ -109,6 +110,6 @@ unfolding productOf hashOf flatMap wordsFor stateOf stateWord atRest headerOf fl
     takenOf taken hashesOf firstPlace secondPlace samePlace placesIn probes placesOf holds hitIn lookup takenIn freeSlot fewer emptier roomIn otherPlace
     itemsOf candidates moveOf placing putStores clearStores moveStores placingStores beginStores endStores stepStores written steppedMeans headerGood
     listLong flagClear changingTests beginTests beginOf interimSlots interimItems hasPlace stepItem stepTests stepOf endTests endOf outcome changeResult
-    stepResult createTests created createResult makeTests makeResult madeFirst madeAll fresh filled blocked crowded turned stepped cleared wide half
-    whole ready cases
+    stepResult createTests created createResult makeTests makeResult madeFirst madeAll fresh filled blocked crowded turned wide oneBucket
+    twoBuckets ready cases
 stepCases r = refl
