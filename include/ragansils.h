@@ -163,7 +163,7 @@ uint64_t ragansils_begin(const uint64_t *table, size_t words, uint64_t *list, si
  * N = 256, 0.21 ms for 1,024, 3.4 ms for 4,096, 42 ms for 16,384, 1.5 s for 65,536, 10 s for 131,072 and 206 s for 524,288. The last
  * steps look through N / 2 buckets each. A table that will be large is better created with a large k.
  *
- * A step that is refused with 6 has tried every interim item, so it is dear: with top and bottom full it took about 0.05 ms for 450
+ * A step that is refused with 6 has tried every interim item, so it is costly: with top and bottom full it took about 0.05 ms for 450
  * interim items and 1 ms for 6,500, on an AMD EPYC. Inserts make no room for them: try again after a delete, not after every insert.
  */
 uint64_t ragansils_step(const uint64_t *table, size_t words, uint64_t *list, size_t list_words, uint64_t *stores);

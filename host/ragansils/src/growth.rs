@@ -35,7 +35,7 @@ impl<W: AsRef<[u64]> + AsMut<[u64]>, P: Platform> Table<W, P> {
     /// has a place now. Then queries, updates, deletes and inserts still work, and the growth goes on once a delete has made room for
     /// one of them.
     ///
-    /// A part that answers `NoPlace` has tried every interim item, so it is dear: with top and bottom full it took about 0.05 ms for 450
+    /// A part that answers `NoPlace` has tried every interim item, so it is costly: with top and bottom full it took about 0.05 ms for 450
     /// interim items and 1 ms for 6,500, on an AMD EPYC. Inserts make no room for them: try again after a delete, not after every insert.
     pub fn grow_on(&mut self) -> Result<Growth, Refusal> {
         match self.step() {
