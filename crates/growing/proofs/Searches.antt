@@ -74,8 +74,8 @@ module _ (t : Table) (h : Header) (r : Found) where
 pub few-buckets : (m exponent : ℕ) → m ≡ 2 ^ exponent → exponent ≤ 20 → m ≤ 2 ^ 20
 few-buckets m exponent e low = rw e (pow-mono low)
 
-pub bucket-within : (n : ℕ) (h : Header) {m i : ℕ} {l : Level} → GoodHeader n h → atRest (h .state) ≡ false → l ≡ interimOf (h .state) → m ≡ sizeOf l
-    → i < m → 9 + 13 * (m - 1 + i) + 13 ≤ n
+pub bucket-within : (n : ℕ) (h : Header) {m i : ℕ} {l : Level} → GoodHeader n h → atRest (h .state) ≡ false → l ≡ interimOf (h .state)
+    → m ≡ sizeOf l → i < m → 9 + 13 * (m - 1 + i) + 13 ≤ n
 bucket-within n h good growing e q r =
     let fits = exponent-fits (h .c) (h .state) (good .state) (interimOf (h .state)) (interim-used (h .state) growing) in
     next-bucket-fits n h good _ (rw e fits) q _ r
@@ -190,7 +190,8 @@ module _ (t : Table) (h : Header) where
     unfolding lowestTaken placeableIn
     slots-skipped = go n (λ s l. lowest-below (isTaken h w) n v s l)
       where
-        go : (m : ℕ) → ((s : ℕ) → s < m → (s < 4) × (isTaken h w s ≡ false)) → firstOf (placeable t h) (slotsIn p) ≡ along (placeable t h) (slotsIn p) m
+        go : (m : ℕ) → ((s : ℕ) → s < m → (s < 4) × (isTaken h w s ≡ false))
+            → firstOf (placeable t h) (slotsIn p) ≡ along (placeable t h) (slotsIn p) m
         go zero k = along-all (placeable t h) (slotsIn p)
         go (suc m) k =
             let f = k m (omega arith) in
@@ -227,7 +228,8 @@ module _ (t : Table) (h : Header) where
       ap (λ (q : Place). q .bucket) (slot-place p x (rw same at (f .inside)))
 
   -- so it may begin at the bucket of the first item
-  pub placeable-from : (m : ℕ) (x : Slot) {l : Level} → l ≡ interimOf (h .state) → m ≡ sizeOf l → atRest (h .state) ≡ false → head? (interimItems t h) ≡ some x
+  pub placeable-from : (m : ℕ) (x : Slot) {l : Level} → l ≡ interimOf (h .state) → m ≡ sizeOf l → atRest (h .state) ≡ false
+      → head? (interimItems t h) ≡ some x
       → (i : ℕ) × (x .bucket ≡ m - 1 + i) × (stepItem t h ≡ foundFrom h (placeable t h) i)
   unfolding foundFrom along bucketsOf
   placeable-from m x {l} e q growing k =

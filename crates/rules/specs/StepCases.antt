@@ -60,11 +60,11 @@ oneBucket r t =
     row 1 (sees t step) (lists ((62, 17) ∷ (63, r 17 .function) ∷ (64, r 17 .place) ∷ (61, 1) ∷ (9, 1) ∷ []))
     ∷ row 2 (told t) (tells 0 (5 ∷ 0 ∷ 4 ∷ 0 ∷ []))
     -- by a move: "The ten-store .. bounds stay"
-    ∷ row 3 (sees (crowded r) step) (lists ((88, 3) ∷ (89, r 3 .function) ∷ (90, r 3 .place) ∷ (87, 1) ∷ (35, 14) ∷ (36, 17) ∷ (37, r 17 .function)
-    ∷ (38, r 17 .place) ∷ (35, 15) ∷ (9, 1) ∷ []))
+    ∷ row 3 (sees (crowded r) step) (lists ((88, 3) ∷ (89, r 3 .function) ∷ (90, r 3 .place) ∷ (87, 1) ∷ (35, 14) ∷ (36, 17)
+    ∷ (37, r 17 .function) ∷ (38, r 17 .place) ∷ (35, 15) ∷ (9, 1) ∷ []))
     -- the first that has a place, be it by a move, and not the first that has a free slot
-    ∷ row 4 (sees (turned r) step) (lists ((88, 3) ∷ (89, r 3 .function) ∷ (90, r 3 .place) ∷ (87, 1) ∷ (35, 14) ∷ (36, 17) ∷ (37, r 17 .function)
-    ∷ (38, r 17 .place) ∷ (35, 15) ∷ (9, 2) ∷ []))
+    ∷ row 4 (sees (turned r) step) (lists ((88, 3) ∷ (89, r 3 .function) ∷ (90, r 3 .place) ∷ (87, 1) ∷ (35, 14) ∷ (36, 17)
+    ∷ (37, r 17 .function) ∷ (38, r 17 .place) ∷ (35, 15) ∷ (9, 2) ∷ []))
     -- of two that have a place the first, once a delete has made room for it
     ∷ row 5 (sees (madeAll t (delete 32)) step) (lists ((49, 16) ∷ (50, r 16 .function) ∷ (51, r 16 .place) ∷ (48, 15) ∷ (9, 2) ∷ []))
     -- "Refusal 6 is then given exactly when interim items remain and none has one"
@@ -74,7 +74,7 @@ oneBucket r t =
     ∷ row 8 (sees freed step) (lists ((49, 16) ∷ (50, r 16 .function) ∷ (51, r 16 .place) ∷ (48, 15) ∷ (9, 0) ∷ []))
     ∷ row 9 (sees settled step) (refuses 11)
     ∷ row 10 (sees settled end) (lists ((4, 2) ∷ []))
-    -- 8 comes before 6 and 11, and 3 before 8
+    -- at rest 8, though the interim level is empty; and 3 comes before 6
     ∷ row 11 (sees (madeAll settled end) step) (refuses 8)
     ∷ row 12 (sees (set moved 5 1) step) (refuses 3)
     ∷ []
@@ -97,7 +97,8 @@ twoBuckets r t =
 unfoldable pub ready : (ℕ → Record) → List Row
 ready r =
     row 18 (words (answered r (fresh 4294967297 4294967297) (0 ∷ 4 ∷ 8 ∷ 12 ∷ 1 ∷ 5 ∷ 9 ∷ 13 ∷ 16 ∷ 17 ∷ []))) (words (replicate 10 0))
-    ∷ row 19 (words (answered r (madeAll (filled r (1 ∷ 5 ∷ 9 ∷ 13 ∷ 16 ∷ 17 ∷ [])) begin) (32 ∷ 36 ∷ 40 ∷ 44 ∷ []))) (words (replicate 4 0))
+    ∷ row 19 (words (answered r (madeAll (filled r (1 ∷ 5 ∷ 9 ∷ 13 ∷ 16 ∷ 17 ∷ [])) begin) (32 ∷ 36 ∷ 40 ∷ 44 ∷ [])))
+    (words (replicate 4 0))
     ∷ []
 
 unfoldable pub cases : (ℕ → Record) → List Row

@@ -96,7 +96,8 @@ module _ {A : Type 0} (p : A → Bool) where
   select-in [] x i = absurd (List·Memᴰ·not-nil i)
   select-in (y ∷ ys) x i = go (p y) refl i (select-in ys x)
     where
-      go : (b : Bool) → p y ≡ b → In x (cond b (y ∷ select p ys) (select p ys)) → (In x (select p ys) → In x ys × (p x ≡ true)) → In x (y ∷ ys) × (p x ≡ true)
+      go : (b : Bool) → p y ≡ b → In x (cond b (y ∷ select p ys) (select p ys)) → (In x (select p ys) → In x ys × (p x ≡ true))
+          → In x (y ∷ ys) × (p x ≡ true)
       go true q i k = ⊎-elim (λ (h : x ≡ y). (here h, rw h q)) (λ (h : In x (select p ys)). (there (k h .0), k h .1)) (List·Memᴰ·cases-cons i)
       go false q i k = (there (k i .0), k i .1)
 
@@ -153,7 +154,8 @@ module _ {A : Type 0} where
 pub map-in : {A B : Type 0} (f : A → B) (l : List A) (y : B) → In y (map f l) → (x : A) × In x l × (y ≡ f x)
 map-in f [] y i = absurd (List·Memᴰ·not-nil i)
 map-in f (x ∷ xs) y i =
-    ⊎-elim (λ (h : y ≡ f x). (x, here refl, h)) (λ (h : In y (map f xs)). let r = map-in f xs y h in (r .0, there (r .1), r .2)) (List·Memᴰ·cases-cons i)
+    ⊎-elim (λ (h : y ≡ f x). (x, here refl, h)) (λ (h : In y (map f xs)). let r = map-in f xs y h in (r .0, there (r .1), r .2))
+    (List·Memᴰ·cases-cons i)
 
 pub in-map : {A B : Type 0} (f : A → B) {l : List A} {x : A} → In x l → In (f x) (map f l)
 in-map f (here e) = here (ap f e)
@@ -168,7 +170,8 @@ flatMap-in f (x ∷ xs) y i =
 
 pub from-in : (a n x : ℕ) → In x (from a n) → (a ≤ x) × (x < a + n)
 from-in a zero x i = absurd (List·Memᴰ·not-nil i)
-from-in a (suc n) x i = ⊎-elim (λ (h : x ≡ a). omega arith) (λ (h : In x (from (suc a) n)). omega (arith, from-in (suc a) n x h)) (List·Memᴰ·cases-cons i)
+from-in a (suc n) x i = ⊎-elim (λ (h : x ≡ a). omega arith) (λ (h : In x (from (suc a) n)). omega (arith, from-in (suc a) n x h))
+    (List·Memᴰ·cases-cons i)
 
 -- ---- lists in order
 

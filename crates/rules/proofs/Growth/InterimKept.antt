@@ -137,7 +137,8 @@ module _ (t : Table) (good : GoodHeader (length t) (headerOf t)) (growing : Grow
       (hide-fewer (headerOf t) (tokenOf t (x .bucket)) (x .slot) (used .slot))
 
   -- update: the bucket has as many taken slots as before
-  pub update-shrinks : flagOf t ≡ 0 → (x : Slot) → TakenSlot t x → (key : ℕ) (r : Record) (o : Option Slot) → freeSlot t (headerOf t) (placeOf x) ≡ o
+  pub update-shrinks : flagOf t ≡ 0 → (x : Slot) → TakenSlot t x → (key : ℕ) (r : Record) (o : Option Slot)
+      → freeSlot t (headerOf t) (placeOf x) ≡ o
       → Shrinks t (made t (updateWith t (headerOf t) x o key r))
   unfolding taken
   update-shrinks flag x item key r (some y) e =
@@ -159,13 +160,15 @@ module _ (t : Table) (good : GoodHeader (length t) (headerOf t)) (growing : Grow
       made-kept t xs (tokenWord (x .bucket)) (omega arith, (omega arith, (omega arith, tt))) in
       record { header = near .header; bits = λ j range. go near token j (ℕ-discrete j (x .bucket)) }
     where
-      go : Touched t (made t (redoStores x r)) x → tokenOf (made t (redoStores x r)) (x .bucket) ≡ tokenOf t (x .bucket) → (j : ℕ) → Dec (j ≡ x .bucket)
+      go : Touched t (made t (redoStores x r)) x → tokenOf (made t (redoStores x r)) (x .bucket) ≡ tokenOf t (x .bucket)
+          → (j : ℕ) → Dec (j ≡ x .bucket)
           → takenOf (headerOf t) (tokenOf (made t (redoStores x r)) j) ≤ takenOf (headerOf t) (tokenOf t j)
       go near token j (yes e) = rw (e, token) (omega arith)
       go near token j (no n) = rw (near .tokens j n) (omega arith)
 
   -- a step: its placing, then the item's token cleared
-  pub step-less : (x : Slot) → InterimItem t x → (p : Placing) → placing t (headerOf t) (keyIn t x) ≡ p → Steps t (made t (stepStores t (headerOf t) x p)) x
+  pub step-less : (x : Slot) → InterimItem t x → (p : Placing) → placing t (headerOf t) (keyIn t x) ≡ p
+      → Steps t (made t (stepStores t (headerOf t) x p)) x
   unfolding stepStores taken
   step-less x item p e =
       let h = headerOf t in

@@ -10,7 +10,8 @@ use mathlib.Core.Option.{Option, none, some, Option·map, Option·getD}
 use native.Mathlib.Omega.{arith}
 use borrow.Author.Tests.{ltb-true, ltb-false}
 use Rattle.rules.specs.Choice.{orElse, firstOf}
-use Rattle.rules.specs.Words.{Table, top, bottom, topOf, bottomOf, levelsInUse, slotAt, slotsIn, placeOf, keyIn, tokenOf, isTaken, slots, takenOf, taken}
+use Rattle.rules.specs.Words.{Table, top, bottom, topOf, bottomOf, levelsInUse, slotAt, slotsIn, placeOf, keyIn, tokenOf, isTaken, slots}
+use Rattle.rules.specs.Words.{takenOf, taken}
 use Rattle.rules.specs.Places.{hashesOf, firstPlace, secondPlace, probes, placesOf}
 use Rattle.rules.specs.Placing.{takenIn, freeSlot, fewer, emptier, roomIn, Candidate, candidates, moveOf, placing, somewhere}
 use Rattle.rules.specs.NoPlace.{AtPlace, CandidateSlot, MayGo, PermittedMove, NoPlaceFor}
@@ -77,7 +78,8 @@ module _ (t : Table) (h : Header) where
   -- ---- the slots that are tried
 
   -- a slot of a candidate's place is a slot of one of the key's places
-  candidate-among : (key : ℕ) (x : Slot) → CandidateSlot h key x → (x .slot < 4) × In (placeOf x) (placesOf h key) × ((x .level ≡ top) ⊎ (x .level ≡ bottom))
+  candidate-among : (key : ℕ) (x : Slot) → CandidateSlot h key x
+      → (x .slot < 4) × In (placeOf x) (placesOf h key) × ((x .level ≡ top) ⊎ (x .level ≡ bottom))
   unfolding placesOf probes levelsInUse topOf bottomOf
   candidate-among key x (inl a) =
       (a .0, in-flatMap _ (here refl) (place-among _ (topOf (h .state)) (placeOf x) .1 (a .1)), inl (at-level _ (topOf (h .state)) x a))
@@ -92,7 +94,8 @@ module _ (t : Table) (h : Header) where
   at-full x l e s (m, inl p) = no-room x l e .0 s (rw p at (slots-of-place s m))
   at-full x l e s (m, inr p) = no-room x l e .1 s (rw p at (slots-of-place s m))
 
-  module _ (key : ℕ) (above : roomIn t h (hashesOf h key) (topOf (h .state)) ≡ none) (below : roomIn t h (hashesOf h key) (bottomOf (h .state)) ≡ none) where
+  module _ (key : ℕ) (above : roomIn t h (hashesOf h key) (topOf (h .state)) ≡ none)
+      (below : roomIn t h (hashesOf h key) (bottomOf (h .state)) ≡ none) where
     candidates-taken : (x : Slot) → CandidateSlot h key x → taken t h x ≡ true
     candidates-taken x (inl a) = at-full _ (topOf (h .state)) above x a
     candidates-taken x (inr a) = at-full _ (bottomOf (h .state)) below x a
@@ -123,7 +126,8 @@ module _ (t : Table) (h : Header) (key : ℕ) where
       let r = move-first t h key from to e in
       let less = slot-number (placeOf to) to (r .lowest .inside) in
       let c : Candidate = record { item = from; goals = r .goals-before ++ (placeOf to ∷ r .goals-after) } in
-      let g = candidate-goes t h key c (rw (r .order) (Memᴰ·append-right (r .earlier) (here refl))) to less (Memᴰ·append-right (r .goals-before) (here refl)) in
+      let g = candidate-goes t h key c (rw (r .order) (Memᴰ·append-right (r .earlier) (here refl))) to less
+      (Memᴰ·append-right (r .goals-before) (here refl)) in
       (g .0, record { item = candidates-taken t h key (r .no-room-above) (r .no-room-below) from (g .0); goal = g .1; slot = less; free = r .lowest .free })
 
   pub placing-free : (x : Slot) → placing t h key ≡ Free x → FreeFor t h key x
