@@ -29,7 +29,7 @@ ghost use Rattle.rules.specs.Words.{GoodHeader};
 ghost use Rattle.rules.specs.Places.{hashesOf, lookup as lookupOf};
 ghost use Rattle.rules.specs.Stores.{placingStores, updateStores};
 ghost use Rattle.rules.specs.Calls.{insertIn, updateIn, deleteIn};
-ghost use Rattle.rules.specs.declared.Call.the-variants.{Insert as insertCall, Update as updateCall, Delete as deleteCall};
+ghost use Rattle.rules.specs.Calls.{insert as insertCall, update as updateCall, delete as deleteCall};
 ghost use Rattle.rules.specs.declared.Lookup.the-variants.{Absent};
 ghost use Rattle.rules.specs.declared.Placing.the-variants.{Move as move};
 ghost use Rattle.reading.specs.Within.{SlotWithin, PlacingWithin};

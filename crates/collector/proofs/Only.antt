@@ -6,12 +6,12 @@ use mathlib.Core.List.{List, [], _∷_}
 use lib.ListN.{getD}
 use Rattle.rules.specs.Words.{Table}
 use Rattle.rules.specs.Answers.{Meaning}
-use Rattle.rules.specs.declared.Call.{Call}
+use Rattle.rules.specs.Calls.{Call}
 use Rattle.numbering.specs.Told.{told, toldWith}
 use Rattle.querying.specs.Promises.{QueriedBy}
 use Rattle.chaining.specs.Promises.{ChainedBy}
 use Rattle.making.specs.Promises.{CreatedBy, MadeBy}
-use Rattle.collector.specs.Reported.{Reported}
+use Rattle.collector.specs.Reported.{Reported, ReportedFrom}
 
 numbers-one : {a b : Meaning} → a ≡ b → a .number ≡ b .number
 numbers-one e = ap (λ (m : Meaning). m .number) e
@@ -35,6 +35,11 @@ module _ (t u v : Table) (r s : ℕ) where
   reported-one q l m n i j a b =
       let same = a .answer ∙ sym (b .answer) in
       (numbers-one same, ap (λ (z : Meaning). getD (z .values) 0 0) same, a .table ∙ sym (b .table), a .list ∙ sym (b .list))
+
+  pub gone-on-one : (b : ℕ) (l m n x y : List ℕ) → ReportedFrom b t l r x u m → ReportedFrom b t l s y v n → (r ≡ s) × (x ≡ y) × (u ≡ v) × (m ≡ n)
+  gone-on-one b l m n x y a c =
+      let same = a .answer ∙ sym (c .answer) in
+      (numbers-one same, ap (λ (z : Meaning). z .values) same, a .table ∙ sym (c .table), a .list ∙ sym (c .list))
 
   pub made-one : (l m n : List ℕ) (count : ℕ) → MadeBy t l count (told r) u m → MadeBy t l count (told s) v n → (r ≡ s) × (u ≡ v) × (m ≡ n)
   made-one l m n count a b = (numbers-one (a .0 .answer ∙ sym (b .0 .answer)), a .0 .table ∙ sym (b .0 .table), a .1 ∙ sym (b .1))

@@ -1,17 +1,22 @@
 -- What the answers of query and chain tell, as a number and its values.
 -- Assumes nothing.
 use Prim.Native.Nat.{ℕ}
-use mathlib.Core.Path.{_≡_}
+use mathlib.Core.Path.{_≡_, sym, _∙_}
 use mathlib.Core.List.{List, [], _∷_}
 use Rattle.rules.specs.Words.{Table}
 use Rattle.rules.specs.Answers.{numberOf}
 use Rattle.rules.specs.declared.Record.{Record}
 use Rattle.rules.specs.declared.Refusal.{Refusal}
+use Rattle.rules.specs.declared.Change.{Change}
+use Rattle.rules.specs.declared.Change.the-variants.{Listed, Refused}
+use Rattle.rules.specs.declared.SteppedFrom.{SteppedFrom}
 use Rattle.rules.specs.declared.Query.{Query}
 use Rattle.rules.specs.declared.Query.the-variants.{Known, Unknown}
 use Rattle.rules.specs.declared.Chain.{Chain}
 use Rattle.rules.specs.declared.Chain.the-variants.{Whole, Broken}
 use Rattle.numbering.specs.Told.{toldWith}
+use Rattle.listing.specs.Promises.{StepTakenFrom, WentOnBy}
+use Rattle.listing.proofs.Steps.{step-went-on}
 use Rattle.querying.specs.Promises.{QueriedBy, Queried}
 use Rattle.chaining.specs.Promises.{ChainedBy, Chained}
 
@@ -29,3 +34,14 @@ module _ {t u : Table} {address depth : ℕ} {l m : List ℕ} {c : Chain} where
   pub chain-broken : {r : Refusal} {n k : ℕ} → Chained t address depth l c u m → c ≡ Broken r n → k ≡ numberOf r
       → ChainedBy t address depth l (toldWith k (n ∷ [])) u m
   chain-broken d e k = rw k (rw e at d)
+
+module _ {b : ℕ} {t u : Table} {l m : List ℕ} {s : SteppedFrom} {c : Change} (d : StepTakenFrom b t l s u m) (same : c ≡ s .stepped .change) where
+  pub step-listed : {n : ℕ} → c ≡ Listed n → WentOnBy b t l (toldWith 0 (n ∷ s .bucket ∷ [])) u m
+  step-listed {n} e =
+      let k : s .stepped .change ≡ Listed n = sym same ∙ e in
+      rw k at (step-went-on d)
+
+  pub step-refused : {r : Refusal} {k : ℕ} → c ≡ Refused r → k ≡ numberOf r → WentOnBy b t l (toldWith k (0 ∷ s .bucket ∷ [])) u m
+  step-refused {r} e k =
+      let q : s .stepped .change ≡ Refused r = sym same ∙ e in
+      rw k (rw q at (step-went-on d))

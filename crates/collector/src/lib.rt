@@ -7,6 +7,7 @@ use changing::update;
 use growing::begin;
 use growing::end;
 use growing::step;
+use growing::step_from;
 use making::create;
 use making::make;
 use numbering::number;
@@ -20,13 +21,14 @@ use rules::Record;
 ghost use mathlib.Core.Path.{_≡_};
 ghost use mathlib.Core.List.{[], _∷_};
 ghost use Rattle.rules.specs.Answers.{changeMeans};
-ghost use Rattle.rules.specs.declared.Call.the-variants.{Insert as insertCall, Update as updateCall, Delete as deleteCall, Begin as beginCall};
-ghost use Rattle.rules.specs.declared.Call.the-variants.{Step as stepCall, End as endCall, Recover as recoverCall};
+ghost use Rattle.rules.specs.Calls.{insert as insertCall, update as updateCall, delete as deleteCall, begin as beginCall};
+ghost use Rattle.rules.specs.Calls.{end as endCall, recover as recoverCall};
+ghost use Rattle.rules.specs.Calls.{step as stepCall};
 ghost use Rattle.querying.specs.Promises.{QueriedBy};
 ghost use Rattle.chaining.specs.Promises.{ChainedBy};
 ghost use Rattle.making.specs.Promises.{CreatedBy, MadeBy};
 ghost use Rattle.numbering.specs.Told.{told, toldWith};
-ghost use Rattle.collector.specs.Reported.{Reported};
+ghost use Rattle.collector.specs.Reported.{Reported, ReportedFrom};
 
 #[no_mangle]
 pub extern "C" fn ragansils_create(table: &mut [u64], c: u64, k: u64, mul1: u64, mul2: u64) -> u64
@@ -151,6 +153,31 @@ pub extern "C" fn ragansils_step(table: &[u64], list: &mut [u64], stores: &mut u
     let taken = step(table, list);
     let change = taken.change;
     report(change, stores)
+}
+
+// Stores, and the bucket to go on from.
+#[no_mangle]
+pub extern "C" fn ragansils_step_from(
+    table: &[u64],
+    from: u64,
+    list: &mut [u64],
+    answer: &mut [u64; 2],
+) -> u64
+    ensures { λ r. ⌜ ReportedFrom from (now (table .entry)) (now (list .entry)) r (now (answer .exit)) (now (table .exit)) (now (list .exit)) ⌝ }
+{
+    let taken = step_from(table, list, from);
+    let stepped = taken.stepped;
+    let change = stepped.change;
+    match change {
+        Change::Listed(stores) => {
+            *answer = [stores, taken.bucket];
+            0
+        }
+        Change::Refused(refusal) => {
+            *answer = [0, taken.bucket];
+            number(refusal)
+        }
+    }
 }
 
 #[no_mangle]

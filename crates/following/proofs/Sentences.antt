@@ -8,8 +8,8 @@ use native.Mathlib.Omega.{arith}
 use lib.ListN.{length, drop, getD, drop-of-length-le}
 use lib.Dec.{eqb}
 use borrow.Author.Tests.{eqb-true}
-use Rattle.rules.specs.declared.Call.{Call}
-use Rattle.rules.specs.declared.Call.the-variants.{Query, Insert, Update, Delete, Begin, Step, End, Recover}
+use Rattle.rules.specs.declared.ScriptCall.{ScriptCall}
+use Rattle.rules.specs.declared.ScriptCall.the-variants.{Query, Insert, Update, Delete, Begin, Step, End, Recover}
 use Rattle.lines.specs.Lines.{blank}
 use Rattle.lines.specs.declared.Name.{Name}
 use Rattle.lines.specs.declared.Name.the-variants.{Cap, Top, Mul1, Mul2, Key, Fn, At, After}
@@ -137,14 +137,14 @@ header-waits (a ∷ b ∷ c ∷ []) name later e = waits-as _ _ e refl refl refl
 header-waits (a ∷ b ∷ c ∷ d ∷ vs) name later e = absurd (no-name headerNames (a ∷ b ∷ c ∷ d ∷ vs) (omega arith) e)
 
 -- the event may begin: its op line is read as one
-abbrev Begins : Script → Call → Type 0
+abbrev Begins : Script → ScriptCall → Type 0
 Begins s q = readingOf s (Event q) ≡ eventBegun s q
 
-begins-free : (s : Script) → EventDue s → (q : Call) → Begins s q
+begins-free : (s : Script) → EventDue s → (q : ScriptCall) → Begins s q
 unfolding readingOf
 begins-free s d q = rw (d .due, d .cut)
 
-begins-cut : (s : Script) (n line : ℕ) → s .due ≡ anEvent → s .cut ≡ cutAfter n line → (q : Call) → mayBeCut q ≡ true → Begins s q
+begins-cut : (s : Script) (n line : ℕ) → s .due ≡ anEvent → s .cut ≡ cutAfter n line → (q : ScriptCall) → mayBeCut q ≡ true → Begins s q
 unfolding readingOf
 begins-cut s n line d c q may = rw (d, c, may)
 
@@ -168,10 +168,10 @@ module _ (s : Script) (o : Line) (t : Script) (b : readingOf s o ≡ record { sc
       record { nothing = ap (λ x. x .1) same ∙ w .nothing; due = ap (λ x. x .0 .due) same ∙ w .due; next = ap (λ x. nextLine (x .0)) same ∙ w .next }
 
 -- an event with a key, and one with a record besides
-keyDue : Script → Call → Script
+keyDue : Script → ScriptCall → Script
 keyDue s q = onward s (aNumber Key) q 0 0 0 (s .cut) askNothing .script
 
-module _ (s : Script) (q : Call) (b : Begins s q) (keyed : eqb (numbersIn q) 0 ≡ false) where
+module _ (s : Script) (q : ScriptCall) (b : Begins s q) (keyed : eqb (numbersIn q) 0 ≡ false) where
   op-waits : {lines : List Line} {name : Name} {number : ℕ} → Waits (keyDue s q) lines name number → Waits s (Event q ∷ lines) name number
   unfolding keyDue
   op-waits w = begun-waits s (Event q) (keyDue s q) (b ∙ rw keyed) w
@@ -190,7 +190,7 @@ module _ (s : Script) (q : Call) (b : Begins s q) (keyed : eqb (numbersIn q) 0 �
     unfolding readingOf keyDue
     at-waits f e = op-waits (waits-as _ (Number Key k ∷ Number Fn f ∷ []) e (rw more) (rw more) (rw more (omega arith)))
 
-event-waits : (s : Script) (q : Call) → Begins s q → (vs : List ℕ) (name : Name) (later : List Name) → drop (length vs) (namesOf q) ≡ name ∷ later
+event-waits : (s : Script) (q : ScriptCall) → Begins s q → (vs : List ℕ) (name : Name) (later : List Name) → drop (length vs) (namesOf q) ≡ name ∷ later
     → Waits s (eventLines (Event q) vs) name (lineFrom s (length vs + 2))
 event-waits s (Insert key r) b [] name later e = key-waits s _ b refl e
 event-waits s (Insert key r) b (k ∷ []) name later e = fn-waits s _ b refl refl k e
@@ -220,7 +220,7 @@ line-waits s d Bad vs name later e = absurd (no-name [] vs (omega arith) e)
 
 -- ---- whole events
 
-asks-by : (s : Script) (q : Call) → Begins s q → (lines : List Line) {asked : Asked} → let r = eventBegun s q in let later = readAll (r .script) lines in
+asks-by : (s : Script) (q : ScriptCall) → Begins s q → (lines : List Line) {asked : Asked} → let r = eventBegun s q in let later = readAll (r .script) lines in
     (asking (r .asked) (later .1) ≡ asked ∷ []) → EventDue (later .0) → later .0 .lines ≡ lineFrom s (length (Event q ∷ lines))
     → Asks s (Event q ∷ lines) asked
 asks-by s q b lines alone next count =
@@ -234,7 +234,7 @@ asks-by s q b lines alone next count =
 due-here : (s : Script) → s .due ≡ anEvent → s .cut ≡ noCut → EventDue s
 due-here s a b = record { due = a; cut = b }
 
-call-asks : (s : Script) (q : Call) → Begins s (blank q) → Asks s (callLines q) (askEvent q (s .cut))
+call-asks : (s : Script) (q : ScriptCall) → Begins s (blank q) → Asks s (callLines q) (askEvent q (s .cut))
 unfolding readingOf
 call-asks s (Query k) b = asks-by s (Query 0) b _ refl (due-here _ refl refl) (omega arith)
 call-asks s (Insert k r) b = asks-by s (blank (Insert k r)) b _ refl (due-here _ refl refl) (omega arith)
@@ -247,7 +247,7 @@ call-asks s Recover b = asks-by s Recover b [] refl (due-here _ refl refl) (omeg
 
 -- ---- under a cut line
 
-cut-may : (q : Call) → Changing q → (mayBeCut q ≡ true) × (mayBeCut (blank q) ≡ true)
+cut-may : (q : ScriptCall) → Changing q → (mayBeCut q ≡ true) × (mayBeCut (blank q) ≡ true)
 cut-may (Query key) c = absurd c
 cut-may (Insert key r) c = (refl, refl)
 cut-may (Update key r) c = (refl, refl)
@@ -274,7 +274,7 @@ onto : (s t : Script) (xs : List Line) → readAll s xs ≡ (t, []) → (ys : Li
 onto s t xs e ys = read-more s xs ys ∙ ap (λ (x : Script × List Asked). (readAll (x .0) ys .0, x .1 ++ readAll (x .0) ys .1)) e
 
 module _ (s : Script) (d : EventDue s) (n : ℕ) where
-  cut-begins : (q : Call) → mayBeCut q ≡ true → Begins (underCut s n) q
+  cut-begins : (q : ScriptCall) → mayBeCut q ≡ true → Begins (underCut s n) q
   unfolding underCut
   cut-begins q may = begins-cut (underCut s n) n (lineFrom s 1) refl refl q may
 
@@ -283,7 +283,7 @@ module _ (s : Script) (d : EventDue s) (n : ℕ) where
       let same = onto s (underCut s n) (cutLines n) (cut-read s d n) lines in
       record { nothing = ap (λ x. x .1) same ∙ w .nothing; due = ap (λ x. x .0 .due) same ∙ w .due; next = ap (λ x. nextLine (x .0)) same ∙ w .next }
 
-  cut-asks : (q : Call) → Changing q → Asks s (cutLines n ++ callLines q) (askEvent q (cutAfter n (lineFrom s 1)))
+  cut-asks : (q : ScriptCall) → Changing q → Asks s (cutLines n ++ callLines q) (askEvent q (cutAfter n (lineFrom s 1)))
   unfolding underCut
   cut-asks q changing =
       let same = onto s (underCut s n) (cutLines n) (cut-read s d n) (callLines q) in

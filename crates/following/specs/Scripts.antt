@@ -3,8 +3,8 @@
 use Prim.Native.Nat.{ℕ, _+_, _%_, _^_}
 use mathlib.Core.Bool.{Bool, true, false, cond}
 use lib.Dec.{eqb}
-use Rattle.rules.specs.declared.Call.{Call}
-use Rattle.rules.specs.declared.Call.the-variants.{Query, Insert, Update, Delete, Begin, Step, End, Recover}
+use Rattle.rules.specs.declared.ScriptCall.{ScriptCall}
+use Rattle.rules.specs.declared.ScriptCall.the-variants.{Query, Insert, Update, Delete, Begin, Step, End, Recover}
 use Rattle.lines.specs.declared.Name.{Name}
 use Rattle.lines.specs.declared.Name.the-variants.{Cap, Top, Mul1, Mul2, Key, Fn, At, After}
 use Rattle.lines.specs.declared.Line.{Line}
@@ -31,7 +31,7 @@ abbrev pub nextLine : Script → ℕ
 nextLine s = (s .lines + 1) % 2 ^ 64
 
 -- it is read: what is due after it, for which event, the numbers read for that, the cut line over that, and what it asks for
-abbrev pub onward : Script → Due → Call → ℕ → ℕ → ℕ → CutLine → Asked → Reading
+abbrev pub onward : Script → Due → ScriptCall → ℕ → ℕ → ℕ → CutLine → Asked → Reading
 onward s due q a b c under asked =
     record { script = record { due = due; event = q; first = a; second = b; third = c; cut = under; lines = nextLine s }; asked = asked }
 
@@ -53,7 +53,7 @@ stops s = stopsAt s (nextLine s)
 -- ---- numbers
 
 -- "`op=insert` or `op=update` with `key`, `fn`, `at`; `op=delete` or `op=query` with `key`": how many numbers an event has
-abbrev pub numbersIn : Call → ℕ
+abbrev pub numbersIn : ScriptCall → ℕ
 numbersIn (Query key) = 1
 numbersIn (Insert key r) = 3
 numbersIn (Update key r) = 3
@@ -64,7 +64,7 @@ numbersIn End = 0
 numbersIn Recover = 0
 
 -- an event with its numbers
-abbrev pub filled : Call → ℕ → ℕ → ℕ → Call
+abbrev pub filled : ScriptCall → ℕ → ℕ → ℕ → ScriptCall
 filled (Query key) k f p = Query k
 filled (Insert key r) k f p = Insert k (record { function = f; place = p })
 filled (Update key r) k f p = Update k (record { function = f; place = p })
@@ -101,11 +101,11 @@ nameNumber After = 7
 
 -- ---- events
 
-abbrev pub eventBegun : Script → Call → Reading
+abbrev pub eventBegun : Script → ScriptCall → Reading
 eventBegun s q = cond (eqb (numbersIn q) 0) (asks s (askEvent q (s .cut))) (onward s (aNumber Key) q 0 0 0 (s .cut) askNothing)
 
 -- "`op=cut` .., which must stand right before a changing event or recover (else the cut line is the bad line)"
-abbrev pub mayBeCut : Call → Bool
+abbrev pub mayBeCut : ScriptCall → Bool
 mayBeCut (Query key) = false
 mayBeCut (Insert key r) = true
 mayBeCut (Update key r) = true
@@ -115,7 +115,7 @@ mayBeCut Step = true
 mayBeCut End = true
 mayBeCut Recover = true
 
-abbrev pub eventRead : Script → CutLine → Call → Reading
+abbrev pub eventRead : Script → CutLine → ScriptCall → Reading
 eventRead s noCut q = eventBegun s q
 eventRead s (cutAfter n line) q = cond (mayBeCut q) (eventBegun s q) (stopsAt s line)
 

@@ -7,8 +7,8 @@ use mathlib.Core.Path.{_≡_}
 use mathlib.Core.Bool.{Bool, true, false}
 use mathlib.Core.List.{List, [], _∷_, _++_}
 use lib.ListN.{length, drop}
-use Rattle.rules.specs.declared.Call.{Call}
-use Rattle.rules.specs.declared.Call.the-variants.{Query, Insert, Update, Delete, Begin, Step, End, Recover}
+use Rattle.rules.specs.declared.ScriptCall.{ScriptCall}
+use Rattle.rules.specs.declared.ScriptCall.the-variants.{Query, Insert, Update, Delete, Begin, Step, End, Recover}
 use Rattle.lines.specs.Lines.{noRecord, blank}
 use Rattle.lines.specs.declared.Name.{Name}
 use Rattle.lines.specs.declared.Name.the-variants.{Cap, Top, Mul1, Mul2, Key, Fn, At, After}
@@ -30,7 +30,7 @@ headerNames = Cap ∷ Top ∷ Mul1 ∷ Mul2 ∷ []
 
 -- "`op=insert` or `op=update` with `key`, `fn`, `at`; `op=delete` or `op=query` with `key`; `op=begin`, `op=step`, `op=end`,
 -- `op=recover`; `op=cut` with `after`"
-abbrev pub namesOf : Call → List Name
+abbrev pub namesOf : ScriptCall → List Name
 namesOf (Query key) = Key ∷ []
 namesOf (Insert key r) = Key ∷ Fn ∷ At ∷ []
 namesOf (Update key r) = Key ∷ Fn ∷ At ∷ []
@@ -57,7 +57,7 @@ abbrev pub eventLines : Line → List ℕ → List Line
 eventLines o vs = o ∷ numbered (namesAfter o) vs
 
 -- an event: its `op` line, which says no number, and its numbers
-abbrev pub numbersOf : Call → List ℕ
+abbrev pub numbersOf : ScriptCall → List ℕ
 numbersOf (Query key) = key ∷ []
 numbersOf (Insert key r) = key ∷ r .function ∷ r .place ∷ []
 numbersOf (Update key r) = key ∷ r .function ∷ r .place ∷ []
@@ -67,14 +67,14 @@ numbersOf Step = []
 numbersOf End = []
 numbersOf Recover = []
 
-abbrev pub callLines : Call → List Line
+abbrev pub callLines : ScriptCall → List Line
 callLines q = eventLines (Event (blank q)) (numbersOf q)
 
 abbrev pub cutLines : ℕ → List Line
 cutLines n = eventLines Cut (n ∷ [])
 
 -- "a changing event or recover"
-abbrev pub Changing : Call → Type 0
+abbrev pub Changing : ScriptCall → Type 0
 Changing (Query key) = ⊥
 Changing (Insert key r) = Unit {0}
 Changing (Update key r) = Unit {0}
@@ -127,10 +127,10 @@ abbrev pub NotNamed : Name → Line → Type 0
 NotNamed name l = (v : ℕ) → l ≡ Number name v → ⊥
 
 abbrev pub NoEvent : Line → Type 0
-NoEvent l = ((q : Call) → l ≡ Event q → ⊥) × (l ≡ Cut → ⊥)
+NoEvent l = ((q : ScriptCall) → l ≡ Event q → ⊥) × (l ≡ Cut → ⊥)
 
 abbrev pub NoChange : Line → Type 0
-NoChange l = (q : Call) → Changing q → l ≡ Event q → ⊥
+NoChange l = (q : ScriptCall) → Changing q → l ≡ Event q → ⊥
 
 -- ---- the sentences
 
@@ -140,7 +140,7 @@ HeaderRead = (c k mul1 mul2 : ℕ) → Asks start (numbered headerNames (c ∷ k
 
 -- each event with its lines, in their order
 abbrev pub EventsRead : Type 0
-EventsRead = (s : Script) → EventDue s → (q : Call) → Asks s (callLines q) (askEvent q noCut)
+EventsRead = (s : Script) → EventDue s → (q : ScriptCall) → Asks s (callLines q) (askEvent q noCut)
 
 -- the same of the events with numbers, spelled out: key, function and place in their order
 abbrev pub CallsNamed : Type 0
@@ -155,7 +155,7 @@ CallsNamed = (s : Script) → EventDue s
 -- "`op=cut` with `after`, which must stand right before a changing event or recover .. and lets only that many of its stores be
 -- made": each of them, with its lines
 abbrev pub CutEventsRead : Type 0
-CutEventsRead = (s : Script) → EventDue s → (n : ℕ) (q : Call) → Changing q → Asks s (cutLines n ++ callLines q) (askEvent q (cutAfter n (lineFrom s 1)))
+CutEventsRead = (s : Script) → EventDue s → (n : ℕ) (q : ScriptCall) → Changing q → Asks s (cutLines n ++ callLines q) (askEvent q (cutAfter n (lineFrom s 1)))
 
 -- "(else the cut line is the bad line)": before a query, another cut line, any other line, and at the end
 abbrev pub CutLineElseBad : Type 0
@@ -175,7 +175,7 @@ NumbersInOrder = (s : Script) → EventDue s → (o : Line) (vs : List ℕ) (nam
 
 -- the same of an event under a cut line
 abbrev pub CutNumbersInOrder : Type 0
-CutNumbersInOrder = (s : Script) → EventDue s → (n : ℕ) (q : Call) → Changing q → (vs : List ℕ) (name : Name) (later : List Name)
+CutNumbersInOrder = (s : Script) → EventDue s → (n : ℕ) (q : ScriptCall) → Changing q → (vs : List ℕ) (name : Name) (later : List Name)
     → drop (length vs) (namesOf q) ≡ name ∷ later
     → ((l : Line) → NotNamed name l → BadAfter s (cutLines n ++ eventLines (Event q) vs) l (lineFrom s (length vs + 4)))
     × EndsBad s (cutLines n ++ eventLines (Event q) vs) (lineFrom s (length vs + 4))

@@ -2,7 +2,7 @@
 mod waiting;
 
 use lines::Name;
-use rules::Call;
+use rules::ScriptCall;
 pub use waiting::finish;
 pub use waiting::read;
 pub use waiting::start;
@@ -24,7 +24,7 @@ pub enum Cut {
 // line; and how many lines were read.
 pub struct Script {
     pub due: Due,
-    pub event: Call,
+    pub event: ScriptCall,
     pub first: u64,
     pub second: u64,
     pub third: u64,
@@ -37,7 +37,7 @@ pub struct Script {
 pub enum Asked {
     Nothing,
     Table(u64, u64, u64, u64),
-    Event(Call, Cut),
+    Event(ScriptCall, Cut),
     Bad(u64),
 }
 

@@ -7,8 +7,8 @@ use crate::Reading;
 use crate::Script;
 use lines::Line;
 use lines::Name;
-use rules::Call;
 use rules::Record;
+use rules::ScriptCall;
 use std::num::wrapping_add_u64;
 ghost use mathlib.Core.Path.{_≡_};
 ghost use mathlib.Core.Bool.{cond};
@@ -25,7 +25,7 @@ pub fn start() -> Script
 {
     Script {
         due: Due::Number(Name::Cap),
-        event: Call::Begin,
+        event: ScriptCall::Begin,
         first: 0,
         second: 0,
         third: 0,
@@ -44,7 +44,7 @@ fn next_line(s: Script) -> u64
 fn onward(
     s: Script,
     due: Due,
-    event: Call,
+    event: ScriptCall,
     a: u64,
     b: u64,
     c: u64,
@@ -108,34 +108,34 @@ fn name_number(name: Name) -> u64
 }
 
 // "`op=insert` or `op=update` with `key`, `fn`, `at`; `op=delete` or `op=query` with `key`"
-fn numbers_in(event: Call) -> u64
+fn numbers_in(event: ScriptCall) -> u64
     ensures { λ r. ⌜ r ≡ numbersIn event ⌝ }
 {
     match event {
-        Call::Query(_) => 1,
-        Call::Insert(_, _) => 3,
-        Call::Update(_, _) => 3,
-        Call::Delete(_) => 1,
-        Call::Begin => 0,
-        Call::Step => 0,
-        Call::End => 0,
-        Call::Recover => 0,
+        ScriptCall::Query(_) => 1,
+        ScriptCall::Insert(_, _) => 3,
+        ScriptCall::Update(_, _) => 3,
+        ScriptCall::Delete(_) => 1,
+        ScriptCall::Begin => 0,
+        ScriptCall::Step => 0,
+        ScriptCall::End => 0,
+        ScriptCall::Recover => 0,
     }
 }
 
 // An event with its numbers.
-fn filled(event: Call, key: u64, function: u64, place: u64) -> Call
+fn filled(event: ScriptCall, key: u64, function: u64, place: u64) -> ScriptCall
     ensures { λ r. ⌜ r ≡ filledOf event key function place ⌝ }
 {
     match event {
-        Call::Query(_) => Call::Query(key),
-        Call::Insert(_, _) => Call::Insert(key, Record { function, place }),
-        Call::Update(_, _) => Call::Update(key, Record { function, place }),
-        Call::Delete(_) => Call::Delete(key),
-        Call::Begin => Call::Begin,
-        Call::Step => Call::Step,
-        Call::End => Call::End,
-        Call::Recover => Call::Recover,
+        ScriptCall::Query(_) => ScriptCall::Query(key),
+        ScriptCall::Insert(_, _) => ScriptCall::Insert(key, Record { function, place }),
+        ScriptCall::Update(_, _) => ScriptCall::Update(key, Record { function, place }),
+        ScriptCall::Delete(_) => ScriptCall::Delete(key),
+        ScriptCall::Begin => ScriptCall::Begin,
+        ScriptCall::Step => ScriptCall::Step,
+        ScriptCall::End => ScriptCall::End,
+        ScriptCall::Recover => ScriptCall::Recover,
     }
 }
 
@@ -177,7 +177,7 @@ fn number_read(s: Script, name: Name, v: u64) -> Reading
     }
 }
 
-fn event_begun(s: Script, event: Call) -> Reading
+fn event_begun(s: Script, event: ScriptCall) -> Reading
     ensures { λ r. ⌜ r ≡ eventBegun s event ⌝ }
 {
     let cut = s.cut;
@@ -196,23 +196,23 @@ fn event_begun(s: Script, event: Call) -> Reading
     )
 }
 
-fn may_be_cut(event: Call) -> bool
+fn may_be_cut(event: ScriptCall) -> bool
     ensures { λ r. ⌜ r ≡ mayBeCut event ⌝ }
 {
     match event {
-        Call::Query(_) => false,
-        Call::Insert(_, _) => true,
-        Call::Update(_, _) => true,
-        Call::Delete(_) => true,
-        Call::Begin => true,
-        Call::Step => true,
-        Call::End => true,
-        Call::Recover => true,
+        ScriptCall::Query(_) => false,
+        ScriptCall::Insert(_, _) => true,
+        ScriptCall::Update(_, _) => true,
+        ScriptCall::Delete(_) => true,
+        ScriptCall::Begin => true,
+        ScriptCall::Step => true,
+        ScriptCall::End => true,
+        ScriptCall::Recover => true,
     }
 }
 
 // "which must stand right before a changing event or recover (else the cut line is the bad line)"
-fn event_under(s: Script, line: u64, event: Call) -> Reading
+fn event_under(s: Script, line: u64, event: ScriptCall) -> Reading
     ensures { λ r. ⌜ r ≡ cond (mayBeCut event) (eventBegun s event) (stopsAtOf s line) ⌝ }
 {
     if may_be_cut(event) {
@@ -221,7 +221,7 @@ fn event_under(s: Script, line: u64, event: Call) -> Reading
     stops_at(s, line)
 }
 
-fn event_read(s: Script, cut: Cut, event: Call) -> Reading
+fn event_read(s: Script, cut: Cut, event: ScriptCall) -> Reading
     ensures { λ r. ⌜ r ≡ eventRead s cut event ⌝ }
 {
     match cut {

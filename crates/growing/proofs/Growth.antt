@@ -11,11 +11,12 @@ use types.Run.{OneOf}
 use Rattle.rules.specs.Choice.{empty}
 use Rattle.rules.specs.Words.{Table, atRest, stateWord}
 use Rattle.rules.specs.Stores.{begunOf, endedOf, beginStores, endStores}
-use Rattle.rules.specs.Calls.{refused, listed, beginTests, beginOf, interimItems, endTests, endOf}
+use Rattle.rules.specs.Calls.{refused, listed, beginTests, beginOf, itemsFrom, endTests, endOf}
 use Rattle.rules.specs.declared.State.{State}
 use Rattle.rules.specs.declared.Header.{Header}
 use Rattle.rules.specs.declared.Slot.{Slot}
 use Rattle.rules.specs.declared.Refusal.the-variants.{AlreadyGrowing, AtCapacity, NotGrowing, InterimTaken}
+use Rattle.rules.proofs.Tables.Interims.{items-all}
 use Rattle.growing.specs.Interim.{itemOf}
 use Rattle.growing.specs.declared.interim.Item.{Item}
 use Rattle.growing.specs.declared.interim.Item.the-variants.{At, Empty}
@@ -29,6 +30,15 @@ is-empty Empty e = refl
 pub is-there : (i : Item) → OneOf (0 ∷ []) (tagOf the-type i) → (x : Slot) × (i ≡ At x)
 is-there (At x) e = (x, refl)
 is-there Empty e = absurd (omega arith)
+
+-- an item found is one that stands
+pub nothing : (l : List Slot) → itemOf (head? l) ≡ Empty → empty l ≡ true
+nothing [] e = refl
+nothing (x ∷ l) e = absurd (let z : _≡_ {A = ℕ} 0 1 = cc in omega arith)
+
+pub something : {x : Slot} (l : List Slot) → itemOf (head? l) ≡ At x → empty l ≡ false
+something [] e = absurd (let z : _≡_ {A = ℕ} 0 1 = cc in omega arith)
+something (x ∷ l) e = refl
 
 module _ (h : Header) where
   pub begin-growing : atRest (h .state) ≡ false → refused AlreadyGrowing ≡ beginOf h
@@ -49,26 +59,11 @@ module _ (t : Table) (h : Header) where
   unfolding endOf endTests
   end-resting e = rw e
 
-  -- an item found is one that stands
-  pub nothing : itemOf (head? (interimItems t h)) ≡ Empty → empty (interimItems t h) ≡ true
-  nothing e = go (interimItems t h) e
-    where
-      go : (l : List Slot) → itemOf (head? l) ≡ Empty → empty l ≡ true
-      go [] e = refl
-      go (x ∷ l) e = absurd (let z : _≡_ {A = ℕ} 0 1 = cc in omega arith)
-
-  pub something : {x : Slot} → itemOf (head? (interimItems t h)) ≡ At x → empty (interimItems t h) ≡ false
-  something e = go (interimItems t h) e
-    where
-      go : {x : Slot} (l : List Slot) → itemOf (head? l) ≡ At x → empty l ≡ false
-      go [] e = absurd (let z : _≡_ {A = ℕ} 0 1 = cc in omega arith)
-      go (x ∷ l) e = refl
-
-  module _ {i : Item} (k : i ≡ itemOf (head? (interimItems t h))) (p : atRest (h .state) ≡ false) where
+  module _ {i : Item} (k : i ≡ itemOf (head? (itemsFrom t h 0))) (p : atRest (h .state) ≡ false) where
     pub end-taken : {x : Slot} → i ≡ At x → refused InterimTaken ≡ endOf t h
     unfolding endOf endTests
-    end-taken e = rw (p, something (sym k ∙ e))
+    end-taken e = rw (p, ← items-all t h, something (itemsFrom t h 0) (sym k ∙ e))
 
     pub end-listed : {s : State} {w : ℕ} → i ≡ Empty → s ≡ endedOf (h .state) → w ≡ stateWord s → listed ((4, w) ∷ []) ≡ endOf t h
     unfolding endOf endTests endStores
-    end-listed e g q = rw (p, nothing (sym k ∙ e), q, g)
+    end-listed e g q = rw (p, ← items-all t h, nothing (itemsFrom t h 0) (sym k ∙ e), q, g)

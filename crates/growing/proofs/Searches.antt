@@ -1,10 +1,10 @@
 -- Searches along the interim level: bucket by bucket, in each slot by slot. One finds the first taken slot, the other the first that is
--- taken by an item that has a place; this one may begin at the bucket where the first ended.
+-- taken by an item that has a place; this one may begin at the bucket where the first ended. Both may begin at any bucket.
 -- Assumes nothing.
 use Prim.Native.Nat.{ℕ, zero, suc, _+_, _-_, _*_, _^_, _≤_, _<_}
 use mathlib.Core.Path.{_≡_, refl, sym, ap, _∙_}
 use mathlib.Core.Bool.{Bool, true, false, cond}
-use mathlib.Core.List.{List, [], _∷_, map, flatMap, head?, append-nil}
+use mathlib.Core.List.{List, [], _∷_, map, flatMap, head?, append-nil, List·Memᴰ as In, List·Memᴰ·head as here}
 use mathlib.Core.Logic.{⊎-elim}
 use mathlib.Core.Option.{Option, none, some, Option·map}
 use native.Mathlib.Decide.{decLe}
@@ -12,12 +12,15 @@ use native.Mathlib.Omega.{arith}
 use denote.Enum.Declared.{tagOf}
 use types.Run.{OneOf}
 use lib.ListN.{drop}
+use lib.Seq.{drop-drop}
+use lib.Dec.{leb}
+use borrow.Author.Tests.{lt-leb, le-leb}
 use lib.Pow.{pow-mono}
 use Rattle.rules.specs.Choice.{given, orElse, select, firstOf, from}
-use Rattle.rules.specs.Words.{Table, GoodHeader, atRest, sizeOf, topOf, bottomOf, interimOf, levelsInUse, bucketsOf, slotAt, slotsIn, placeOf, placeAt}
+use Rattle.rules.specs.Words.{Table, GoodHeader, atRest, sizeOf, topOf, bottomOf, interimOf, levelsInUse, bucketsOf, InLevel, slotAt, slotsIn, placeOf, placeAt}
 use Rattle.rules.specs.Words.{slotsOf, keyIn, tokenOf, isTaken, slots, lowestTaken, taken}
 use Rattle.rules.specs.Placing.{placing, somewhere}
-use Rattle.rules.specs.Calls.{interimSlots, interimItems, hasPlace, stepItem}
+use Rattle.rules.specs.Calls.{interimSlots, interimItems, interimBucket, itemsFrom, hasPlace, stepItem}
 use Rattle.rules.specs.declared.State.{State}
 use Rattle.rules.specs.declared.Header.{Header}
 use Rattle.rules.specs.declared.Level.{Level}
@@ -26,13 +29,14 @@ use Rattle.rules.specs.declared.Slot.{Slot}
 use Rattle.rules.specs.declared.Placing.{Placing}
 use Rattle.rules.specs.declared.Placing.the-variants.{Free, Move, Nowhere}
 use Rattle.rules.proofs.Placing.{the-type}
-use Rattle.rules.proofs.Basics.Lists.{never, firstOf-some, firstOf-none, none-firstOf, given-some, given-none, firstOf-select, firstOf-map}
-use Rattle.rules.proofs.Basics.Lists.{firstOf-given, firstOf-flatMap}
+use Rattle.rules.proofs.Basics.Lists.{never, not-some, some-one, firstOf-some, firstOf-none, none-firstOf, firstOf-same, given-some, given-none, select-in}
+use Rattle.rules.proofs.Basics.Lists.{firstOf-select, firstOf-map, firstOf-given, firstOf-flatMap}
 use Rattle.rules.proofs.Basics.Along.{along, along-all, along-pass, along-hit, along-over, along-begins}
 use Rattle.rules.proofs.Basics.Walks.{slots-next, from-next, from-end}
 use Rattle.rules.proofs.Words.Headers.{next-bucket-fits}
 use Rattle.rules.proofs.Words.Levels.{interim-used, exponent-fits}
 use Rattle.rules.proofs.Words.FreeSlots.{slot-place}
+use Rattle.rules.proofs.Tables.Interims.{slot-range}
 use Rattle.rules.proofs.Basics.Lowest.{passing, lowest-some, lowest-none, lowest-below}
 use Rattle.reading.specs.Within.{SlotWithin, PlacingWithin}
 use Rattle.growing.specs.Interim.{placeable, placeableIn, FoundBy}
@@ -116,6 +120,55 @@ module _ (h : Header) (f : Slot → Option Slot) where
   found-over m i e q l = along-over foundIn (bucketsOf (sizeOf (interimOf (h .state)))) i
       (from-end (sizeOf (interimOf (h .state)) - 1) (sizeOf (interimOf (h .state))) i (rw (← e, ← q) l))
 
+-- a search that finds nothing before bucket b, and from there on what another finds
+module _ (h : Header) (g f : Slot → Option Slot) (b : ℕ) (before : (x : Slot) → interimBucket (h .state) x < b → g x ≡ none)
+    (onward : (x : Slot) → b ≤ interimBucket (h .state) x → g x ≡ f x) where
+  abbrev size : ℕ
+  size = sizeOf (interimOf (h .state))
+
+  in-bucket : (i : ℕ) (x : Slot) → In x (slotsIn (placeAt (interimOf (h .state)) (size - 1 + i))) → interimBucket (h .state) x ≡ i
+  unfolding interimBucket placeOf placeAt
+  in-bucket i x k =
+      let e : x .bucket ≡ size - 1 + i = ap (λ (q : Place). q .bucket) (slot-place (placeAt (interimOf (h .state)) (size - 1 + i)) x k) in
+      omega (arith, e)
+
+  skipped : (i : ℕ) → i < b → foundIn h g (size - 1 + i) ≡ none
+  unfolding foundIn
+  skipped i l = none-firstOf g _ (λ x k. let e = in-bucket i x k in before x (rw e l))
+
+  found-alike : (i : ℕ) → b ≤ i → foundIn h g (size - 1 + i) ≡ foundIn h f (size - 1 + i)
+  unfolding foundIn
+  found-alike i l = firstOf-same g f _ (λ x k. let e = in-bucket i x k in onward x (rw e l))
+
+  skip : (n : ℕ) → n ≤ b → foundFrom h g 0 ≡ foundFrom h g n
+  skip zero l = refl
+  skip (suc n) l = skip n (omega arith) ∙ go (decLe size n)
+    where
+      next : n + 1 ≡ suc n
+      next = omega arith
+
+      go : Dec (size ≤ n) → foundFrom h g n ≡ foundFrom h g (suc n)
+      go (yes over) = found-over h g size n refl refl over ∙ sym (found-over h g size (suc n) refl refl (omega arith))
+      go (no under) = found-pass h g size n refl refl (omega arith) (skipped n (omega arith)) ∙ ap (foundFrom h g) next
+
+  alike-from : (i : ℕ) → b ≤ i → foundFrom h g (i + 1) ≡ foundFrom h f (i + 1) → foundFrom h g i ≡ foundFrom h f i
+  alike-from i l later = go (decLe size i)
+    where
+      bucket : (o : Option Slot) → foundIn h f (size - 1 + i) ≡ o → i < size → foundFrom h g i ≡ foundFrom h f i
+      bucket none e under = found-pass h g size i refl refl under (found-alike i l ∙ e) ∙ later ∙ sym (found-pass h f size i refl refl under e)
+      bucket (some x) e under = found-hit h g size i refl refl under (found-alike i l ∙ e) ∙ sym (found-hit h f size i refl refl under e)
+
+      go : Dec (size ≤ i) → foundFrom h g i ≡ foundFrom h f i
+      go (yes over) = found-over h g size i refl refl over ∙ sym (found-over h f size i refl refl over)
+      go (no under) = bucket (foundIn h f (size - 1 + i)) refl (omega arith)
+
+  rest : (n i : ℕ) → b ≤ i → size ≤ i + n → foundFrom h g i ≡ foundFrom h f i
+  rest zero i l m = found-over h g size i refl refl (omega arith) ∙ sym (found-over h f size i refl refl (omega arith))
+  rest (suc n) i l m = alike-from i l (rest n (i + 1) (omega arith) (omega arith))
+
+  found-onward : foundFrom h g 0 ≡ foundFrom h f b
+  found-onward = skip b (omega arith) ∙ rest size b (omega arith) (omega arith)
+
 module _ (t : Table) (h : Header) where
   -- ---- the first taken slot
 
@@ -131,9 +184,35 @@ module _ (t : Table) (h : Header) where
       go true k = refl
       go false k = k
 
-  pub items-all : atRest (h .state) ≡ false → head? (interimItems t h) ≡ foundFrom h itemAt 0
-  unfolding interimItems itemAt
-  items-all e = head-first (taken t h) (interimSlots (h .state)) ∙ found-all h (λ x. given (taken t h x) x) e
+  -- the test of the rules, in the search
+  started : ℕ → Slot → Bool
+  started b x = leb b (interimBucket (h .state) x)
+
+  not-started : (b : ℕ) (x : Slot) → interimBucket (h .state) x < b → started b x ≡ false
+  unfolding started
+  not-started b x l = lt-leb b _ l
+
+  now-started : (b : ℕ) (x : Slot) → b ≤ interimBucket (h .state) x → started b x ≡ true
+  unfolding started
+  now-started b x l = le-leb b _ l
+
+  pub items-from : (b : ℕ) → atRest (h .state) ≡ false → head? (itemsFrom t h b) ≡ foundFrom h itemAt b
+  unfolding itemsFrom interimItems itemAt started
+  items-from b e =
+      head-first (started b) (select (taken t h) (interimSlots (h .state)))
+      ∙ firstOf-select (λ (x : Slot). given (started b x) x) (taken t h) (interimSlots (h .state)) ∙ found-all h search e
+      ∙ found-onward h search itemAt b (λ x l. none-before x (taken t h x) (not-started b x l)) (λ x l. on x (taken t h x) (now-started b x l))
+    where
+      search : Slot → Option Slot
+      search x = cond (taken t h x) (given (started b x) x) none
+
+      none-before : (x : Slot) (c : Bool) → started b x ≡ false → cond c (given (started b x) x) none ≡ none
+      none-before x true k = rw k
+      none-before x false k = refl
+
+      on : (x : Slot) (c : Bool) → started b x ≡ true → cond c (given (started b x) x) none ≡ given c x
+      on x true k = rw k
+      on x false k = refl
 
   -- one bucket: the lowest taken slot of its token word
   module _ (j : ℕ) {w s : ℕ} (u : w ≡ tokenOf t j) (v : s ≡ lowestTaken h w) where
@@ -153,11 +232,25 @@ module _ (t : Table) (h : Header) where
 
   -- ---- the first that is taken by an item that has a place
 
-  pub placeable-all : atRest (h .state) ≡ false → stepItem t h ≡ foundFrom h (placeable t h) 0
-  unfolding stepItem interimItems placeable
-  placeable-all e =
-      firstOf-select (λ (x : Slot). given (hasPlace t h x) x) (taken t h) (interimSlots (h .state))
-      ∙ found-all h (λ x. cond (taken t h x) (given (hasPlace t h x) x) none) e
+  pub placeable-all : (b : ℕ) → atRest (h .state) ≡ false → stepItem t h b ≡ foundFrom h (placeable t h) b
+  unfolding stepItem itemsFrom interimItems placeable started
+  placeable-all b e =
+      firstOf-select place (started b) (select (taken t h) (interimSlots (h .state)))
+      ∙ firstOf-select (λ (x : Slot). cond (started b x) (place x) none) (taken t h) (interimSlots (h .state)) ∙ found-all h search e
+      ∙ found-onward h search (placeable t h) b (λ x l. none-before x (taken t h x) (not-started b x l)) (λ x l. on x (now-started b x l))
+    where
+      place : Slot → Option Slot
+      place x = given (hasPlace t h x) x
+
+      search : Slot → Option Slot
+      search x = cond (taken t h x) (cond (started b x) (place x) none) none
+
+      none-before : (x : Slot) (c : Bool) → started b x ≡ false → cond c (cond (started b x) (place x) none) none ≡ none
+      none-before x true k = rw k
+      none-before x false k = refl
+
+      on : (x : Slot) → started b x ≡ true → search x ≡ placeable t h x
+      on x k = rw k
 
   -- one slot of a bucket, by its token word, its key and what placing finds for it
   module _ (p : Place) (s : ℕ) (low : s < 4) {w : ℕ} {b : Bool} (u : w ≡ tokenOf t (p .bucket)) (v : b ≡ isTaken h w s) where
@@ -208,7 +301,7 @@ module _ (t : Table) (h : Header) where
     pub bucket-stuck : f .placing ≡ Nowhere → foundFrom h (placeable t h) i ≡ foundFrom h (placeable t h) (i + 1)
     bucket-stuck g = found-pass h (placeable t h) m i e q r (bucket-search ∙ placed-none t h f (placeableIn t h p) k g)
 
-    pub bucket-placed : somewhere (f .placing) ≡ true → stepItem t h ≡ foundFrom h (placeable t h) i → FoundBy t h (stepItem t h) f
+    pub bucket-placed : {o : Option Slot} → somewhere (f .placing) ≡ true → o ≡ foundFrom h (placeable t h) i → FoundBy t h o f
     bucket-placed g j =
         let found = placed-some t h f (placeableIn t h p) k g in
         rw (j ∙ found-hit h (placeable t h) m i e q r (bucket-search ∙ found)) (rw found at k)
@@ -228,16 +321,18 @@ module _ (t : Table) (h : Header) where
       ap (λ (q : Place). q .bucket) (slot-place p x (rw same at (f .inside)))
 
   -- so it may begin at the bucket of the first item
-  pub placeable-from : (m : ℕ) (x : Slot) {l : Level} → l ≡ interimOf (h .state) → m ≡ sizeOf l → atRest (h .state) ≡ false
-      → head? (interimItems t h) ≡ some x
-      → (i : ℕ) × (x .bucket ≡ m - 1 + i) × (stepItem t h ≡ foundFrom h (placeable t h) i)
-  unfolding foundFrom along bucketsOf
-  placeable-from m x {l} e q growing k =
-      let size = sizeOf (interimOf (h .state)) in
-      let b = along-begins (foundIn h itemAt) (foundIn h (placeable t h)) nothing-placeable (bucketsOf size) x (sym (items-all growing) ∙ k) in
-      let same : m ≡ size = q ∙ ap sizeOf e in
-      let bucket = item-bucket (b .element) x (b .gives) ∙ at-index size (b .index) (b .next) in
-      (b .index, bucket ∙ ap (λ n. n - 1 + b .index) (sym same), placeable-all growing ∙ b .same)
+  pub begins-there : (b : ℕ) (x : Slot) → atRest (h .state) ≡ false → head? (itemsFrom t h b) ≡ some x
+      → stepItem t h b ≡ stepItem t h (interimBucket (h .state) x)
+  unfolding foundFrom along bucketsOf interimBucket
+  begins-there b x growing k =
+      let n = sizeOf (interimOf (h .state)) in
+      let r = along-begins (foundIn h itemAt) (foundIn h (placeable t h)) nothing-placeable (drop b (from (n - 1) n)) x (sym (items-from b growing) ∙ k) in
+      let on = drop-drop (r .index) b (from (n - 1) n) in
+      let j : r .element ≡ n - 1 + (b + r .index) = at-index n (b + r .index) (sym on ∙ r .next) in
+      let i : x .bucket ≡ r .element = item-bucket (r .element) x (r .gives) in
+      let same : b + r .index ≡ x .bucket - (n - 1) = omega (arith, i, j) in
+      placeable-all b growing ∙ r .same ∙ ap (firstOf (foundIn h (placeable t h))) on ∙ ap (foundFrom h (placeable t h)) same
+      ∙ sym (placeable-all (x .bucket - (n - 1)) growing)
     where
       at-index : (size i : ℕ) {a : ℕ} {rest : List ℕ} → drop i (from (size - 1) size) ≡ a ∷ rest → a ≡ size - 1 + i
       at-index size i {a} next = go (decLe size i)
@@ -245,3 +340,22 @@ module _ (t : Table) (h : Header) where
           go : Dec (size ≤ i) → a ≡ size - 1 + i
           go (yes over) = absurd (let f = from-end (size - 1) size i over in let z : _≡_ {A = ℕ} 0 1 = cc in omega arith)
           go (no under) = let f = from-next (size - 1) size i (omega arith) in cc
+
+  -- the items stand in the interim level
+  in-level : (b : ℕ) (x : Slot) → In x (itemsFrom t h b) → InLevel (interimOf (h .state)) (x .bucket)
+  unfolding itemsFrom interimItems
+  in-level b x i = slot-range (h .state) x (select-in _ _ x (select-in _ _ x i .0) .0)
+
+  pub first-in-level : (b : ℕ) (x : Slot) → head? (itemsFrom t h b) ≡ some x → InLevel (interimOf (h .state)) (x .bucket)
+  first-in-level b x e = in-level b x (go (itemsFrom t h b) e)
+    where
+      go : (l : List Slot) → head? l ≡ some x → In x l
+      go [] e = not-some e
+      go (y ∷ l) e = here (sym (some-one e))
+
+  pub step-in-level : (b : ℕ) (x : Slot) → stepItem t h b ≡ some x → InLevel (interimOf (h .state)) (x .bucket)
+  unfolding stepItem
+  step-in-level b x e =
+      let f = firstOf-some (λ (y : Slot). given (hasPlace t h y) y) (itemsFrom t h b) x e in
+      let g = given-some (hasPlace t h (f .found)) (f .found) x (f .gives) in
+      in-level b x (rw (g .1) at (f .inside))

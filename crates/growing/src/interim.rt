@@ -1,4 +1,5 @@
-// The items of the interim level, "bucket, then slot ascending": the first of them, and the first that has a place.
+// The items of the interim level, "bucket, then slot ascending", from one of its buckets on: the first of them, and the first that has a
+// place.
 use placing::interim_placing;
 use reading::levels::interim;
 use reading::places::hashes;
@@ -10,14 +11,14 @@ use rules::Header;
 use rules::Place;
 use rules::Placing;
 use rules::Slot;
+use rules::State;
 use words::power;
 ghost use mathlib.Core.Path.{_≡_};
 ghost use mathlib.Core.Bool.{false};
 ghost use mathlib.Core.List.{head?};
-ghost use mathlib.Core.Option.{some};
 ghost use lib.ListN.{length};
-ghost use Rattle.rules.specs.Words.{GoodHeader, atRest};
-ghost use Rattle.rules.specs.Calls.{interimItems, stepItem};
+ghost use Rattle.rules.specs.Words.{GoodState, GoodHeader, atRest, interimOf, InLevel};
+ghost use Rattle.rules.specs.Calls.{interimBucket, itemsFrom, stepItem};
 ghost use Rattle.reading.specs.Within.{BucketWithin};
 ghost use Rattle.growing.specs.Interim.{itemOf, ItemWithin, placeableIn, FoundBy};
 
@@ -32,14 +33,14 @@ pub struct Found {
     pub placing: Placing,
 }
 
-// The first taken interim slot, whether it has a place or not.
-pub fn first_item(t: &[u64], h: Header) -> Item
+// The first taken interim slot from bucket b of the level on, whether it has a place or not.
+pub fn first_item(t: &[u64], h: Header, b: u64) -> Item
     requires { ⌜ GoodHeader (length (now t)) h × (atRest (h .state) ≡ false) ⌝ }
-    ensures { λ r. ⌜ (r ≡ itemOf (head? (interimItems (now (t .entry)) h))) × ItemWithin (now (t .entry)) r ⌝ }
+    ensures { λ r. ⌜ (r ≡ itemOf (head? (itemsFrom (now (t .entry)) h b))) × ItemWithin (now (t .entry)) r ⌝ }
 {
     let level = interim(h.state);
     let m = power(level.exponent);
-    for i in 0..m {
+    for i in b as usize..m {
         let j = m - 1 + i;
         let s = lowest_taken(h, token(t, j));
         if s < 4 {
@@ -51,6 +52,14 @@ pub fn first_item(t: &[u64], h: Header) -> Item
         }
     }
     Item::Empty
+}
+
+// The bucket of a slot of the interim level, "counted from 0 in the level".
+pub fn bucket_in_level(state: State, x: Slot) -> usize
+    requires { ⌜ GoodState 20 state × (atRest state ≡ false) × InLevel (interimOf state) (x .bucket) ⌝ }
+    ensures { λ r. ⌜ r ≡ interimBucket state x ⌝ }
+{
+    x.bucket - (power(interim(state).exponent) - 1)
 }
 
 // Of one bucket, the first item that has a place. Most buckets of a growth are empty: the search begins at the lowest taken slot.
@@ -86,14 +95,14 @@ fn placed_in(t: &[u64], h: Header, p: Place) -> Found
     }
 }
 
-// "the first interim item, in the same order, that has a place". The buckets before that of the first item are empty.
-pub fn first_placed(t: &[u64], h: Header, first: Slot) -> Found
-    requires { ⌜ GoodHeader (length (now t)) h × (atRest (h .state) ≡ false) × (head? (interimItems (now t) h) ≡ some first) ⌝ }
-    ensures { λ r. ⌜ FoundBy (now (t .entry)) h (stepItem (now (t .entry)) h) r ⌝ }
+// "the first interim item, in the same order, that has a place", from bucket b of the level on.
+pub fn first_placed(t: &[u64], h: Header, b: usize) -> Found
+    requires { ⌜ GoodHeader (length (now t)) h × (atRest (h .state) ≡ false) ⌝ }
+    ensures { λ r. ⌜ FoundBy (now (t .entry)) h (stepItem (now (t .entry)) h b) r ⌝ }
 {
     let level = interim(h.state);
     let m = power(level.exponent);
-    for i in first.bucket - (m - 1)..m {
+    for i in b..m {
         let place = Place {
             level: level.name,
             bucket: m - 1 + i,
@@ -105,7 +114,11 @@ pub fn first_placed(t: &[u64], h: Header, first: Slot) -> Found
         };
     }
     Found {
-        item: first,
+        item: Slot {
+            level: level.name,
+            bucket: b,
+            slot: 0,
+        },
         placing: Placing::Nowhere,
     }
 }

@@ -1,8 +1,8 @@
 // Growth in small steps: begin, step and end.
 pub mod interim;
 
-use interim::Found;
 use interim::Item;
+use interim::bucket_in_level;
 use interim::first_item;
 use interim::first_placed;
 use listing::clear;
@@ -18,18 +18,17 @@ use rules::Header;
 use rules::Placing;
 use rules::Refusal;
 use rules::Stepped;
+use rules::SteppedFrom;
 use rules::layout::STATE;
 ghost use mathlib.Core.Path.{_≡_};
+ghost use mathlib.Core.Bool.{false};
 ghost use Prim.Native.Nat.{_≤_};
 ghost use lib.ListN.{length};
-ghost use Rattle.rules.specs.Words.{GoodHeader};
+ghost use Rattle.rules.specs.Words.{GoodHeader, atRest};
 ghost use Rattle.rules.specs.Calls.{beginOf, stepItem, stepIn, stepOf, endOf};
-ghost use Rattle.rules.specs.declared.Call.the-variants.{Begin as beginCall, End as endCall};
-ghost use Rattle.rules.specs.declared.Change.the-variants.{Refused};
-ghost use Rattle.rules.specs.declared.Placing.the-variants.{Nowhere};
-ghost use Rattle.listing.specs.Promises.{Changed, StepTaken, Did};
-ghost use Rattle.growing.specs.Interim.{FoundBy};
-ghost use Rattle.growing.specs.Steps.{DidStep};
+ghost use Rattle.rules.specs.Calls.{begin as beginCall, end as endCall};
+ghost use Rattle.listing.specs.Promises.{Changed, StepTaken, StepTakenFrom, Did};
+ghost use Rattle.growing.specs.Steps.{RefusedStep, DidStep};
 
 // "begin growth | state: k + 1, phase 1"
 fn begin_at(list: &mut [u64], h: Header) -> Change
@@ -58,22 +57,27 @@ pub fn begin(t: &[u64], list: &mut [u64]) -> Change
     }
 }
 
-// A refused step: no store, and no placing.
-fn unplaced(refusal: Refusal) -> Stepped
-    ensures { λ r. ⌜ (r .change ≡ Refused refusal) × (r .placing ≡ Nowhere) ⌝ }
+// A refused step: no store, no placing, and bucket 0.
+fn unplaced(refusal: Refusal) -> SteppedFrom
+    ensures { λ r. ⌜ RefusedStep refusal r ⌝ }
 {
-    Stepped {
-        change: Change::Refused(refusal),
-        placing: Placing::Nowhere,
+    SteppedFrom {
+        stepped: Stepped {
+            change: Change::Refused(refusal),
+            placing: Placing::Nowhere,
+        },
+        bucket: 0,
     }
 }
 
-// The placing of the item that was found, "then its interim token cleared". "Refusal 6 is then given exactly when interim items remain
-// and none has one": then the search has found no placing.
-fn step_item(t: &[u64], list: &mut [u64], h: Header, found: Found) -> Stepped
-    requires { ⌜ (20 ≤ length (now list)) × GoodHeader (length (now t)) h × FoundBy (now t) h (stepItem (now t) h) found ⌝ }
-    ensures { λ r. ⌜ DidStep (now (t .entry)) h (stepIn (now (t .entry)) h (stepItem (now (t .entry)) h)) (now (list .entry)) r (now (list .exit)) ⌝ }
+// The first item that has a place, from bucket b of the level on: its placing, "then its interim token cleared". "Refusal 6 is then given
+// exactly when interim items remain and none has one": then the search has found no placing.
+fn step_item(t: &[u64], list: &mut [u64], h: Header, b: usize) -> SteppedFrom
+    requires { ⌜ (20 ≤ length (now list)) × GoodHeader (length (now t)) h × (atRest (h .state) ≡ false) ⌝ }
+    ensures { λ r. ⌜ DidStep (now (t .entry)) h (stepItem (now (t .entry)) h b) (stepIn (now (t .entry)) h (stepItem (now (t .entry)) h b))
+        (now (list .entry)) r (now (list .exit)) ⌝ }
 {
+    let found = first_placed(t, h, b);
     let p = found.placing;
     let (Placing::Free(y) | Placing::Move(y, _)) = p else {
         return unplaced(Refusal::NoPlace);
@@ -81,37 +85,48 @@ fn step_item(t: &[u64], list: &mut [u64], h: Header, found: Found) -> Stepped
     let x = found.item;
     let at = list_placing(t, list, h, p, y, key_at(t, x), record_at(t, x));
     let n = clear(list, at, h, token(t, x.bucket), x);
-    Stepped {
-        change: Change::Listed(n as u64),
-        placing: p,
+    SteppedFrom {
+        stepped: Stepped {
+            change: Change::Listed(n as u64),
+            placing: p,
+        },
+        bucket: bucket_in_level(h.state, x) as u64,
     }
 }
 
-// "for step and end 8 first"
-fn step_at(t: &[u64], list: &mut [u64], h: Header) -> Stepped
+// "for step and end 8 first". The buckets before that of the first item are empty, so the search for a place begins there.
+fn step_at(t: &[u64], list: &mut [u64], h: Header, b: u64) -> SteppedFrom
     requires { ⌜ (20 ≤ length (now list)) × GoodHeader (length (now t)) h ⌝ }
-    ensures { λ r. ⌜ DidStep (now (t .entry)) h (stepOf (now (t .entry)) h) (now (list .entry)) r (now (list .exit)) ⌝ }
+    ensures { λ r. ⌜ DidStep (now (t .entry)) h (stepItem (now (t .entry)) h b) (stepOf (now (t .entry)) h b) (now (list .entry)) r (now (list .exit)) ⌝ }
 {
     let state = h.state;
     if state.at_rest() {
         return unplaced(Refusal::NotGrowing);
     }
-    let item = first_item(t, h);
+    let item = first_item(t, h, b);
     let Item::At(first) = item else {
         return unplaced(Refusal::InterimEmpty);
     };
-    step_item(t, list, h, first_placed(t, h, first))
+    step_item(t, list, h, bucket_in_level(state, first))
 }
 
-// After the tests 1, 2 and 3: "8 | not growing", "11 | interim empty", "6 | no place".
-pub fn step(t: &[u64], list: &mut [u64]) -> Stepped
-    ensures { λ r. ⌜ StepTaken (now (t .entry)) (now (list .entry)) r (now (t .exit)) (now (list .exit)) ⌝ }
+// After the tests 1, 2 and 3: "8 | not growing", "11 | interim empty", "6 | no place", of the interim items from bucket b of the level on.
+pub fn step_from(t: &[u64], list: &mut [u64], b: u64) -> SteppedFrom
+    ensures { λ r. ⌜ StepTakenFrom b (now (t .entry)) (now (list .entry)) r (now (t .exit)) (now (list .exit)) ⌝ }
 {
     let gate = change_gate(t, list.len());
     match gate {
         Gate::Shut(refusal) => unplaced(refusal),
-        Gate::Open(h) => step_at(t, list, h),
+        Gate::Open(h) => step_at(t, list, h, b),
     }
+}
+
+// "with 0 it IS the step"
+pub fn step(t: &[u64], list: &mut [u64]) -> Stepped
+    ensures { λ r. ⌜ StepTaken (now (t .entry)) (now (list .entry)) r (now (t .exit)) (now (list .exit)) ⌝ }
+{
+    let went = step_from(t, list, 0);
+    went.stepped
 }
 
 // "end growth | state: phase 0"
@@ -123,7 +138,7 @@ fn end_at(t: &[u64], list: &mut [u64], h: Header) -> Change
     if state.at_rest() {
         return Change::Refused(Refusal::NotGrowing);
     }
-    let item = first_item(t, h);
+    let item = first_item(t, h, 0);
     let Item::Empty = item else {
         return Change::Refused(Refusal::InterimTaken);
     };

@@ -13,8 +13,8 @@ use Rattle.lines.specs.Lines.{bytes, nameText, blank, beginning, rows, b
 use Rattle.lines.specs.Texts.{decimalText, decimalAfter, lineText, Good, TextsSay, OnlyTextsSay}
 use Rattle.lines.specs.declared.Name.{Name}
 use Rattle.lines.specs.declared.Name.the-variants.{Cap, Top, Mul1, Mul2, Key, Fn, At, After}
-use Rattle.rules.specs.declared.Call.{Call}
-use Rattle.rules.specs.declared.Call.the-variants.{Query, Insert, Update, Delete, Begin, Step, End, Recover}
+use Rattle.rules.specs.declared.ScriptCall.{ScriptCall}
+use Rattle.rules.specs.declared.ScriptCall.the-variants.{Query, Insert, Update, Delete, Begin, Step, End, Recover}
 use Rattle.lines.specs.declared.Line.{Line}
 use Rattle.lines.specs.declared.Line.the-variants.{Number, Event, Cut, Bad}
 use Rattle.lines.proofs.Decimals.{all-both, decimal-read, decimal-spelt}
@@ -33,7 +33,7 @@ named Fn ds = refl
 named At ds = refl
 named After ds = refl
 
-event-said : (q : Call) → lineOf (lineText (Event q)) ≡ Event (blank q)
+event-said : (q : ScriptCall) → lineOf (lineText (Event q)) ≡ Event (blank q)
 unfolding lineOf
 event-said (Insert key r) = refl
 event-said (Update key r) = refl

@@ -11,8 +11,8 @@ use lib.ListN.{length, drop, getD}
 use lib.Dec.{eqb, leb, ltb}
 use Rattle.rules.specs.Choice.{all, given}
 use Rattle.rules.specs.declared.Record.{Record}
-use Rattle.rules.specs.declared.Call.{Call}
-use Rattle.rules.specs.declared.Call.the-variants.{Query, Insert, Update, Delete, Begin, Step, End, Recover}
+use Rattle.rules.specs.declared.ScriptCall.{ScriptCall}
+use Rattle.rules.specs.declared.ScriptCall.the-variants.{Query, Insert, Update, Delete, Begin, Step, End, Recover}
 use Rattle.lines.specs.declared.Name.{Name}
 use Rattle.lines.specs.declared.Name.the-variants.{Cap, Top, Mul1, Mul2, Key, Fn, At, After}
 use Rattle.lines.specs.declared.Line.{Line}
@@ -35,7 +35,7 @@ nameText At = "at="
 nameText After = "after="
 
 -- "`op=insert` or `op=update` ..; `op=delete` or `op=query` ..; `op=begin`, `op=step`, `op=end`, `op=recover`"
-abbrev pub eventText : Call → String
+abbrev pub eventText : ScriptCall → String
 eventText (Insert key r) = "op=insert"
 eventText (Update key r) = "op=update"
 eventText (Delete key) = "op=delete"
@@ -49,7 +49,7 @@ eventText Recover = "op=recover"
 abbrev pub noRecord : Record
 noRecord = record { function = 0; place = 0 }
 
-abbrev pub blank : Call → Call
+abbrev pub blank : ScriptCall → ScriptCall
 blank (Insert key r) = Insert 0 noRecord
 blank (Update key r) = Update 0 noRecord
 blank (Delete key) = Delete 0

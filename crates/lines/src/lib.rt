@@ -1,6 +1,6 @@
 // What a line of a script says: a name with a decimal, an event, or a cut. Any other line is bad.
-use rules::Call;
 use rules::Record;
+use rules::ScriptCall;
 ghost use mathlib.Core.Path.{_≡_};
 ghost use mathlib.Core.Bool.{not};
 ghost use Prim.Native.Nat.{_+_, _*_, _^_, _≤_};
@@ -25,7 +25,7 @@ pub enum Name {
 // What a line says. An event is a call whose numbers are still 0: they stand in the lines after it.
 pub enum Line {
     Number(Name, u64),
-    Event(Call),
+    Event(ScriptCall),
     Cut,
     Bad,
 }
@@ -63,14 +63,14 @@ fn says(row: usize) -> Line
         0 => Line::Number(Name::Key, 0),
         1 => Line::Number(Name::Fn, 0),
         2 => Line::Number(Name::At, 0),
-        3 => Line::Event(Call::Insert(0, NO_RECORD)),
-        4 => Line::Event(Call::Update(0, NO_RECORD)),
-        5 => Line::Event(Call::Delete(0)),
-        6 => Line::Event(Call::Query(0)),
-        7 => Line::Event(Call::Begin),
-        8 => Line::Event(Call::Step),
-        9 => Line::Event(Call::End),
-        10 => Line::Event(Call::Recover),
+        3 => Line::Event(ScriptCall::Insert(0, NO_RECORD)),
+        4 => Line::Event(ScriptCall::Update(0, NO_RECORD)),
+        5 => Line::Event(ScriptCall::Delete(0)),
+        6 => Line::Event(ScriptCall::Query(0)),
+        7 => Line::Event(ScriptCall::Begin),
+        8 => Line::Event(ScriptCall::Step),
+        9 => Line::Event(ScriptCall::End),
+        10 => Line::Event(ScriptCall::Recover),
         11 => Line::Cut,
         12 => Line::Number(Name::After, 0),
         13 => Line::Number(Name::Cap, 0),

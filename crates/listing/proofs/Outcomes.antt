@@ -8,20 +8,21 @@ use lib.ListN.{length}
 use Rattle.rules.specs.Words.{Table, headerOf}
 use Rattle.rules.specs.Stores.{Store}
 use Rattle.rules.specs.Calls.{listLong, changingTests, recoverTests, Outcome, refused, listed, testsOf, actOf, outcome}
-use Rattle.rules.specs.declared.Call.{Call}
+use Rattle.rules.specs.Calls.{Call}
 use Rattle.rules.specs.Results.{changeResult}
 use Rattle.rules.specs.declared.Header.{Header}
 use Rattle.rules.specs.declared.Refusal.{Refusal}
 use Rattle.rules.specs.declared.Change.{Change}
 use Rattle.rules.specs.declared.Change.the-variants.{Listed, Refused}
 use Rattle.rules.specs.declared.Stepped.{Stepped}
-use Rattle.rules.proofs.Calls.Meanings.{change-one, stepped-one}
+use Rattle.rules.specs.declared.SteppedFrom.{SteppedFrom}
+use Rattle.rules.proofs.Calls.Meanings.{change-one, stepped-one, stepped-from-one}
 use Rattle.reading.specs.Gates.{gateOf}
 use Rattle.reading.specs.declared.gate.Gate.{Gate}
 use Rattle.reading.specs.declared.gate.Gate.the-variants.{Open, Shut}
 use Rattle.reading.proofs.Gated.{gate-open, gate-shut, gate-passed}
 use Rattle.listing.specs.Listing.{Room, Run}
-use Rattle.listing.specs.Promises.{Changed, StepTaken, Did}
+use Rattle.listing.specs.Promises.{Changed, StepTaken, StepTakenFrom, Did}
 use Rattle.listing.proofs.Runs.{front}
 
 -- ---- what was done
@@ -71,3 +72,8 @@ changed-one q t l r s u v m n a b = (change-one r s (a .answer ∙ sym (b .answe
 pub step-taken-one : (t : Table) (l : List ℕ) (r s : Stepped) (u v : Table) (m n : List ℕ) → StepTaken t l r u m → StepTaken t l s v n
     → (r ≡ s) × (u ≡ v) × (m ≡ n)
 step-taken-one t l r s u v m n a b = (stepped-one r s (a .answer ∙ sym (b .answer)), a .table ∙ sym (b .table), a .list ∙ sym (b .list))
+
+pub step-taken-from-one : (b : ℕ) (t : Table) (l : List ℕ) (r s : SteppedFrom) (u v : Table) (m n : List ℕ) → StepTakenFrom b t l r u m
+    → StepTakenFrom b t l s v n → (r ≡ s) × (u ≡ v) × (m ≡ n)
+step-taken-from-one b t l r s u v m n a c =
+    (stepped-from-one r s (a .answer ∙ sym (c .answer)), a .table ∙ sym (c .table), a .list ∙ sym (c .list))

@@ -30,7 +30,7 @@ ghost use Rattle.rules.specs.Words.{headerOf, GoodHeader};
 ghost use Rattle.rules.specs.Soundness.{finding as findingOf, sameRecord};
 ghost use Rattle.rules.specs.Answers.{FindingTells};
 ghost use Rattle.rules.specs.Calls.{recoverOf};
-ghost use Rattle.rules.specs.declared.Call.the-variants.{Recover as recoverCall};
+ghost use Rattle.rules.specs.Calls.{recover as recoverCall};
 ghost use Rattle.listing.specs.Promises.{Changed, Did};
 ghost use Rattle.recovering.specs.Found.{ScanWithin, FindingWithin, targetMeans, stillOf, flaggedOf};
 

@@ -14,8 +14,8 @@ use Rattle.rules.specs.Results.{changeResult, queryResult, createResult}
 use Rattle.rules.specs.Histories.{reported}
 use Rattle.rules.specs.declared.Change.{Change}
 use Rattle.rules.specs.declared.Change.the-variants.{Listed, Refused}
-use Rattle.rules.specs.declared.Call.{Call}
-use Rattle.rules.specs.declared.Call.the-variants.{Query, Insert, Update, Delete, Begin, Step, End, Recover}
+use Rattle.rules.specs.declared.ScriptCall.{ScriptCall}
+use Rattle.rules.specs.declared.ScriptCall.the-variants.{Query, Insert, Update, Delete, Begin, Step, End, Recover}
 use Rattle.rules.specs.declared.Refusal.the-variants.{BadCreation}
 use Rattle.rules.specs.declared.Verdict.{Verdict}
 use Rattle.rules.specs.declared.Verdict.the-variants.{Done, Denied}
@@ -26,7 +26,7 @@ use Rattle.following.specs.declared.Cut.the-variants.{None as noCut, After as c
 use Rattle.following.specs.declared.Due.the-variants.{Nothing as noMore}
 use Rattle.following.specs.declared.Script.{Script}
 use Rattle.following.specs.declared.Asked.the-variants.{Table as askTable}
-use Rattle.replaying.specs.Events.{lent, queried, keptUnder, changeAnswer, answerTo, tableAfter}
+use Rattle.replaying.specs.Events.{lent, callOf, queried, keptUnder, changeAnswer, answerTo, tableAfter}
 use Rattle.replaying.specs.Replays.{Turned, tableOf, created, askedOf, finished, finishOf}
 use Rattle.replaying.specs.Sentences.{Tells, Answered, ChangesAnswered, NothingAnswered, BadAnswered, EndAnswered, LetsMake}
 use Rattle.replaying.specs.Sentences.{CutChangesAnswered, QueriesAnswered, Verdicts, TableMade, TableNotMade}
@@ -41,7 +41,7 @@ reported-value : (r : Change) → reported r ≡ getD (changeMeans r .values) 0 
 reported-value (Listed s) = refl
 reported-value (Refused e) = refl
 
-no-query : (q : Call) → Changing q → queried q ≡ none
+no-query : (q : ScriptCall) → Changing q → queried q ≡ none
 no-query (Query key) c = absurd c
 no-query (Insert key r) c = refl
 no-query (Update key r) c = refl
@@ -51,12 +51,12 @@ no-query Step c = refl
 no-query End c = refl
 no-query Recover c = refl
 
-module _ (room : List ℕ) (p : Replay) (next : Script) (q : Call) (changing : Changing q) (r : Change) {number stores : ℕ}
+module _ (room : List ℕ) (p : Replay) (next : Script) (q : ScriptCall) (changing : Changing q) (r : Change) {number stores : ℕ}
     (tells : Tells room p q r number stores) where
   told-stores : reported r ≡ stores
   told-stores = reported-value r ∙ ap (λ (m : Meaning). getD (m .values) 0 0) (tells .means)
 
-  kept-stores : (c : Cut) → keptUnder c (reported (changeResult (tableOf p room) lent q .0)) ≡ keptUnder c stores
+  kept-stores : (c : Cut) → keptUnder c (reported (changeResult (tableOf p room) lent (callOf q) .0)) ≡ keptUnder c stores
   kept-stores c = ap (λ (x : Change). keptUnder c (reported x)) (tells .own) ∙ ap (keptUnder c) told-stores
 
   answered : (c : Cut) {answer : Answer} {made : ℕ} → changeAnswer c r ≡ answer → keptUnder c stores ≡ made → Answered room p next q c answer made

@@ -8,7 +8,7 @@ use lib.ListN.{length, take, drop}
 use borrow.Author.Tests.{le-leb, lt-leb}
 use Rattle.rules.specs.Words.{Table, wordsFor}
 use Rattle.rules.specs.Results.{createResult}
-use Rattle.rules.specs.declared.Call.{Call}
+use Rattle.rules.specs.declared.ScriptCall.{ScriptCall}
 use Rattle.rules.specs.declared.Refusal.{Refusal}
 use Rattle.rules.specs.declared.Refusal.the-variants.{BadCreation}
 use Rattle.rules.specs.declared.Verdict.{Verdict}
@@ -41,7 +41,7 @@ module _ (p : Replay) (next : Script) (room : List ℕ) {r : Turn} where
 
 -- in the lent words
 module _ (p : Replay) (next : Script) (room : List ℕ) {r : Turn} {n : ℕ} (lent : n ≡ min (p .words) (length room)) where
-  pub event-taken : {x : Answer} {u : Table} (q : Call) (under : Cut) → EventDone q under (take n room) x u
+  pub event-taken : {x : Answer} {u : Table} (q : ScriptCall) (under : Cut) → EventDone q under (take n room) x u
       → (r .replay ≡ counted p next) × (r .answer ≡ x) → TurnIs (askedOf room p next (askEvent q under)) r (u ++ drop n room)
   event-taken {x} {u} q under d c =
       let table : take n room ≡ take (p .words) room = ap (λ (k : ℕ). take k room) lent ∙ take-least (p .words) room in

@@ -8,7 +8,7 @@ use lib.ListN.{take, drop}
 use lib.Dec.{leb}
 use Rattle.rules.specs.Words.{Table, wordsFor}
 use Rattle.rules.specs.Results.{createResult}
-use Rattle.rules.specs.declared.Call.the-variants.{Begin}
+use Rattle.rules.specs.declared.ScriptCall.the-variants.{Begin}
 use Rattle.rules.specs.declared.Refusal.the-variants.{BadCreation}
 use Rattle.rules.specs.declared.Verdict.{Verdict}
 use Rattle.rules.specs.declared.Verdict.the-variants.{Done, Denied}

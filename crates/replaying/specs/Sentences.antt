@@ -10,8 +10,8 @@ use lib.ListN.{take, drop}
 use Rattle.rules.specs.Words.{wordsFor}
 use Rattle.rules.specs.Answers.{changeMeans, queryMeans, verdictMeans}
 use Rattle.rules.specs.Results.{changeResult, queryResult, createResult, makeResult}
-use Rattle.rules.specs.declared.Call.{Call}
-use Rattle.rules.specs.declared.Call.the-variants.{Query}
+use Rattle.rules.specs.declared.ScriptCall.{ScriptCall}
+use Rattle.rules.specs.declared.ScriptCall.the-variants.{Query}
 use Rattle.rules.specs.declared.Change.{Change}
 use Rattle.rules.specs.declared.Query.{Query as QueryAnswer}
 use Rattle.rules.specs.declared.Refusal.the-variants.{BadCreation}
@@ -24,7 +24,7 @@ use Rattle.following.specs.declared.Cut.the-variants.{None as noCut, After as c
 use Rattle.following.specs.declared.Due.the-variants.{Nothing as noMore}
 use Rattle.following.specs.declared.Script.{Script}
 use Rattle.following.specs.declared.Asked.the-variants.{Nothing as askNothing, Table as askTable, Event as askEvent, Bad as askEnd}
-use Rattle.replaying.specs.Events.{lent}
+use Rattle.replaying.specs.Events.{lent, callOf}
 use Rattle.replaying.specs.Replays.{begun, tableOf, askedOf, finishOf}
 use Rattle.replaying.specs.declared.Answer.{Answer}
 use Rattle.replaying.specs.declared.Answer.the-variants.{Nothing, Created, Changed, Kept, Found, Events, Bad}
@@ -33,15 +33,15 @@ use Rattle.replaying.specs.declared.Replay.{Replay}
 -- ---- changing events and recover
 
 -- the event's call on the table, with its own list of 20 words: its answer, with its number and its stores, and the list as it left it
-pub record Tells (room : List ℕ) (p : Replay) (q : Call) (r : Change) (number stores : ℕ) : Type 0 where
-  pub own : changeResult (tableOf p room) lent q .0 ≡ r
+pub record Tells (room : List ℕ) (p : Replay) (q : ScriptCall) (r : Change) (number stores : ℕ) : Type 0 where
+  pub own : changeResult (tableOf p room) lent (callOf q) .0 ≡ r
   pub means : changeMeans r ≡ record { number = number; values = stores ∷ [] }
 
-abbrev pub listAfter : List ℕ → Replay → Call → List ℕ
-listAfter room p q = changeResult (tableOf p room) lent q .1
+abbrev pub listAfter : List ℕ → Replay → ScriptCall → List ℕ
+listAfter room p q = changeResult (tableOf p room) lent (callOf q) .1
 
 -- this is answered, so many of its stores are made, in the table's words alone, and one event more is counted
-pub record Answered (room : List ℕ) (p : Replay) (next : Script) (q : Call) (under : Cut) (answer : Answer) (made : ℕ) : Type 0 where
+pub record Answered (room : List ℕ) (p : Replay) (next : Script) (q : ScriptCall) (under : Cut) (answer : Answer) (made : ℕ) : Type 0 where
   pub said : askedOf room p next (askEvent q under) .answer ≡ answer
   pub words : askedOf room p next (askEvent q under) .room ≡ makeResult (tableOf p room) (listAfter room p q) made .1 ++ drop (p .words) room
   pub count : askedOf room p next (askEvent q under) .replay .events ≡ (p .events + 1) % 2 ^ 64
@@ -49,7 +49,7 @@ pub record Answered (room : List ℕ) (p : Replay) (next : Script) (q : Call) (u
 
 -- "answer=0, stores=4": the number and the stores, all of which are made
 abbrev pub ChangesAnswered : Type 0
-ChangesAnswered = (room : List ℕ) (p : Replay) (next : Script) (q : Call) → Changing q → (r : Change) (number stores : ℕ)
+ChangesAnswered = (room : List ℕ) (p : Replay) (next : Script) (q : ScriptCall) → Changing q → (r : Change) (number stores : ℕ)
     → Tells room p q r number stores → Answered room p next q noCut (Changed r) stores
 
 -- "lets only that many of its stores be made, or all if there are fewer": as many as these
@@ -58,7 +58,7 @@ LetsMake n stores made = ((made ≡ n) × (n ≤ stores)) ⊎ ((made ≡ stores)
 
 -- "An event under a cut line adds `kept=`, the stores made, after `stores=`"
 abbrev pub CutChangesAnswered : Type 0
-CutChangesAnswered = (room : List ℕ) (p : Replay) (next : Script) (q : Call) → Changing q → (r : Change) (n line number stores made : ℕ)
+CutChangesAnswered = (room : List ℕ) (p : Replay) (next : Script) (q : ScriptCall) → Changing q → (r : Change) (n line number stores made : ℕ)
     → Tells room p q r number stores → LetsMake n stores made → Answered room p next q (cutAfter n line) (Kept r made) made
 
 -- ---- queries

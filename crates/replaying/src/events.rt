@@ -11,28 +11,28 @@ use making::make;
 use numbering::reported;
 use querying::query;
 use recovering::recover;
-use rules::Call;
 use rules::Change;
+use rules::ScriptCall;
 ghost use mathlib.Core.Path.{_≡_};
 ghost use Rattle.replaying.specs.Events.{keptUnder, changeAnswer, Called, ChangeMade, EventDone};
 
 // What the call itself answers. "A changing call only reads the table."
-fn called(t: &[u64], list: &mut [u64], call: Call) -> Answer
+fn called(t: &[u64], list: &mut [u64], call: ScriptCall) -> Answer
     ensures { λ r. ⌜ Called call (now (t .entry)) (now (list .entry)) r (now (t .exit)) (now (list .exit)) ⌝ }
 {
     match call {
-        Call::Query(key) => Answer::Found(query(t, key)),
-        Call::Insert(key, record) => Answer::Changed(insert(t, list, key, record)),
-        Call::Update(key, record) => Answer::Changed(update(t, list, key, record)),
-        Call::Delete(key) => Answer::Changed(delete(t, list, key)),
-        Call::Begin => Answer::Changed(begin(t, list)),
-        Call::Step => {
+        ScriptCall::Query(key) => Answer::Found(query(t, key)),
+        ScriptCall::Insert(key, record) => Answer::Changed(insert(t, list, key, record)),
+        ScriptCall::Update(key, record) => Answer::Changed(update(t, list, key, record)),
+        ScriptCall::Delete(key) => Answer::Changed(delete(t, list, key)),
+        ScriptCall::Begin => Answer::Changed(begin(t, list)),
+        ScriptCall::Step => {
             let taken = step(t, list);
             let change = taken.change;
             Answer::Changed(change)
         }
-        Call::End => Answer::Changed(end(t, list)),
-        Call::Recover => Answer::Changed(recover(t, list)),
+        ScriptCall::End => Answer::Changed(end(t, list)),
+        ScriptCall::Recover => Answer::Changed(recover(t, list)),
     }
 }
 
@@ -64,7 +64,7 @@ fn make_change(t: &mut [u64], list: &[u64], change: Change, cut: Cut) -> Answer
     answer(cut, change)
 }
 
-pub fn event(t: &mut [u64], call: Call, cut: Cut) -> Answer
+pub fn event(t: &mut [u64], call: ScriptCall, cut: Cut) -> Answer
     ensures { λ r. ⌜ EventDone call cut (now (t .entry)) r (now (t .exit)) ⌝ }
 {
     let mut space = [0; 20];

@@ -15,8 +15,8 @@ use following::start;
 use lines::Line;
 use making::create;
 use reading::header::words_for;
-use rules::Call;
 use rules::Refusal;
+use rules::ScriptCall;
 use rules::Verdict;
 use std::num::wrapping_add_u64;
 ghost use mathlib.Core.Path.{_≡_};
@@ -43,7 +43,7 @@ fn unmade(p: Replay, next: Script, refusal: Refusal) -> Turn
         replay: Replay {
             script: Script {
                 due: Due::Nothing,
-                event: Call::Begin,
+                event: ScriptCall::Begin,
                 first: 0,
                 second: 0,
                 third: 0,
@@ -94,7 +94,7 @@ fn answered(p: Replay, next: Script, answer: Answer) -> Turn
     }
 }
 
-fn evented(p: Replay, next: Script, room: &mut [u64], call: Call, cut: Cut) -> Turn
+fn evented(p: Replay, next: Script, room: &mut [u64], call: ScriptCall, cut: Cut) -> Turn
     ensures { λ r. ⌜ TurnIs (askedOf (now (room .entry)) p next (askEvent call cut)) r (now (room .exit)) ⌝ }
 {
     let lent = least(p.words, room.len());

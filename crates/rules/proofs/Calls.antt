@@ -11,10 +11,12 @@ pub mod Making
 pub mod Creating
 pub mod StepPlacing
 pub mod StepSentences
+pub mod StepFromSentences
 pub mod Inside
 pub mod Inserting
 pub mod Updating
 pub mod GrowthSteps
+pub mod StuckItems
 pub mod BeginEnd
 pub mod MadeLists
 pub mod ChainWalks

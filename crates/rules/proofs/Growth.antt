@@ -2,3 +2,4 @@
 pub mod InterimBits
 pub mod InterimKept
 pub mod GrowthCost
+pub mod Passes

@@ -1,6 +1,6 @@
 -- The user's three demands and document 02's requests, proved: one theorem. Each field is the law of the same name.
 -- Assumes nothing.
-use Rattle.rules.specs.Mission.{Demand1, Demand2, Demand3, InlinedCallers, StubbornItems, Mission}
+use Rattle.rules.specs.Mission.{Demand1, Demand2, Demand3, InlinedCallers, StubbornItems, GoesOn, Mission}
 use Rattle.rules.proofs.Tables.Sound.{soundnessIsTested}
 use Rattle.rules.proofs.Tables.Maps.{mapExists}
 use Rattle.rules.proofs.Tables.Findings.{recoverAnswers, recoveryAccepts}
@@ -13,6 +13,10 @@ use Rattle.rules.proofs.Calls.Making.{makeAnswers}
 use Rattle.rules.proofs.Calls.Creating.{createAnswers, createdIsEmpty}
 use Rattle.rules.proofs.Calls.StepPlacing.{stepIsACall}
 use Rattle.rules.proofs.Calls.StepSentences.{stepTakesTheFirst, noItemBlocks, sixExactly, elevenExactly, sixIsNotEleven}
+use Rattle.rules.proofs.Calls.StepSentences.{takesTheFirstFrom, elevenFromExactly, sixFromExactly}
+use Rattle.rules.proofs.Calls.StepFromSentences.{stepFromIsACall, zeroIsTheStep, refusedTellsZero, pastTheLevel, asTheStep}
+use Rattle.rules.proofs.Calls.StuckItems.{stuckStaysStuck}
+use Rattle.rules.proofs.Growth.Passes.{passEnds, passPlacesAll, passLooksAtFew}
 use Rattle.rules.proofs.Calls.Inside.{storesInside, tokenStoresLow}
 use Rattle.rules.proofs.Calls.Inserting.{insertAnswers}
 use Rattle.rules.proofs.Calls.Updating.{updateAnswers, deleteAnswers}
@@ -91,5 +95,30 @@ stubbornItems =
       sixIsNotEleven = sixIsNotEleven;
     }
 
+pub goesOn : GoesOn
+goesOn =
+    record {
+      stepFromIsACall = stepFromIsACall;
+      zeroIsTheStep = zeroIsTheStep;
+      takesTheFirstFrom = takesTheFirstFrom;
+      elevenFromExactly = elevenFromExactly;
+      sixFromExactly = sixFromExactly;
+      refusedTellsZero = refusedTellsZero;
+      pastTheLevel = pastTheLevel;
+      asTheStep = asTheStep;
+      stuckStaysStuck = stuckStaysStuck;
+      passEnds = passEnds;
+      passPlacesAll = passPlacesAll;
+      passLooksAtFew = passLooksAtFew;
+    }
+
 pub mission : Mission
-mission = record { anyInput = demand1; plainMap = demand2; safeCuts = demand3; inlinedCallers = inlinedCallers; stubbornItems = stubbornItems }
+mission =
+    record {
+      anyInput = demand1;
+      plainMap = demand2;
+      safeCuts = demand3;
+      inlinedCallers = inlinedCallers;
+      stubbornItems = stubbornItems;
+      goesOn = goesOn;
+    }

@@ -18,6 +18,7 @@ use Rattle.rules.specs.declared.Refusal.the-variants.{ShortRecords, BadP
 use Rattle.rules.specs.declared.Change.{Change}
 use Rattle.rules.specs.declared.Change.the-variants.{Listed, Refused}
 use Rattle.rules.specs.declared.Stepped.{Stepped}
+use Rattle.rules.specs.declared.SteppedFrom.{SteppedFrom}
 use Rattle.rules.specs.declared.Query.{Query}
 use Rattle.rules.specs.declared.Query.the-variants.{Known, Unknown}
 use Rattle.rules.specs.declared.Chain.{Chain}
@@ -105,3 +106,10 @@ pub record FindingTells (a b : Finding) : Type 0 where
 -- a step's answer: its number and stores, then its placing
 unfoldable pub steppedMeans : Stepped → Meaning
 steppedMeans s = record { number = changeMeans (s .change) .number; values = changeMeans (s .change) .values ++ placingMeans (s .placing) .values }
+
+-- the answer of a step from a given bucket on: its number, its stores and the bucket; then its placing
+abbrev pub goneOnMeans : SteppedFrom → Meaning
+goneOnMeans s = record { number = changeMeans (s .stepped .change) .number; values = changeMeans (s .stepped .change) .values ++ (s .bucket ∷ []) }
+
+unfoldable pub steppedFromMeans : SteppedFrom → Meaning
+steppedFromMeans s = record { number = goneOnMeans s .number; values = goneOnMeans s .values ++ placingMeans (s .stepped .placing) .values }

@@ -1,14 +1,15 @@
 -- Document 01, "Refusal numbers": what each call refuses, in its order, and which stores it lists, on every table.
 -- "Order: 1, 2, 3, then the rest; for insert 4 before 6; for begin 7 before 9; for step and end 8 first."
 -- Assumes nothing.
-use Prim.Native.Nat.{ℕ}
+use Prim.Native.Nat.{ℕ, _-_}
 use mathlib.Core.Bool.{Bool, not, cond}
 use mathlib.Core.List.{List, [], _∷_, flatMap}
 use mathlib.Core.Option.{Option, none, some}
 use lib.ListN.{length}
 use lib.Dec.{eqb, leb}
 use Rattle.rules.specs.Choice.{all, given, select, empty, firstOf}
-use Rattle.rules.specs.Words.{Table, headerOf, headerTests, flagOf, loggedOf, atRest, interim, levelsInUse, slotsOf, keyIn, tokenOf, taken}
+use Rattle.rules.specs.Words.{Table, headerOf, headerTests, flagOf, loggedOf, atRest, interim, sizeOf, interimOf, levelsInUse, slotsOf, keyIn}
+use Rattle.rules.specs.Words.{tokenOf, taken}
 use Rattle.rules.specs.Places.{lookup}
 use Rattle.rules.specs.Placing.{placing, somewhere}
 use Rattle.rules.specs.Stores.{Store, clearStores, placingStores, updateStores, beginStores, endStores, stepStores, redoStores}
@@ -27,9 +28,17 @@ use Rattle.rules.specs.declared.Finding.the-variants.{Sound, Doubled, Fl
 use Rattle.rules.specs.declared.Refusal.{Refusal}
 use Rattle.rules.specs.declared.Refusal.the-variants.{BadHeader, ShortList, FlagSet, KeyPresent, KeyAbsent, NoPlace, AlreadyGrowing, NotGrowing}
 use Rattle.rules.specs.declared.Refusal.the-variants.{AtCapacity, InterimTaken, InterimEmpty, NoKind}
-pub use Rattle.rules.specs.declared.Call.{Call}
-pub use Rattle.rules.specs.declared.Call.the-variants.{Query as query, Insert as insert, Update as update, Delete as delete, Begin as begin}
-pub use Rattle.rules.specs.declared.Call.the-variants.{Step as step, End as end, Recover as recover}
+
+-- the calls on a table, but for create, and make, which makes their stores: document 01's, and `step_from`
+pub data Call : Type 0 where
+  query : ℕ → Call
+  insert : ℕ → Record → Call
+  update : ℕ → Record → Call
+  delete : ℕ → Call
+  begin : Call
+  stepFrom : ℕ → Call
+  end : Call
+  recover : Call
 
 -- ---- tests 1, 2 and 3
 
@@ -101,24 +110,35 @@ interimSlots s = flatMap slotsOf (select (λ (l : Level). eqb (l .name) interim)
 unfoldable pub interimItems : Table → Header → List Slot
 interimItems t h = select (taken t h) (interimSlots (h .state))
 
--- document 02, request b): "The step must take the first interim item, in the same order, that has a place."
+-- the step that goes on: "over the interim buckets from a given one on, counted from 0 in the level"
+unfoldable pub interimBucket : State → Slot → ℕ
+interimBucket s x = x .bucket - (sizeOf (interimOf s) - 1)
+
+unfoldable pub itemsFrom : Table → Header → ℕ → List Slot
+itemsFrom t h b = select (λ (x : Slot). leb b (interimBucket (h .state) x)) (interimItems t h)
+
+-- document 02, request b): "The step must take the first interim item, in the same order, that has a place."; of those from bucket b on
 unfoldable pub hasPlace : Table → Header → Slot → Bool
 hasPlace t h x = somewhere (placing t h (keyIn t x))
 
-unfoldable pub stepItem : Table → Header → Option Slot
-stepItem t h = firstOf (λ (x : Slot). given (hasPlace t h x) x) (interimItems t h)
+unfoldable pub stepItem : Table → Header → ℕ → Option Slot
+stepItem t h b = firstOf (λ (x : Slot). given (hasPlace t h x) x) (itemsFrom t h b)
 
 -- step: "8 | not growing", "11 | interim empty". "Refusal 6 is then given exactly when interim items remain and none has one; 11 keeps
 -- its meaning."
-unfoldable pub stepTests : Table → Header → List (Bool × Refusal)
-stepTests t h = (not (atRest (h .state)), NotGrowing) ∷ (not (empty (interimItems t h)), InterimEmpty) ∷ []
+unfoldable pub stepTests : Table → Header → ℕ → List (Bool × Refusal)
+stepTests t h b = (not (atRest (h .state)), NotGrowing) ∷ (not (empty (itemsFrom t h b)), InterimEmpty) ∷ []
 
 abbrev pub stepIn : Table → Header → Option Slot → Outcome
 stepIn t h none = refused NoPlace
 stepIn t h (some x) = listed (stepStores t h x (placing t h (keyIn t x)))
 
-unfoldable pub stepOf : Table → Header → Outcome
-stepOf t h = checked refused (stepTests t h) (stepIn t h (stepItem t h))
+unfoldable pub stepOf : Table → Header → ℕ → Outcome
+stepOf t h b = checked refused (stepTests t h b) (stepIn t h (stepItem t h b))
+
+-- "with 0 it IS the step"
+abbrev pub step : Call
+step = stepFrom 0
 
 -- end: "8 | not growing", "10 | interim not empty"
 unfoldable pub endTests : Table → Header → List (Bool × Refusal)
@@ -143,7 +163,7 @@ testsOf t n (insert key r) = changingTests t n
 testsOf t n (update key r) = changingTests t n
 testsOf t n (delete key) = changingTests t n
 testsOf t n begin = changingTests t n
-testsOf t n step = changingTests t n
+testsOf t n (stepFrom b) = changingTests t n
 testsOf t n end = changingTests t n
 testsOf t n recover = recoverTests t n
 
@@ -158,7 +178,7 @@ actOf t h (insert key r) = insertIn t h (lookup t h key) key r
 actOf t h (update key r) = updateIn t h (lookup t h key) key r
 actOf t h (delete key) = deleteIn t h (lookup t h key)
 actOf t h begin = beginOf h
-actOf t h step = stepOf t h
+actOf t h (stepFrom b) = stepOf t h b
 actOf t h end = endOf t h
 actOf t h recover = recoverOf t h (finding t)
 

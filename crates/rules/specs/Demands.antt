@@ -19,7 +19,7 @@ use Rattle.rules.specs.Placing.{freeSlot, placing}
 use Rattle.rules.specs.Stores.{Store, clearStores, redoStores, made}
 use Rattle.rules.specs.Soundness.{finding, soundTests, TakenSlot, SoundTable, PlainMap, HasMap, Before, DoubledTable, FlaggedTable}
 use Rattle.rules.specs.Answers.{numberOf, Meaning, changeMeans, queryMeans, steppedMeans, verdictMeans}
-use Rattle.rules.specs.Calls.{Outcome, refused, listed, Call, query, insert, update, delete, begin, step, end, recover, outcome}
+use Rattle.rules.specs.Calls.{Outcome, refused, listed, Call, query, insert, update, delete, begin, stepFrom, step, end, recover, outcome}
 use Rattle.rules.specs.Results.{changeResult, stepResult, queryResult, createResult, makeResult}
 use Rattle.rules.specs.NoPlace.{NoPlaceFor}
 use Rattle.rules.specs.Histories.{Event, whole, cut, after, History, Whole, Recovery, spent, Accepted, OneGrowth}
@@ -134,20 +134,29 @@ pub record InterimItem (t : Table) (x : Slot) : Type 0 where
   pub item : TakenSlot t x
   pub level : x .level ≡ interim
 
+abbrev pub None : (Slot → Type 0) → Type 0
+None Items = (x : Slot) → Items x → ⊥
+
 abbrev pub NoInterim : Table → Type 0
-NoInterim t = (x : Slot) → InterimItem t x → ⊥
+NoInterim t = None (InterimItem t)
+
+-- the step that goes on: an interim item "from there on", that is in the level's bucket b, "counted from 0 in the level", or in a later one.
+-- "A level of M buckets .. is always buckets M − 1 to 2M − 2", and the interim level has a quarter of 2^k
+pub record InterimFrom (t : Table) (b : ℕ) (x : Slot) : Type 0 where
+  pub item : InterimItem t x
+  pub start : 2 ^ (headerOf t .state .k - 2) - 1 + b ≤ x .bucket
 
 -- request b), "the first interim item, in the same order, that has a place": it has one, and every earlier one has none. "No place" is
--- meant as for insert; the order is "bucket, then slot ascending"
-pub record FirstWithPlace (t : Table) (x : Slot) : Type 0 where
-  pub item : InterimItem t x
+-- meant as for insert; the order is "bucket, then slot ascending". Of all interim items, or of those from a bucket on
+pub record FirstWithPlace (t : Table) (Items : Slot → Type 0) (x : Slot) : Type 0 where
+  pub item : Items x
   pub place : NoPlaceFor t (headerOf t) (keyIn t x) → ⊥
-  pub earlier : (y : Slot) → InterimItem t y → Before y x → NoPlaceFor t (headerOf t) (keyIn t y)
+  pub earlier : (y : Slot) → Items y → Before y x → NoPlaceFor t (headerOf t) (keyIn t y)
 
 -- request b), "interim items remain and none has one"
-pub record NoneHasPlace (t : Table) : Type 0 where
-  pub remain : (x : Slot) × InterimItem t x
-  pub stuck : (x : Slot) → InterimItem t x → NoPlaceFor t (headerOf t) (keyIn t x)
+pub record NoneHasPlace (t : Table) (Items : Slot → Type 0) : Type 0 where
+  pub remain : (x : Slot) × Items x
+  pub stuck : (x : Slot) → Items x → NoPlaceFor t (headerOf t) (keyIn t x)
 
 pub record OfNoKind (t : Table) : Type 0 where
   pub unsound : SoundTable t → ⊥
@@ -179,7 +188,8 @@ refusals t n (insert key r) = changingRefusals t n ++ ((Held t key, KeyPresent) 
 refusals t n (update key r) = changingRefusals t n ++ (((Held t key → ⊥), KeyAbsent) ∷ [])
 refusals t n (delete key) = changingRefusals t n ++ (((Held t key → ⊥), KeyAbsent) ∷ [])
 refusals t n begin = changingRefusals t n ++ ((Growing t, AlreadyGrowing) ∷ (headerOf t .state .k ≡ headerOf t .c, AtCapacity) ∷ [])
-refusals t n step = changingRefusals t n ++ ((AtRest t, NotGrowing) ∷ (NoInterim t, InterimEmpty) ∷ (NoneHasPlace t, NoPlace) ∷ [])
+refusals t n (stepFrom b) = changingRefusals t n
+    ++ ((AtRest t, NotGrowing) ∷ (None (InterimFrom t b), InterimEmpty) ∷ (NoneHasPlace t (InterimFrom t b), NoPlace) ∷ [])
 refusals t n end = changingRefusals t n ++ ((AtRest t, NotGrowing) ∷ (((x : Slot) × InterimItem t x), InterimTaken) ∷ [])
 refusals t n recover = badHeader t ∷ (n < 20, ShortList) ∷ (OfNoKind t, NoKind) ∷ []
 
@@ -197,7 +207,8 @@ abbrev pub StepIsACall : Type 0
 StepIsACall =
     (t : Table) (l : List ℕ) → (stepResult t l .0 .change ≡ changeResult t l step .0) × (stepResult t l .1 ≡ changeResult t l step .1)
     × ((steppedMeans (stepResult t l .0) .number ≡ 0 → ⊥) → steppedMeans (stepResult t l .0) .values ≡ 0 ∷ [])
-    × (steppedMeans (stepResult t l .0) .number ≡ 0 → (x : Slot) → FirstWithPlace t x → stepResult t l .0 .placing ≡ placing t (headerOf t) (keyIn t x))
+    × (steppedMeans (stepResult t l .0) .number ≡ 0 → (x : Slot) → FirstWithPlace t (InterimItem t) x
+    → stepResult t l .0 .placing ≡ placing t (headerOf t) (keyIn t x))
 
 -- query answers by the call query's outcome. "Query returns zeros with 5 and the full probe count; with 1 or 3 zeros and
 -- count 0."
@@ -246,7 +257,7 @@ mapAfter (update key r) m = mapWith m key (some r)
 mapAfter (delete key) m = mapWith m key none
 mapAfter (query key) m = m
 mapAfter begin m = m
-mapAfter step m = m
+mapAfter (stepFrom b) m = m
 mapAfter end m = m
 mapAfter recover m = m
 
@@ -321,11 +332,11 @@ StepBy t m x o = (g : Gives t o (mapAfter step m) (headerOf t .state)) × StepMo
 
 abbrev pub StepAnswers : Type 0
 StepAnswers =
-    (t : Table) (m : PlainMap) (n : ℕ) → Given t m n
-    → (AtRest t → outcome t n step ≡ refused NotGrowing)
-    × (Growing t → (NoInterim t × (outcome t n step ≡ refused InterimEmpty))
-    ⊎ ((NoneHasPlace t × (outcome t n step ≡ refused NoPlace))
-    ⊎ ((x : Slot) × FirstWithPlace t x × StepBy t m x (outcome t n step))))
+    (t : Table) (m : PlainMap) (n : ℕ) → Given t m n → (b : ℕ)
+    → (AtRest t → outcome t n (stepFrom b) ≡ refused NotGrowing)
+    × (Growing t → (None (InterimFrom t b) × (outcome t n (stepFrom b) ≡ refused InterimEmpty))
+    ⊎ ((NoneHasPlace t (InterimFrom t b) × (outcome t n (stepFrom b) ≡ refused NoPlace))
+    ⊎ ((x : Slot) × FirstWithPlace t (InterimFrom t b) x × StepBy t m x (outcome t n (stepFrom b)))))
 
 abbrev pub EndAnswers : Type 0
 EndAnswers =
@@ -388,7 +399,7 @@ Written t h (insert key r) xs = PlacingWritten t h key r (placing t h key) xs
 Written t h (update key r) xs = (x : Slot) × FirstHolder t key x × UpdateWritten t h x key r (freeSlot t h (placeOf x)) xs
 Written t h (delete key) xs = (x : Slot) × FirstHolder t key x × (xs ≡ (bucketStart (x .bucket), hide h (tokenOf t (x .bucket)) (x .slot)) ∷ [])
 Written t h begin xs = xs ≡ (4, h .state .k + 1 + 256 * 1) ∷ []
-Written t h step xs = (x : Slot) × FirstWithPlace t x × StepWritten t h x xs
+Written t h (stepFrom b) xs = (x : Slot) × FirstWithPlace t (InterimFrom t b) x × StepWritten t h x xs
 Written t h end xs = xs ≡ (4, h .state .k + 256 * 0) ∷ []
 Written t h recover xs = RecoveryWritten t h (finding t) xs
 
@@ -401,7 +412,7 @@ Number (insert key r) n = (n ≡ 4) ⊎ (n ≡ 9)
 Number (update key r) n = (n ≡ 4) ⊎ (n ≡ 7)
 Number (delete key) n = n ≡ 1
 Number begin n = n ≡ 1
-Number step n = (n ≡ 5) ⊎ (n ≡ 10)
+Number (stepFrom b) n = (n ≡ 5) ⊎ (n ≡ 10)
 Number end n = n ≡ 1
 Number recover n = (n ≡ 0) ⊎ ((n ≡ 1) ⊎ (n ≡ 3))
 Number (query key) n = n ≡ 0

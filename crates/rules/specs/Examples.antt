@@ -23,8 +23,8 @@ use Rattle.rules.specs.Stores.{endStores, stepStores, written}
 use Rattle.rules.specs.Soundness.{takenSlots, tokensTidy, unusedEmpty, inPlace, orderlyTests, sameKey, twins, sameRecord, target, finding}
 use Rattle.rules.specs.Answers.{changeMeans, queryMeans}
 use Rattle.rules.specs.Calls.{headerGood, listLong, flagClear, changingTests, queryTests, recoverTests, beginTests, beginOf, interimSlots}
-use Rattle.rules.specs.Calls.{interimItems, hasPlace, stepItem, stepTests, stepOf, endTests, endOf, Call, insert, update, delete, begin, step, recover}
-use Rattle.rules.specs.Calls.{outcome}
+use Rattle.rules.specs.Calls.{interimItems, interimBucket, itemsFrom, hasPlace, stepItem, stepTests, stepOf, endTests, endOf, Call, insert, update}
+use Rattle.rules.specs.Calls.{delete, begin, step, recover, outcome}
 use Rattle.rules.specs.Results.{changeResult, queryResult, createTests, created, createResult, makeTests, makeResult}
 use Rattle.rules.specs.declared.Record.{Record}
 use Rattle.rules.specs.declared.Change.{Change}
@@ -162,6 +162,7 @@ unfolding productOf hashOf flatMap wordsFor stateOf stateWord atRest headerOf fl
     samePlace placesIn probes holds hitIn lookup takenIn freeSlot fewer emptier roomIn otherPlace itemsOf candidates moveOf placing putStores
     clearStores moveStores placingStores redoStores updateStores beginStores endStores stepStores written takenSlots tokensTidy unusedEmpty placesOf
     inPlace orderlyTests sameKey twins sameRecord target finding headerGood listLong flagClear changingTests queryTests recoverTests beginTests
-    beginOf interimSlots interimItems hasPlace stepItem stepTests stepOf endTests endOf outcome changeResult queryResult createTests created createResult
-    makeTests makeResult madeFirst madeAll fresh usual afterE1 beforeE6 beforeE8 halfE9 beforeE9 halfE11 beforeE11 ready marked
+    beginOf interimSlots interimItems interimBucket itemsFrom hasPlace stepItem stepTests stepOf endTests endOf outcome changeResult queryResult
+    createTests created createResult makeTests makeResult madeFirst madeAll fresh usual afterE1 beforeE6 beforeE8 halfE9 beforeE9 halfE11 beforeE11
+    ready marked
 examples r = refl

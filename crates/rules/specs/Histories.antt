@@ -7,7 +7,7 @@ use mathlib.Core.Path.{_≡_}
 use mathlib.Core.List.{List, [], _∷_}
 use mathlib.Core.Logic.{_⊎_}
 use Rattle.rules.specs.Words.{Table}
-use Rattle.rules.specs.Calls.{Call, query, insert, update, delete, begin, step, end, recover}
+use Rattle.rules.specs.Calls.{Call, query, insert, update, delete, begin, stepFrom, end, recover}
 use Rattle.rules.specs.Results.{changeResult, makeResult}
 use Rattle.rules.specs.declared.Change.{Change}
 use Rattle.rules.specs.declared.Change.the-variants.{Listed, Refused}
@@ -58,7 +58,7 @@ Recovery (cut q l n) = q ≡ recover
 -- the stores that growth spends "in its own calls": begin, steps and end
 abbrev pub ownStores : Call → ℕ → ℕ
 ownStores begin n = n
-ownStores step n = n
+ownStores (stepFrom b) n = n
 ownStores end n = n
 ownStores (query key) n = 0
 ownStores (insert key r) n = 0

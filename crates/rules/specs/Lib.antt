@@ -13,6 +13,7 @@ pub mod Histories
 pub mod Demands
 pub mod ChainSentences
 pub mod StepSentences
+pub mod StepFromSentences
 pub mod Mission
 pub mod Examples
 pub mod ChainCases

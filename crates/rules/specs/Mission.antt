@@ -1,6 +1,6 @@
 -- What is proved of the user's three demands and of document 02's requests, in one place, sentence by sentence. Each field of a demand is a
--- statement of `Demands`, and each field of a request one of its sentences (`ChainSentences`, `StepSentences`), which say it in full. One law
--- proves them all: `mission`, in proofs/Mission.
+-- statement of `Demands`, and each field of a request one of its sentences (`ChainSentences`, `StepSentences`, `StepFromSentences`), which say it
+-- in full. One law proves them all: `mission`, in proofs/Mission.
 -- That the code does what the rules say is promised call by call, in the `ensures` of each.
 -- Assumes nothing.
 use Rattle.rules.specs.Demands.{ChangeAnswers, CreateAnswers, MakeAnswers, RefusalsInOrder, StepIsACall, QueryIsACall, StoresInside}
@@ -9,6 +9,8 @@ use Rattle.rules.specs.Demands.{DeleteAnswers, BeginAnswers, StepAnswers
 use Rattle.rules.specs.Demands.{MakeTakesTheList, CutsAreSafe, RecoveryMayBeCut, RecoveryAccepts, GrowthBound, QueryCounts, ProbesAreFew}
 use Rattle.rules.specs.Demands.{ProbesAreDistinct}
 use Rattle.rules.specs.ChainSentences.{ChainRefusals, ChainWrites, ChainCounts, ChainLooksAtFew, ChainAnswers, ChainsAfterCuts}
+use Rattle.rules.specs.StepFromSentences.{StepFromIsACall, ZeroIsTheStep, TakesTheFirstFrom, ElevenFromExactly, SixFromExactly}
+use Rattle.rules.specs.StepFromSentences.{RefusedTellsZero, PastTheLevel, AsTheStep, StuckStaysStuck, PassEnds, PassPlacesAll, PassLooksAtFew}
 use Rattle.rules.specs.StepSentences.{StepTakesTheFirst, NoItemBlocks, SixExactly, ElevenExactly, SixIsNotEleven}
 
 pub record Demand1 : Type 0 where
@@ -85,10 +87,35 @@ pub record StubbornItems : Type 0 where
   pub elevenExactly : ElevenExactly
   pub sixIsNotEleven : SixIsNotEleven
 
--- the user's three demands, and document 02's requests
+-- the step that goes on, `step_from`. "It counts among growth's own calls in the 20N + 2 statement, and in every statement about cuts and maps
+-- that the step has": the demands speak of it where they speak of every call, and `stepAnswers` of every start
+pub record GoesOn : Type 0 where
+  pub stepFromIsACall : StepFromIsACall
+  -- "over the interim buckets from a given one on, counted from 0 in the level; with 0 it IS the step"
+  pub zeroIsTheStep : ZeroIsTheStep
+  -- "It takes the first item from there on that has a place, answers its stores, its placing and the bucket .. in which the item stood"
+  pub takesTheFirstFrom : TakesTheFirstFrom
+  -- "11 when no item stands from there on; 6 when some do and none has a place; the bucket told with a refusal is 0. A start past the level
+  -- is 11."
+  pub elevenFromExactly : ElevenFromExactly
+  pub sixFromExactly : SixFromExactly
+  pub refusedTellsZero : RefusedTellsZero
+  pub pastTheLevel : PastTheLevel
+  -- "where no interim item stands before the start, it answers as the step does; a step gives no place to an item that had none"
+  pub asTheStep : AsTheStep
+  pub stuckStaysStuck : StuckStaysStuck
+  -- "with no other call between, one pass that goes on from the bucket told ends with an empty interim level or with items left of which none
+  -- has a place"
+  pub passEnds : PassEnds
+  pub passPlacesAll : PassPlacesAll
+  -- "a pass of s steps over a level of M buckets looks at no more than M + s interim buckets"
+  pub passLooksAtFew : PassLooksAtFew
+
+-- the user's three demands, document 02's requests, and the step that goes on
 pub record Mission : Type 0 where
   pub anyInput : Demand1
   pub plainMap : Demand2
   pub safeCuts : Demand3
   pub inlinedCallers : InlinedCallers
   pub stubbornItems : StubbornItems
+  pub goesOn : GoesOn

@@ -1,4 +1,4 @@
--- The ten calls: what each answers, and what every buffer lent to it holds at exit, on every input, good or bad.
+-- The calls: what each answers, and what every buffer lent to it holds at exit, on every input, good or bad.
 -- A buffer that a call only reads holds at exit what it held at entry, and is not named in its result.
 -- Assumes nothing.
 use Prim.Native.Nat.{ℕ, _*_, _-_}
@@ -12,7 +12,7 @@ use Rattle.rules.specs.Words.{Table, wordsFor, odd, capacityTests, state
 use Rattle.rules.specs.Places.{lookup}
 use Rattle.rules.specs.Placing.{placing}
 use Rattle.rules.specs.Stores.{Store, written, pairs, made}
-use Rattle.rules.specs.Calls.{checked, queryTests, Outcome, refused, listed, Call, step, stepItem, outcome}
+use Rattle.rules.specs.Calls.{checked, queryTests, Outcome, refused, listed, Call, stepFrom, interimBucket, stepItem, outcome}
 use Rattle.rules.specs.declared.Header.{Header}
 use Rattle.rules.specs.declared.Slot.{Slot}
 use Rattle.rules.specs.declared.Lookup.{Lookup}
@@ -24,6 +24,7 @@ use Rattle.rules.specs.declared.Refusal.the-variants.{KeyAbsent, BadCrea
 use Rattle.rules.specs.declared.Change.{Change}
 use Rattle.rules.specs.declared.Change.the-variants.{Listed, Refused}
 use Rattle.rules.specs.declared.Stepped.{Stepped}
+use Rattle.rules.specs.declared.SteppedFrom.{SteppedFrom}
 use Rattle.rules.specs.declared.Query.{Query}
 use Rattle.rules.specs.declared.Query.the-variants.{Known, Unknown}
 use Rattle.rules.specs.declared.Verdict.{Verdict}
@@ -44,16 +45,28 @@ listAfter (listed stores) l = written stores l
 unfoldable pub changeResult : Table → List ℕ → Call → Change × List ℕ
 changeResult t l q = (changeOf (outcome t (length l) q), listAfter (outcome t (length l) q) l)
 
--- step: the same, with the placing of the item that it takes in its answer
+-- step_from: the same, with the placing of the item that it takes in its answer, "and the bucket (counted the same) in which the item stood,
+-- to go on from"; "the bucket told with a refusal is 0"
 abbrev pub stepPlacing : Table → Header → Outcome → Option Slot → Placing
 stepPlacing t h (refused r) o = Nowhere
 stepPlacing t h (listed stores) none = Nowhere
 stepPlacing t h (listed stores) (some x) = placing t h (keyIn t x)
 
+abbrev pub stepBucket : Header → Outcome → Option Slot → ℕ
+stepBucket h (refused r) o = 0
+stepBucket h (listed stores) none = 0
+stepBucket h (listed stores) (some x) = interimBucket (h .state) x
+
+unfoldable pub stepFromResult : Table → ℕ → List ℕ → SteppedFrom × List ℕ
+stepFromResult t b l =
+    let o = outcome t (length l) (stepFrom b) in
+    let item = stepItem t (headerOf t) b in
+    let stepped : Stepped = record { change = changeOf o; placing = stepPlacing t (headerOf t) o item } in
+    (record { stepped = stepped; bucket = stepBucket (headerOf t) o item }, listAfter o l)
+
+-- step: "step_from with 0", without the bucket
 unfoldable pub stepResult : Table → List ℕ → Stepped × List ℕ
-stepResult t l =
-    let o = outcome t (length l) step in
-    (record { change = changeOf o; placing = stepPlacing t (headerOf t) o (stepItem t (headerOf t)) }, listAfter o l)
+stepResult t l = (stepFromResult t 0 l .0 .stepped, stepFromResult t 0 l .1)
 
 -- query: "Query returns zeros with 5 and the full probe count; with 1 or 3 zeros and count 0." It writes no buffer
 abbrev pub queryAt : Table → Lookup → Query

@@ -1,5 +1,5 @@
--- Document 02, request b): cases of the growth step as one table under one statement, computed from the rules. Each row holds what the
--- rules compute and what the request's sentences ask for. Tables and rows are those of `Examples`, made as a caller makes them. Both
+-- Cases of the growth step as one table under one statement, computed from the rules: of document 02's request b), and of the step that goes
+-- on. Each row holds what the rules compute and what the request's sentences ask for. Tables and rows are those of `Examples`, made as a caller makes them. Both
 -- multipliers are 4294967297, as in E11: a key K has one place in a level of M buckets, the bucket K modulo M.
 -- Assumes nothing.
 use Prim.Native.Nat.{ℕ}
@@ -13,16 +13,19 @@ use Rattle.rules.specs.Words.{placeWord, keyIn, recordIn, tokenOf, token
 use Rattle.rules.specs.Places.{hashesOf, firstPlace, secondPlace, samePlace, placesIn, probes, placesOf, holds, hitIn, lookup}
 use Rattle.rules.specs.Placing.{takenIn, freeSlot, fewer, emptier, roomIn, otherPlace, itemsOf, candidates, moveOf, placing}
 use Rattle.rules.specs.Stores.{putStores, clearStores, moveStores, placingStores, beginStores, endStores, stepStores, written}
-use Rattle.rules.specs.Answers.{steppedMeans}
-use Rattle.rules.specs.Calls.{headerGood, listLong, flagClear, changingTests, beginTests, beginOf, interimSlots, interimItems, hasPlace, stepItem}
-use Rattle.rules.specs.Calls.{stepTests, stepOf, endTests, endOf, delete, begin, step, end, outcome}
-use Rattle.rules.specs.Results.{changeResult, stepResult, createTests, created, createResult, makeTests, makeResult}
+use Rattle.rules.specs.Answers.{steppedMeans, steppedFromMeans}
+use Rattle.rules.specs.Calls.{headerGood, listLong, flagClear, changingTests, beginTests, beginOf, interimSlots, interimItems, interimBucket}
+use Rattle.rules.specs.Calls.{itemsFrom, hasPlace, stepItem, stepTests, stepOf, endTests, endOf, delete, begin, stepFrom, step, end, outcome}
+use Rattle.rules.specs.Results.{changeResult, stepFromResult, stepResult, createTests, created, createResult, makeTests, makeResult}
 use Rattle.rules.specs.declared.Record.{Record}
 use Rattle.rules.specs.Examples.{Shown, lists, refuses, tells, words, Row, row, sees, inserted, answered, madeFirst, madeAll, fresh}
 
 -- what a step tells beside its stores: its number, how many stores, and the slots of its placing
 abbrev pub told : Table → Shown
 told t = let a = steppedMeans (stepResult t (replicate 20 0) .0) in tells (a .number) (a .values)
+
+abbrev pub toldFrom : Table → ℕ → Shown
+toldFrom t b = let a = steppedFromMeans (stepFromResult t b (replicate 20 0) .0) in tells (a .number) (a .values)
 
 -- ---- c = 2, and one interim bucket: keys 16 and 17 stand in its slots 0 and 1
 
@@ -48,7 +51,42 @@ unfoldable pub wide : (ℕ → Record) → Table
 wide r = madeAll (inserted r (createResult (replicate 204 7) 3 2 4294967297 4294967297 .1)
     (0 ∷ 8 ∷ 32 ∷ 40 ∷ 16 ∷ 20 ∷ 24 ∷ 28 ∷ 1 ∷ 5 ∷ 9 ∷ 13 ∷ 17 ∷ [])) begin
 
+-- 17 is stuck: the items of its bucket of the bottom have no other place than its bucket of the new top, which is full. Keys 16, 20, 24 and 28,
+-- in the first interim bucket, have room in the new top
+unfoldable pub late : (ℕ → Record) → Table
+late r = inserted r (madeAll (inserted r (createResult (replicate 204 7) 3 2 4294967297 4294967297 .1)
+    (0 ∷ 8 ∷ 32 ∷ 40 ∷ 16 ∷ 20 ∷ 24 ∷ 28 ∷ 1 ∷ 9 ∷ 25 ∷ 33 ∷ 17 ∷ [])) begin) (41 ∷ 49 ∷ 57 ∷ 65 ∷ [])
+
 -- ---- the table
+
+-- the step that goes on. t has 20 as the first item with a place in its interim bucket 0, and 17 alone in its interim bucket 1, with a place
+unfoldable pub goesOn : (ℕ → Record) → Table → List Row
+goesOn r t =
+    let gone = madeAll t (stepFrom 1) in
+    -- "with 0 it IS the step"
+    row 20 (sees t (stepFrom 0)) (lists ((153, 20) ∷ (154, r 20 .function) ∷ (155, r 20 .place) ∷ (152, 1) ∷ (22, 13) ∷ []))
+    -- "It takes the first item from there on that has a place, answers its stores, its placing and the bucket .. in which the item stood"
+    ∷ row 21 (toldFrom t 0) (tells 0 (5 ∷ 0 ∷ 0 ∷ 11 ∷ 0 ∷ []))
+    ∷ row 22 (sees t (stepFrom 1)) (lists ((114, 17) ∷ (115, r 17 .function) ∷ (116, r 17 .place) ∷ (113, 1) ∷ (35, 0) ∷ []))
+    ∷ row 23 (toldFrom t 1) (tells 0 (5 ∷ 1 ∷ 0 ∷ 8 ∷ 0 ∷ []))
+    -- "A start past the level is 11."; "the bucket told with a refusal is 0"
+    ∷ row 24 (toldFrom t 2) (tells 11 (0 ∷ 0 ∷ []))
+    ∷ row 25 (toldFrom t 18446744073709551615) (tells 11 (0 ∷ 0 ∷ []))
+    -- "11 when no item stands from there on": items stand before it
+    ∷ row 26 (toldFrom gone 1) (tells 11 (0 ∷ 0 ∷ []))
+    ∷ row 27 (toldFrom gone 0) (tells 0 (5 ∷ 0 ∷ 0 ∷ 11 ∷ 0 ∷ []))
+    -- 3 comes first; and at rest it is 8, whatever the start
+    ∷ row 28 (toldFrom (set gone 5 1) 1) (tells 3 (0 ∷ 0 ∷ []))
+    ∷ row 29 (toldFrom (set gone 4 3) 2) (tells 8 (0 ∷ 0 ∷ []))
+    ∷ []
+
+-- t is `late r`
+unfoldable pub stuckLate : Table → List Row
+stuckLate t =
+    -- "6 when some do and none has a place", though one before them has
+    row 30 (toldFrom t 1) (tells 6 (0 ∷ 0 ∷ []))
+    ∷ row 31 (toldFrom t 0) (tells 0 (5 ∷ 0 ∷ 0 ∷ 7 ∷ 0 ∷ []))
+    ∷ []
 
 -- t is `blocked r`
 unfoldable pub oneBucket : (ℕ → Record) → Table → List Row
@@ -91,7 +129,7 @@ twoBuckets r t =
     ∷ row 15 (sees whole step) (lists ((114, 17) ∷ (115, r 17 .function) ∷ (116, r 17 .place) ∷ (113, 1) ∷ (35, 0) ∷ []))
     ∷ row 16 (sees (madeAll whole step) step) (refuses 6)
     ∷ row 17 (words (answered r t (48 ∷ 56 ∷ 64 ∷ 72 ∷ 36 ∷ 44 ∷ 52 ∷ 60 ∷ []))) (words (replicate 8 0))
-    ∷ []
+    ∷ goesOn r half
 
 -- what `blocked` takes as done was answered with 0
 unfoldable pub ready : (ℕ → Record) → List Row
@@ -102,15 +140,15 @@ ready r =
     ∷ []
 
 unfoldable pub cases : (ℕ → Record) → List Row
-cases r = oneBucket r (blocked r) ++ (twoBuckets r (wide r) ++ ready r)
+cases r = oneBucket r (blocked r) ++ (twoBuckets r (wide r) ++ (stuckLate (late r) ++ ready r))
 
--- the rules compute what request b) asks for
+-- the rules compute what the requests ask for
 pub stepCases : (r : ℕ → Record) → map (λ (x : Row). x .computed) (cases r) ≡ map (λ (x : Row). x .paper) (cases r)
 unfolding productOf hashOf flatMap wordsFor stateOf stateWord atRest headerOf flagOf stateGood odd capacityTests headerTests topOf bottomOf interimOf
     levelsInUse bucketsOf slotAt slotsIn placeAt slotsOf tokenWord keyWord functionWord placeWord keyIn recordIn tokenOf tokenNumber isTaken show hide
-    takenOf taken hashesOf firstPlace secondPlace samePlace placesIn probes placesOf holds hitIn lookup takenIn freeSlot fewer emptier roomIn otherPlace
-    itemsOf candidates moveOf placing putStores clearStores moveStores placingStores beginStores endStores stepStores written steppedMeans headerGood
-    listLong flagClear changingTests beginTests beginOf interimSlots interimItems hasPlace stepItem stepTests stepOf endTests endOf outcome changeResult
-    stepResult createTests created createResult makeTests makeResult madeFirst madeAll fresh filled blocked crowded turned wide oneBucket
-    twoBuckets ready cases
+    takenOf taken hashesOf firstPlace secondPlace samePlace placesIn probes placesOf holds hitIn lookup takenIn freeSlot fewer emptier roomIn
+    otherPlace itemsOf candidates moveOf placing putStores clearStores moveStores placingStores beginStores endStores stepStores written steppedMeans
+    steppedFromMeans headerGood listLong flagClear changingTests beginTests beginOf interimSlots interimItems interimBucket itemsFrom hasPlace
+    stepItem stepTests stepOf endTests endOf outcome changeResult stepFromResult stepResult createTests created createResult makeTests makeResult
+    madeFirst madeAll fresh filled blocked late crowded turned wide oneBucket twoBuckets goesOn stuckLate ready cases
 stepCases r = refl

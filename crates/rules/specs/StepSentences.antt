@@ -26,7 +26,7 @@ pub record MayStep (t : Table) (n : ℕ) : Type 0 where
 
 abbrev pub StepTakesTheFirst : Type 0
 StepTakesTheFirst =
-    (t : Table) (n : ℕ) (x : Slot) → MayStep t n → FirstWithPlace t x
+    (t : Table) (n : ℕ) (x : Slot) → MayStep t n → FirstWithPlace t (InterimItem t) x
     → (stores : List Store) × (outcome t n step ≡ listed stores) × StepWritten t (headerOf t) x stores
 
 -- "One stubborn item blocks a whole growth": no longer. Where any interim item has a place, the step is accepted
@@ -38,7 +38,7 @@ NoItemBlocks =
 -- ==== "Refusal 6 is then given exactly when interim items remain and none has one"
 
 abbrev pub SixExactly : Type 0
-SixExactly = (t : Table) (n : ℕ) → (outcome t n step ≡ refused NoPlace) ↔ (MayStep t n × NoneHasPlace t)
+SixExactly = (t : Table) (n : ℕ) → (outcome t n step ≡ refused NoPlace) ↔ (MayStep t n × NoneHasPlace t (InterimItem t))
 
 -- ==== "11 keeps its meaning": "interim empty"
 
@@ -47,4 +47,4 @@ ElevenExactly = (t : Table) (n : ℕ) → (outcome t n step ≡ refused InterimE
 
 -- the two conditions exclude each other, so that no order of 6 and 11 is needed
 abbrev pub SixIsNotEleven : Type 0
-SixIsNotEleven = (t : Table) → NoneHasPlace t → NoInterim t → ⊥
+SixIsNotEleven = (t : Table) → NoneHasPlace t (InterimItem t) → NoInterim t → ⊥

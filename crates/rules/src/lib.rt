@@ -50,8 +50,8 @@ pub struct Record {
     pub place: u64,
 }
 
-// The calls that may be made on a table, but for create, and make, which makes their stores. A script's events are these calls.
-pub enum Call {
+// What a script's events are: document 01's calls, but for create, and make, which makes their stores.
+pub enum ScriptCall {
     Query(u64),
     Insert(u64, Record),
     Update(u64, Record),
@@ -114,6 +114,13 @@ pub enum Change {
 pub struct Stepped {
     pub change: Change,
     pub placing: Placing,
+}
+
+// What a step from a given interim bucket on answers beside it: the bucket in which the item stood, counted from 0 in the level; 0 where the
+// step was refused.
+pub struct SteppedFrom {
+    pub stepped: Stepped,
+    pub bucket: u64,
 }
 
 // What query answers: the record, or why there is none; and the number of buckets looked at.

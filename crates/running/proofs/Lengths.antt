@@ -11,8 +11,8 @@ use lib.Dec.{ltb}
 use lib.Pow.{pow-add}
 use lib.Seq.{length-take-le, take-all}
 use borrow.Author.Tests.{ltb-false}
-use Rattle.rules.specs.declared.Call.{Call}
-use Rattle.rules.specs.declared.Call.the-variants.{Query, Insert, Update, Delete, Begin, Step, End, Recover}
+use Rattle.rules.specs.declared.ScriptCall.{ScriptCall}
+use Rattle.rules.specs.declared.ScriptCall.the-variants.{Query, Insert, Update, Delete, Begin, Step, End, Recover}
 use Rattle.lines.specs.Lines.{bytes, nameText, eventText, lineOf}
 use Rattle.lines.specs.Texts.{digitsIn, decimalText, lineText, Good}
 use Rattle.lines.specs.declared.Name.{Name}
@@ -47,7 +47,7 @@ name-few Fn = omega arith
 name-few At = omega arith
 name-few After = omega arith
 
-event-few : (q : Call) → length (bytes (eventText q)) ≤ 10
+event-few : (q : ScriptCall) → length (bytes (eventText q)) ≤ 10
 event-few (Query key) = omega arith
 event-few (Insert key r) = omega arith
 event-few (Update key r) = omega arith

@@ -15,7 +15,7 @@ use Rattle.rules.specs.Places.{hashesOf, firstPlace, secondPlace, samePlace, pl
 use Rattle.rules.specs.Placing.{takenIn, freeSlot, fewer, emptier, roomIn, placing}
 use Rattle.rules.specs.Stores.{putStores, placingStores, written, clearStores, updateStores, beginStores, endStores, stepStores}
 use Rattle.rules.specs.Calls.{headerGood, listLong, flagClear, changingTests, queryTests, endTests, endOf, outcome, recoverTests, beginTests, beginOf}
-use Rattle.rules.specs.Calls.{interimSlots, interimItems, hasPlace, stepItem, stepTests, stepOf}
+use Rattle.rules.specs.Calls.{interimSlots, interimItems, interimBucket, itemsFrom, hasPlace, stepItem, stepTests, stepOf}
 use Rattle.rules.specs.Results.{changeResult, queryResult, createTests, created, createResult, makeTests, makeResult}
 use Rattle.rules.specs.Soundness.{takenSlots, tokensTidy, unusedEmpty, inPlace, orderlyTests, sameKey, twins, sameRecord, target, finding}
 use Rattle.lines.specs.Lines.{bytes, decimalOf, lineOf}
@@ -119,7 +119,7 @@ unfolding productOf hashOf flatMap wordsFor stateOf stateWord atRest headerOf fl
     placeWord keyIn recordIn tokenOf tokenNumber isTaken show hide takenOf meant taken meantOf hashesOf firstPlace secondPlace samePlace placesIn
     probes holds hitIn lookup takenIn freeSlot fewer emptier roomIn placing putStores clearStores placingStores updateStores beginStores endStores
     stepStores written takenSlots tokensTidy unusedEmpty placesOf inPlace orderlyTests sameKey twins sameRecord target finding headerGood listLong
-    flagClear changingTests queryTests recoverTests beginTests beginOf interimSlots interimItems hasPlace stepItem stepTests stepOf endTests endOf outcome
-    changeResult queryResult createTests created createResult makeTests makeResult decimalOf lineOf digitsIn decimalText readingOf endingOf answerTo
-    tableAfter turnOf finishOf answersTo textOf outputTo
+    flagClear changingTests queryTests recoverTests beginTests beginOf interimSlots interimItems interimBucket itemsFrom hasPlace stepItem stepTests
+    stepOf endTests endOf outcome changeResult queryResult createTests created createResult makeTests makeResult decimalOf lineOf digitsIn decimalText
+    readingOf endingOf answerTo tableAfter turnOf finishOf answersTo textOf outputTo
 cases-computed = refl

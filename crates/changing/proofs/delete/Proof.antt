@@ -1,6 +1,6 @@
 -- `changing::delete` meets its contract.
 -- Assumes nothing.
-use Rattle.rules.specs.declared.Call.the-variants.{Delete as delete}
+use Rattle.rules.specs.Calls.{delete}
 use Rattle.listing.proofs.Outcomes.{changed-shut, changed-open, change-long}
 use borrow.Author.Needs.{needs}
 use Rattle.changing.proofs.delete.Statement.{statement}

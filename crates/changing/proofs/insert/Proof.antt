@@ -1,6 +1,6 @@
 -- `changing::insert` meets its contract.
 -- Assumes nothing.
-use Rattle.rules.specs.declared.Call.the-variants.{Insert as insert}
+use Rattle.rules.specs.Calls.{insert}
 use Rattle.listing.proofs.Outcomes.{changed-shut, changed-open, change-long}
 use borrow.Author.Needs.{needs}
 use Rattle.changing.proofs.insert.Statement.{statement}

@@ -1,6 +1,6 @@
 -- `changing::update` meets its contract.
 -- Assumes nothing.
-use Rattle.rules.specs.declared.Call.the-variants.{Update as update}
+use Rattle.rules.specs.Calls.{update}
 use Rattle.listing.proofs.Outcomes.{changed-shut, changed-open, change-long}
 use borrow.Author.Needs.{needs}
 use Rattle.changing.proofs.update.Statement.{statement}

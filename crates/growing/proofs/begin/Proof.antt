@@ -1,7 +1,7 @@
 -- `growing::begin` meets its contract.
 -- Assumes nothing.
 use native.Mathlib.Omega.{arith}
-use Rattle.rules.specs.declared.Call.the-variants.{Begin as begin}
+use Rattle.rules.specs.Calls.{begin}
 use Rattle.rules.proofs.Words.Headers.{sizes}
 use Rattle.listing.proofs.Outcomes.{changed-shut, changed-open, change-long}
 use borrow.Author.Needs.{needs}

@@ -1,6 +1,6 @@
 -- `growing::end` meets its contract.
 -- Assumes nothing.
-use Rattle.rules.specs.declared.Call.the-variants.{End as end}
+use Rattle.rules.specs.Calls.{end}
 use Rattle.listing.proofs.Outcomes.{changed-shut, changed-open, change-long}
 use borrow.Author.Needs.{needs}
 use Rattle.growing.proofs.end.Statement.{statement}

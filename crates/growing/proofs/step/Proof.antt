@@ -1,53 +1,18 @@
--- `growing::step` meets its contract.
+-- `growing::step` meets its contract: it is `step_from` with 0.
 -- Assumes nothing.
-use Rattle.listing.proofs.Outcomes.{change-long}
-use Rattle.growing.proofs.Stepping.{step-shut, step-open}
+use Rattle.growing.proofs.Stepping.{step-whole}
 use borrow.Author.Needs.{needs}
 use Rattle.growing.proofs.step.Statement.{statement}
 use Rattle.growing.proofs.step.Tie as tie
 
-change-gate-requires : tie.Need-change-gate-requires
-change-gate-requires c κs = search needs
-
-enum-known-gate : tie.Need-enum-known-gate
-enum-known-gate c = search needs
-
-unplaced-requires : tie.Need-unplaced-requires
-unplaced-requires c κs = search needs
-
-enum-known-gate-2 : tie.Need-enum-known-gate-2
-enum-known-gate-2 c = search needs
-
-step-at-requires : tie.Need-step-at-requires
-step-at-requires c κs =
-    let g = c .before .before in
-    let q = g .before .before .change-gate .ensures in
-    let y = rw (g .gate2 .given .1) at (q .1) in
-    (change-long _ _ (q .0) (g .gate2 .given .1), y .1)
-
-returns : tie.Need-returns
-returns c = let g = c .before .before in step-shut _ _ (g .before .before .change-gate .ensures .0) (g .gate .given .1) (c .unplaced .ensures)
+step-from-requires : tie.Need-step-from-requires
+step-from-requires c κs = search needs
 
 same-length : tie.Need-same-length
 same-length c = search needs
 
-returns-2 : tie.Need-returns-2
-returns-2 c =
-    let d = c .before .before in
-    let g = d .before .before .before in
-    let q = g .before .before .change-gate .ensures in
-    let y = rw (g .gate2 .given .1) at (q .1) in
-    step-open _ _ (q .0) (g .gate2 .given .1) (y .0) (d .step-at .ensures)
+returns : tie.Need-returns
+returns c = step-whole (c .before .before .before .step-from .ensures)
 
 pub step-spec : {M : Type 1} → statement M
-step-spec =
-    tie.close
-    (tie.spec
-    change-gate-requires
-    enum-known-gate
-    unplaced-requires
-    enum-known-gate-2
-    step-at-requires
-    returns
-    same-length
-    returns-2)
+step-spec = tie.close (tie.spec step-from-requires same-length returns)

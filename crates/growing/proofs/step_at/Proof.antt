@@ -2,9 +2,15 @@
 -- Assumes nothing.
 use mathlib.Core.Path.{_≡_, sym, _∙_}
 use mathlib.Core.Bool.{false}
+use mathlib.Core.List.{head?}
+use mathlib.Core.Option.{some}
+use denote.Ref.{now}
 use Rattle.rules.specs.Words.{atRest}
-use Rattle.growing.proofs.Growth.{is-empty, nothing, something}
-use Rattle.growing.proofs.Stepping.{item-some, step-resting, step-empty, step-on, did-step-refuse}
+use Rattle.rules.specs.Calls.{itemsFrom}
+use Rattle.rules.proofs.Words.Headers.{header-state}
+use Rattle.growing.proofs.Searches.{first-in-level}
+use Rattle.growing.proofs.Growth.{is-empty, nothing}
+use Rattle.growing.proofs.Stepping.{item-some, step-resting, step-empty, did-on, did-step-refuse}
 use borrow.Author.Needs.{needs}
 use Rattle.growing.proofs.step_at.Statement.{statement}
 use Rattle.growing.proofs.step_at.Tie as tie
@@ -16,7 +22,7 @@ unplaced-requires : tie.Need-unplaced-requires
 unplaced-requires c κs = search needs
 
 returns : tie.Need-returns
-returns c = did-step-refuse _ _ _ (step-resting _ _ (sym (c .before .before .at-rest .ensures) ∙ c .before .if1 .taken)) (c .unplaced .ensures)
+returns c = did-step-refuse _ _ _ _ (step-resting _ _ _ (sym (c .before .before .at-rest .ensures) ∙ c .before .if1 .taken)) (c .unplaced .ensures)
 
 -- past the first test
 growing : (c : tie.Else1) → atRest (c .before .before .before .before .before .args .h .state) ≡ false
@@ -38,17 +44,27 @@ returns-2 : tie.Need-returns-2
 returns-2 c =
     let m = c .before .before in
     let f = m .before in
-    did-step-refuse _ _ _ (step-empty _ _ (growing (f .before)) (nothing _ _ (sym (f .first-item .ensures .0) ∙ is-empty _ (m .match .keys2))))
+    did-step-refuse _ _ _ _ (step-empty _ _ _ (growing (f .before)) (nothing (itemsFrom _ _ _) (sym (f .first-item .ensures .0) ∙ is-empty _ (m .match .keys2))))
     (c .unplaced2 .ensures)
 
-first-placed-requires : tie.Need-first-placed-requires
-first-placed-requires c κs =
+-- the first item
+first : (c : tie.After-item) →
+    let f = c .before .before in
+    let s = f .before .before .before .before .before .before in
+    head? (itemsFrom (now (s .args .t)) (s .args .h) (s .args .b)) ≡ some (c .item .given .0 .0)
+first c = item-some _ (sym (c .before .before .first-item .ensures .0) ∙ c .item .given .1)
+
+bucket-in-level-requires : tie.Need-bucket-in-level-requires
+bucket-in-level-requires c κs =
     let i = c .before .before in
     let f = i .before .before in
-    (f .before .before .before .before .before .before .pre .1, growing (f .before), item-some _ (sym (f .first-item .ensures .0) ∙ i .item .given .1))
+    (header-state _ _ (f .before .before .before .before .before .before .pre .1), growing (f .before), first-in-level _ _ _ _ (first i))
 
 step-item-requires : tie.Need-step-item-requires
-step-item-requires c κs = search needs
+step-item-requires c κs =
+    let f = c .before .before .before .before .before in
+    let s = f .before .before .before .before .before .before in
+    (s .pre .0, s .pre .1, growing (f .before))
 
 same-length : tie.Need-same-length
 same-length c = search needs
@@ -57,8 +73,7 @@ returns-3 : tie.Need-returns-3
 returns-3 c =
     let d = c .before .before in
     let i = d .before .before .before .before in
-    let f = i .before .before in
-    rw (← (step-on _ _ (growing (f .before)) (something _ _ (sym (f .first-item .ensures .0) ∙ i .item .given .1)))) (d .step-item .ensures)
+    did-on _ _ _ (growing (i .before .before .before)) _ (first i) (d .before .bucket-in-level .ensures) (d .step-item .ensures)
 
 pub step-at-spec : {M : Type 1} → statement M
 step-at-spec =
@@ -72,7 +87,7 @@ step-at-spec =
     enum-told
     unplaced-requires-2
     returns-2
-    first-placed-requires
+    bucket-in-level-requires
     step-item-requires
     same-length
     returns-3)

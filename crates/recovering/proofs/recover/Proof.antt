@@ -1,6 +1,6 @@
 -- `recovering::recover` meets its contract.
 -- Assumes nothing.
-use Rattle.rules.specs.declared.Call.the-variants.{Recover as recover}
+use Rattle.rules.specs.Calls.{recover}
 use Rattle.listing.proofs.Outcomes.{changed-shut, changed-open, recover-long}
 use borrow.Author.Needs.{needs}
 use Rattle.recovering.proofs.recover.Statement.{statement}

@@ -76,6 +76,11 @@ module _ {A B : Type 0} (f : A → Option B) where
   none-firstOf (x ∷ xs) k = rw (k x (here refl)) (none-firstOf xs (λ y i. k y (there i)))
 
 -- a value given by a test
+-- two searches that answer alike find the same
+pub firstOf-same : {A B : Type 0} (f g : A → Option B) (l : List A) → ((x : A) → In x l → f x ≡ g x) → firstOf f l ≡ firstOf g l
+firstOf-same f g [] e = refl
+firstOf-same f g (x ∷ l) e = rw (e x (here refl), firstOf-same f g l (λ y i. e y (there i)))
+
 pub given-some : {A : Type 0} (b : Bool) (a c : A) → given b a ≡ some c → (b ≡ true) × (a ≡ c)
 given-some true a c e = (refl, some-one e)
 given-some false a c e = not-some e
@@ -133,6 +138,10 @@ module _ {A : Type 0} (p : A → Bool) where
       go : (b : Bool) → b ≡ true → length (select p ys) ≡ length ys → length (cond b (y ∷ select p ys) (select p ys)) ≡ length (y ∷ ys)
       go true q k = omega arith
       go false q k = never q refl
+
+pub select-every : {A : Type 0} (p : A → Bool) (l : List A) → ((x : A) → In x l → p x ≡ true) → select p l ≡ l
+select-every p [] f = refl
+select-every p (x ∷ l) f = rw (f x (here refl)) (ap (λ r. x ∷ r) (select-every p l (λ y i. f y (there i))))
 
 -- ---- whether there are any
 

@@ -70,9 +70,9 @@ from-next a (suc n) (suc i) h =
     let f : suc i + 1 ≡ suc (i + 1) = omega arith in
     rw (f, ← e) (from-next (suc a) n i (le-of-suc-le-suc h))
 
+pub from-length : (a n : ℕ) → length (from a n) ≡ n
+from-length a zero = refl
+from-length a (suc n) = rw (from-length (suc a) n)
+
 pub from-end : (a n i : ℕ) → n ≤ i → drop i (from a n) ≡ []
 from-end a n i h = let k : length (from a n) ≤ i = rw (from-length a n) h in drop-of-length-le (from a n) k
-  where
-    from-length : (a n : ℕ) → length (from a n) ≡ n
-    from-length a zero = refl
-    from-length a (suc n) = rw (from-length (suc a) n)

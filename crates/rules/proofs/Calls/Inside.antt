@@ -13,7 +13,7 @@ use Rattle.rules.specs.Places.{placesOf}
 use Rattle.rules.specs.Placing.{freeSlot, placing}
 use Rattle.rules.specs.Stores.{Store}
 use Rattle.rules.specs.Soundness.{DoubledTable, FlaggedTable, finding}
-use Rattle.rules.specs.Calls.{headerGood, changingTests, queryTests, recoverTests, listed, Call, query, insert, update, delete, begin, step}
+use Rattle.rules.specs.Calls.{headerGood, changingTests, queryTests, recoverTests, listed, Call, query, insert, update, delete, begin, stepFrom}
 use Rattle.rules.specs.Calls.{end, recover, testsOf, outcome}
 use Rattle.rules.specs.Demands.{bucketStart, slotStart, recordStores, PlacingWritten, UpdateWritten, RecoveryWritten, Written, StoresInside}
 use Rattle.rules.specs.Demands.{TokenStoresLow}
@@ -145,8 +145,8 @@ module _ (t : Table) (good : GoodHeader (length t) (headerOf t)) where
   written-each n (update key r) xs o (x, s, e) = update-each x (holder-taken t key x s .0 .used) key r xs (freeSlot t (headerOf t) (placeOf x)) refl e
   written-each n (delete key) xs o (x, s, e) = rw e (clear-each (length t) x (within x (holder-taken t key x s .0 .used)) (headerOf t) (tokenOf t (x .bucket)))
   written-each n begin xs o e = rw e (to-header 4 _ (omega arith), tt)
-  written-each n step xs o (x, s, (ys, w, e)) =
-      let cleared = clear-each (length t) x (within x (s .item .item .used)) (headerOf t) (tokenOf t (x .bucket)) in
+  written-each n (stepFrom b) xs o (x, s, (ys, w, e)) =
+      let cleared = clear-each (length t) x (within x (s .item .item .item .used)) (headerOf t) (tokenOf t (x .bucket)) in
       rw e (each-append (Fits (length t)) ys _ (placing-each (keyIn t x) (recordIn t x) ys (placing t (headerOf t) (keyIn t x)) refl w) cleared)
   written-each n end xs o e = rw e (to-header 4 _ (omega arith), tt)
   written-each n recover xs o e = recovery-each xs (finding t) refl e
@@ -159,7 +159,7 @@ header-tested t n (insert key r) = here refl
 header-tested t n (update key r) = here refl
 header-tested t n (delete key) = here refl
 header-tested t n begin = here refl
-header-tested t n step = here refl
+header-tested t n (stepFrom b) = here refl
 header-tested t n end = here refl
 header-tested t n recover = here refl
 

@@ -13,7 +13,7 @@ use Rattle.rules.specs.Calls.{placedBy, recoverOf}
 use Rattle.rules.specs.Results.{changeOf, queryAt}
 use Rattle.rules.specs.Answers.{numberOf, Meaning, changeMeans, queryMeans, chainMeans, verdictMeans, lookupMeans, placingMeans, findingMeans}
 use Rattle.rules.specs.Answers.{LookupTells}
-use Rattle.rules.specs.Answers.{PlacingTells, FindingTells, steppedMeans}
+use Rattle.rules.specs.Answers.{PlacingTells, FindingTells, steppedMeans, steppedFromMeans}
 use Rattle.rules.specs.declared.Header.{Header}
 use Rattle.rules.specs.declared.Slot.{Slot}
 use Rattle.rules.specs.declared.Lookup.{Lookup}
@@ -29,6 +29,7 @@ use Rattle.rules.specs.declared.Refusal.the-variants.{ShortRecords, BadP
 use Rattle.rules.specs.declared.Change.{Change}
 use Rattle.rules.specs.declared.Change.the-variants.{Listed, Refused}
 use Rattle.rules.specs.declared.Stepped.{Stepped}
+use Rattle.rules.specs.declared.SteppedFrom.{SteppedFrom}
 use Rattle.rules.specs.declared.Query.{Query}
 use Rattle.rules.specs.declared.Query.the-variants.{Known, Unknown}
 use Rattle.rules.specs.declared.Chain.{Chain}
@@ -204,6 +205,18 @@ stepped-back a = stepped-of (a .change) (a .placing)
 
 pub stepped-one : (a b : Stepped) → steppedMeans a ≡ steppedMeans b → a ≡ b
 stepped-one a b e = told steppedMeans readStepped stepped-back a b e
+
+readSteppedFrom : Meaning → SteppedFrom
+readSteppedFrom m = record { stepped = record { change = readChange m; placing = readPlacing (drop 2 (m .values)) }; bucket = getD (m .values) 1 0 }
+
+stepped-from-of : (c : Change) (p : Placing) (n : ℕ) → let a : SteppedFrom = record { stepped = record { change = c; placing = p }; bucket = n } in
+    readSteppedFrom (steppedFromMeans a) ≡ a
+unfolding readSteppedFrom steppedFromMeans readChange byNumber value
+stepped-from-of (Listed s) p n = rw (placing-back p)
+stepped-from-of (Refused r) p n = rw (refusal-number r, refusal-back r, placing-back p)
+
+pub stepped-from-one : (a b : SteppedFrom) → steppedFromMeans a ≡ steppedFromMeans b → a ≡ b
+stepped-from-one a b e = told steppedFromMeans readSteppedFrom (λ x. stepped-from-of (x .stepped .change) (x .stepped .placing) (x .bucket)) a b e
 
 -- ---- what the promise of a search tells: which answer it gave
 

@@ -17,10 +17,10 @@ use Rattle.rules.specs.Placing.{placing}
 use Rattle.rules.specs.Stores.{Store, placingStores, beginStores, endStores}
 use Rattle.rules.specs.Soundness.{finding}
 use Rattle.rules.specs.Calls.{headerGood, listLong, flagClear, checked, changingTests, queryTests, recoverTests, Outcome, refused, listed}
-use Rattle.rules.specs.Calls.{placedBy, insertIn, updateIn, deleteIn, queryIn, beginTests, beginOf, interimItems, stepItem, stepIn, stepTests, stepOf}
-use Rattle.rules.specs.Calls.{endTests, endOf, recoverOf, Call, query, insert, update, delete, begin, step, end, recover, outcome}
+use Rattle.rules.specs.Calls.{placedBy, insertIn, updateIn, deleteIn, queryIn, beginTests, beginOf, itemsFrom, stepItem, stepIn, stepTests, stepOf}
+use Rattle.rules.specs.Calls.{endTests, endOf, recoverOf, Call, query, insert, update, delete, begin, stepFrom, end, recover, outcome}
 use Rattle.rules.specs.NoPlace.{NoPlaceFor}
-use Rattle.rules.specs.Demands.{AtRest, Growing, Held, InterimItem, NoInterim, NoneHasPlace, OfNoKind, changingRefusals, refusals, FirstRefuses}
+use Rattle.rules.specs.Demands.{AtRest, Growing, Held, InterimItem, None, InterimFrom, NoneHasPlace, OfNoKind, changingRefusals, refusals, FirstRefuses}
 use Rattle.rules.specs.Demands.{RefusalsInOrder, HeaderWords, badHeader, flagNotZero}
 use Rattle.rules.specs.declared.Slot.{Slot}
 use Rattle.rules.specs.declared.Record.{Record}
@@ -36,7 +36,7 @@ use Rattle.rules.specs.declared.Refusal.the-variants.{AtCapacity, Interi
 use Rattle.rules.proofs.Basics.Lists.{never}
 use Rattle.rules.proofs.Basics.Tests.{Tells, tells-eq}
 use Rattle.rules.proofs.Places.Placings.{some-place, no-place}
-use Rattle.rules.proofs.Tables.Interims.{step-item, no-step-item, interim-empty, interim-left}
+use Rattle.rules.proofs.Tables.Interims.{step-item, no-step-item, interim-empty, interim-left, from-empty, from-left}
 use Rattle.rules.proofs.Tables.Sound.{header-tells}
 use Rattle.rules.proofs.Words.HeaderWords.{header-words}
 use Rattle.rules.proofs.Tables.Findings.{KindOf, finding-means}
@@ -147,28 +147,31 @@ module _ (t : Table) where
   begin-refuses = unless _ AlreadyGrowing _ _ (AtRest t) rest-tells (when _ AtCapacity _ _ _ (tells-eq _ _) (accepted (beginStores (headerOf t .state))))
 
   -- "interim items remain and none has one"
-  item-refuses : (x : Slot) → InterimItem t x → ByFirst ((NoneHasPlace t, NoPlace) ∷ []) (stepIn t (headerOf t) (stepItem t (headerOf t)))
+  item-refuses : (b : ℕ) (x : Slot) → InterimFrom t b x
+      → ByFirst ((NoneHasPlace t (InterimFrom t b), NoPlace) ∷ []) (stepIn t (headerOf t) (stepItem t (headerOf t) b))
   unfolding ByFirst
-  item-refuses x item = go (stepItem t (headerOf t)) refl
+  item-refuses b x item = go (stepItem t (headerOf t) b) refl
     where
-      go : (o : Option Slot) → stepItem t (headerOf t) ≡ o → ByFirst ((NoneHasPlace t, NoPlace) ∷ []) (stepIn t (headerOf t) o)
-      go none e = inl (record { remain = (x, item); stuck = no-step-item t e }, refl)
-      go (some y) e = let f = step-item t y e in inr (λ n. f .place (n .stuck y (f .item)), (_, refl))
+      go : (o : Option Slot) → stepItem t (headerOf t) b ≡ o → ByFirst ((NoneHasPlace t (InterimFrom t b), NoPlace) ∷ []) (stepIn t (headerOf t) o)
+      go none e = inl (record { remain = (x, item); stuck = no-step-item t b e }, refl)
+      go (some y) e = let f = step-item t b y e in inr (λ n. f .place (n .stuck y (f .item)), (_, refl))
 
   -- "interim empty", and else that
-  interim-refuses : ByFirst ((NoInterim t, InterimEmpty) ∷ (NoneHasPlace t, NoPlace) ∷ [])
-      (checked refused ((not (empty (interimItems t (headerOf t))), InterimEmpty) ∷ []) (stepIn t (headerOf t) (stepItem t (headerOf t))))
+  interim-refuses : (b : ℕ) → ByFirst ((None (InterimFrom t b), InterimEmpty) ∷ (NoneHasPlace t (InterimFrom t b), NoPlace) ∷ [])
+      (checked refused ((not (empty (itemsFrom t (headerOf t) b)), InterimEmpty) ∷ []) (stepIn t (headerOf t) (stepItem t (headerOf t) b)))
   unfolding ByFirst
-  interim-refuses = go (empty (interimItems t (headerOf t))) refl
+  interim-refuses b = go (empty (itemsFrom t (headerOf t) b)) refl
     where
-      go : (b : Bool) → empty (interimItems t (headerOf t)) ≡ b → ByFirst ((NoInterim t, InterimEmpty) ∷ (NoneHasPlace t, NoPlace) ∷ [])
-          (checked refused ((not b, InterimEmpty) ∷ []) (stepIn t (headerOf t) (stepItem t (headerOf t))))
-      go true e = inl (interim-empty t .0 e, refl)
-      go false e = let x = interim-left t e in inr (λ n. n (x .0) (x .1), item-refuses (x .0) (x .1))
+      go : (e : Bool) → empty (itemsFrom t (headerOf t) b) ≡ e
+          → ByFirst ((None (InterimFrom t b), InterimEmpty) ∷ (NoneHasPlace t (InterimFrom t b), NoPlace) ∷ [])
+          (checked refused ((not e, InterimEmpty) ∷ []) (stepIn t (headerOf t) (stepItem t (headerOf t) b)))
+      go true e = inl (from-empty t b .0 e, refl)
+      go false e = let x = from-left t b e in inr (λ n. n (x .0) (x .1), item-refuses b (x .0) (x .1))
 
-  step-refuses : ByFirst ((AtRest t, NotGrowing) ∷ (NoInterim t, InterimEmpty) ∷ (NoneHasPlace t, NoPlace) ∷ []) (stepOf t (headerOf t))
+  step-refuses : (b : ℕ) → ByFirst ((AtRest t, NotGrowing) ∷ (None (InterimFrom t b), InterimEmpty) ∷ (NoneHasPlace t (InterimFrom t b), NoPlace) ∷ [])
+      (stepOf t (headerOf t) b)
   unfolding stepOf stepTests
-  step-refuses = when _ NotGrowing _ _ (AtRest t) rest-tells interim-refuses
+  step-refuses b = when _ NotGrowing _ _ (AtRest t) rest-tells (interim-refuses b)
 
   end-refuses : ByFirst ((AtRest t, NotGrowing) ∷ (((x : Slot) × InterimItem t x), InterimTaken) ∷ []) (endOf t (headerOf t))
   unfolding endOf endTests
@@ -192,7 +195,7 @@ by-first t n (insert key r) = changing-or t n _ _ (insert-refuses t key r)
 by-first t n (update key r) = changing-or t n _ _ (absent-refuses t key (λ o. updateIn t (headerOf t) o key r) (λ x m. (_, refl)) (λ m. refl))
 by-first t n (delete key) = changing-or t n _ _ (absent-refuses t key (deleteIn t (headerOf t)) (λ x m. (_, refl)) (λ m. refl))
 by-first t n begin = changing-or t n _ _ (begin-refuses t)
-by-first t n step = changing-or t n _ _ (step-refuses t)
+by-first t n (stepFrom b) = changing-or t n _ _ (step-refuses t b)
 by-first t n end = changing-or t n _ _ (end-refuses t)
 by-first t n recover = good-header-or t _ _ (long-list-or t n _ _ (recover-refuses t))
 

@@ -13,9 +13,9 @@ use Rattle.rules.specs.Stores.{Store, putStores, clearStores, moveStores
 use Rattle.rules.specs.Stores.{endStores, stepStores}
 use Rattle.rules.specs.Soundness.{finding}
 use Rattle.rules.specs.Calls.{refused, listed, placedBy, insertIn, updateIn, deleteIn, queryIn, beginTests, beginOf, stepItem, stepIn}
-use Rattle.rules.specs.Calls.{stepTests, stepOf, endTests, endOf, recoverOf, query, insert, update, delete, begin, step, end, recover, testsOf}
+use Rattle.rules.specs.Calls.{stepTests, stepOf, endTests, endOf, recoverOf, query, insert, update, delete, begin, stepFrom, end, recover, testsOf}
 use Rattle.rules.specs.Calls.{outcome}
-use Rattle.rules.specs.Demands.{FirstHolder, FirstWithPlace, PlacingWritten, UpdateWritten, RecoveryWritten, Written, StoresAsWritten}
+use Rattle.rules.specs.Demands.{FirstHolder, InterimFrom, FirstWithPlace, PlacingWritten, UpdateWritten, RecoveryWritten, Written, StoresAsWritten}
 use Rattle.rules.specs.declared.Header.{Header}
 use Rattle.rules.specs.declared.Slot.{Slot}
 use Rattle.rules.specs.declared.Record.{Record}
@@ -74,11 +74,12 @@ module _ (t : Table) (h : Header) (xs : List Store) where
   step-by x (Move from to) s e = (placingStores t h (Move from to) (keyIn t x) (recordIn t x), unfold clearStores in refl, e)
   step-by x Nowhere s e = never s refl
 
-  step-written : (o : Option Slot) → ((x : Slot) → o ≡ some x → FirstWithPlace t x × (somewhere (placing t h (keyIn t x)) ≡ true))
-      → stepIn t h o ≡ listed xs → Written t h step xs
+  step-written : (b : ℕ) (o : Option Slot)
+      → ((x : Slot) → o ≡ some x → FirstWithPlace t (InterimFrom t b) x × (somewhere (placing t h (keyIn t x)) ≡ true))
+      → stepIn t h o ≡ listed xs → Written t h (stepFrom b) xs
   unfolding clearStores tokenWord
-  step-written none q e = never-listed e
-  step-written (some x) q e = let r = step-by x (placing t h (keyIn t x)) (q x refl .1) (listed-one e) in (x, q x refl .0, r)
+  step-written b none q e = never-listed e
+  step-written b (some x) q e = let r = step-by x (placing t h (keyIn t x)) (q x refl .1) (listed-one e) in (x, q x refl .0, r)
 
   recover-written : (f : Finding) → recoverOf t h f ≡ listed xs → RecoveryWritten t h f xs
   unfolding clearStores redoStores loggedOf keyWord tokenWord functionWord placeWord
@@ -102,9 +103,9 @@ storesAsWritten t n (update key r) xs e =
 storesAsWritten t n (delete key) xs e =
     delete-written t (headerOf t) xs key (lookup t (headerOf t) key) (λ x m q. lookup-stands t key x m q .0) (checked-listed _ xs (testsOf t n (delete key)) e)
 storesAsWritten t n begin xs e = listed-one (checked-listed _ xs (beginTests (headerOf t)) (checked-listed _ xs (testsOf t n begin) e))
-storesAsWritten t n step xs e =
-    step-written t (headerOf t) xs (stepItem t (headerOf t))
-    (λ x i. let f = step-item t x i in (f, placed-somewhere t (headerOf t) (keyIn t x) (f .place)))
-    (checked-listed _ xs (stepTests t (headerOf t)) (checked-listed _ xs (testsOf t n step) e))
+storesAsWritten t n (stepFrom b) xs e =
+    step-written t (headerOf t) xs b (stepItem t (headerOf t) b)
+    (λ x i. let f = step-item t b x i in (f, placed-somewhere t (headerOf t) (keyIn t x) (f .place)))
+    (checked-listed _ xs (stepTests t (headerOf t) b) (checked-listed _ xs (testsOf t n (stepFrom b)) e))
 storesAsWritten t n end xs e = listed-one (checked-listed _ xs (endTests t (headerOf t)) (checked-listed _ xs (testsOf t n end) e))
 storesAsWritten t n recover xs e = recover-written t (headerOf t) xs (finding t) (checked-listed _ xs (testsOf t n recover) e)

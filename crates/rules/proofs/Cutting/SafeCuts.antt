@@ -15,8 +15,8 @@ use Rattle.rules.specs.Placing.{freeSlot, placing, somewhere}
 use Rattle.rules.specs.Stores.{Store, putStores, clearStores, moveStores, placingStores, updateWith, updateStores, stepStores, made}
 use Rattle.rules.specs.Soundness.{TakenSlot, PlainMap}
 use Rattle.rules.specs.Calls.{Outcome, refused, listed, placedBy, insertIn, updateIn, stepItem, stepIn, stepTests, stepOf, Call, query, insert}
-use Rattle.rules.specs.Calls.{update, delete, begin, step, end, recover, outcome}
-use Rattle.rules.specs.Demands.{AtRest, Given, Gives, mapWith, mapAfter, InterimItem, NoInterim, FirstWithPlace, NoneHasPlace, InsertBy}
+use Rattle.rules.specs.Calls.{update, delete, begin, stepFrom, end, recover, outcome}
+use Rattle.rules.specs.Demands.{AtRest, Given, Gives, mapWith, mapAfter, InterimItem, None, NoInterim, InterimFrom, FirstWithPlace, NoneHasPlace, InsertBy}
 use Rattle.rules.specs.Demands.{ChangeBy, StepBy}
 use Rattle.rules.specs.declared.State.{State}
 use Rattle.rules.specs.declared.Slot.{Slot}
@@ -150,19 +150,20 @@ module _ (t : Table) (m : PlainMap) (n : ℕ) (given : Given t m n) where
       go (yes rest) (yes full) = never-listed (sym (beginAnswers t m n given .1 rest full) ∙ e)
       go (yes rest) (no below) = given-whole t _ _ _ xs e (beginAnswers t m n given .2 rest below)
 
-  step-whole : (xs : List Store) → outcome t n step ≡ listed xs → SoundMap (made t xs) m
-  step-whole xs e = go (ℕ-discrete (headerOf t .state .phase) 0)
+  step-whole : (b : ℕ) (xs : List Store) → outcome t n (stepFrom b) ≡ listed xs → SoundMap (made t xs) m
+  step-whole b xs e = go (ℕ-discrete (headerOf t .state .phase) 0)
     where
-      grown : (NoInterim t × (outcome t n step ≡ refused InterimEmpty))
-          ⊎ ((NoneHasPlace t × (outcome t n step ≡ refused NoPlace)) ⊎ ((x : Slot) × FirstWithPlace t x × StepBy t m x (outcome t n step)))
+      grown : (None (InterimFrom t b) × (outcome t n (stepFrom b) ≡ refused InterimEmpty))
+          ⊎ ((NoneHasPlace t (InterimFrom t b) × (outcome t n (stepFrom b) ≡ refused NoPlace))
+          ⊎ ((x : Slot) × FirstWithPlace t (InterimFrom t b) x × StepBy t m x (outcome t n (stepFrom b))))
           → SoundMap (made t xs) m
       grown (inl k) = never-listed (sym (k .1) ∙ e)
       grown (inr (inl k)) = never-listed (sym (k .1) ∙ e)
       grown (inr (inr (x, first, k))) = given-whole t _ _ _ xs e (k .0)
 
       go : Dec (AtRest t) → SoundMap (made t xs) m
-      go (yes rest) = never-listed (sym (stepAnswers t m n given .0 rest) ∙ e)
-      go (no growing) = grown (stepAnswers t m n given .1 growing)
+      go (yes rest) = never-listed (sym (stepAnswers t m n given b .0 rest) ∙ e)
+      go (no growing) = grown (stepAnswers t m n given b .1 growing)
 
   end-whole : (xs : List Store) → outcome t n end ≡ listed xs → SoundMap (made t xs) m
   end-whole xs e = go (ℕ-discrete (headerOf t .state .phase) 0)
@@ -182,7 +183,7 @@ module _ (t : Table) (m : PlainMap) (n : ℕ) (given : Given t m n) where
   call-whole (update key r) xs e = changed-whole (update key r) _ (m key) xs e (updateAnswers t m n given key r)
   call-whole (delete key) xs e = changed-whole (delete key) _ (m key) xs e (deleteAnswers t m n given key)
   call-whole begin xs e = begin-whole xs e
-  call-whole step xs e = step-whole xs e
+  call-whole (stepFrom b) xs e = step-whole b xs e
   call-whole end xs e = end-whole xs e
   call-whole recover xs e = rw (listed-one (sym (recoverAnswers t m n given) ∙ e)) (whole-of t m n given)
 
@@ -232,15 +233,15 @@ module _ (t : Table) (m : PlainMap) (n : ℕ) (given : Given t m n) where
   one-store : (k : PlainMap) (s : Store) (xs : List Store) → xs ≡ s ∷ [] → SoundMap (made t xs) k → EveryCut (Either m k) t xs
   one-store k s xs e last = rw e (one-cut t m k s (whole-of t m n given) (rw e at last))
 
-  step-safe : (xs : List Store) → stepIn t (headerOf t) (stepItem t (headerOf t)) ≡ listed xs → EveryCut (Either m m) t xs
-  step-safe xs e = item (stepItem t (headerOf t)) refl e
+  step-safe : (b : ℕ) (xs : List Store) → stepIn t (headerOf t) (stepItem t (headerOf t) b) ≡ listed xs → EveryCut (Either m m) t xs
+  step-safe b xs e = item (stepItem t (headerOf t) b) refl e
     where
-      item : (o : Option Slot) → stepItem t (headerOf t) ≡ o → stepIn t (headerOf t) o ≡ listed xs → EveryCut (Either m m) t xs
+      item : (o : Option Slot) → stepItem t (headerOf t) b ≡ o → stepIn t (headerOf t) o ≡ listed xs → EveryCut (Either m m) t xs
       item none q f = never-listed f
       item (some x) q f =
-          let first = step-item t x q in
+          let first = step-item t b x q in
           cuts-weaken (λ (u : Table). Mends u m) (Either m m) (λ u k. inl k) t xs
-          (rw (listed-one f) (step-cuts t m (whole-of t m n given) x (first .item) _ (placed-somewhere t (headerOf t) (keyIn t x) (first .place)) refl))
+          (rw (listed-one f) (step-cuts t m (whole-of t m n given) x (first .item .item) _ (placed-somewhere t (headerOf t) (keyIn t x) (first .place)) refl))
 
   pub call-cuts : (q : Call) (xs : List Store) → outcome t n q ≡ listed xs → EveryCut (Either m (mapAfter q m)) t xs
   unfolding outcome stepOf
@@ -249,6 +250,6 @@ module _ (t : Table) (m : PlainMap) (n : ℕ) (given : Given t m n) where
   call-cuts (update key r) xs e = update-cuts key r xs (rw (passes t m n given) at e) (call-whole (update key r) xs e)
   call-cuts (delete key) xs e = let w = storesAsWritten t n (delete key) xs e in one-store _ _ xs (w .2) (call-whole (delete key) xs e)
   call-cuts begin xs e = one-store m _ xs (storesAsWritten t n begin xs e) (begin-whole xs e)
-  call-cuts step xs e = step-safe xs (checked-listed _ xs (stepTests t (headerOf t)) (rw (passes t m n given) at e))
+  call-cuts (stepFrom b) xs e = step-safe b xs (checked-listed _ xs (stepTests t (headerOf t) b) (rw (passes t m n given) at e))
   call-cuts end xs e = one-store m _ xs (storesAsWritten t n end xs e) (end-whole xs e)
   call-cuts recover xs e = rw (listed-one (sym (recoverAnswers t m n given) ∙ e)) (inl (asSound (whole-of t m n given)))

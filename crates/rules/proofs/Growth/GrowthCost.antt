@@ -19,7 +19,7 @@ use Rattle.rules.specs.Placing.{freeSlot, placing}
 use Rattle.rules.specs.Stores.{Store, placingStores, updateStores, made}
 use Rattle.rules.specs.Soundness.{finding}
 use Rattle.rules.specs.Calls.{flagClear, changingTests, Outcome, refused, listed, placedBy, insertIn, updateIn, deleteIn, beginTests, beginOf}
-use Rattle.rules.specs.Calls.{stepItem, stepIn, stepTests, stepOf, recoverOf, Call, query, insert, update, delete, begin, step, end, recover}
+use Rattle.rules.specs.Calls.{stepItem, stepIn, stepTests, stepOf, recoverOf, Call, query, insert, update, delete, begin, stepFrom, end, recover}
 use Rattle.rules.specs.Calls.{testsOf, outcome}
 use Rattle.rules.specs.Histories.{Event, whole, cut, kept, after, Every, Whole, ownStores, spent, OneGrowth}
 use Rattle.rules.specs.Demands.{Growing, withState, GrowthBound}
@@ -106,13 +106,13 @@ module _ (t : Table) (n : ℕ) (growing : Growing t) where
       go (Flagged x) k f = rw (listed-one f) (redo-shrinks t good growing x (k .named .used) _)
       go Neither k f = never-listed f
 
-  step-taken : (xs : List Store) → outcome t n step ≡ listed xs → (x : Slot) × Steps t (made t xs) x
+  pub step-taken : (b : ℕ) (xs : List Store) → outcome t n (stepFrom b) ≡ listed xs → (x : Slot) × Steps t (made t xs) x
   unfolding outcome stepOf
-  step-taken xs e = item (stepItem t (headerOf t)) refl (checked-listed _ xs (stepTests t (headerOf t)) (checked-listed _ xs (changingTests t n) e))
+  step-taken b xs e = item (stepItem t (headerOf t) b) refl (checked-listed _ xs (stepTests t (headerOf t) b) (checked-listed _ xs (changingTests t n) e))
     where
-      item : (o : Option Slot) → stepItem t (headerOf t) ≡ o → stepIn t (headerOf t) o ≡ listed xs → (x : Slot) × Steps t (made t xs) x
+      item : (o : Option Slot) → stepItem t (headerOf t) b ≡ o → stepIn t (headerOf t) o ≡ listed xs → (x : Slot) × Steps t (made t xs) x
       item none q f = never-listed f
-      item (some x) q f = (x, rw (listed-one f) (step-less t (accepted-header t n step xs e) growing x (step-item t x q .item) _ refl))
+      item (some x) q f = (x, rw (listed-one f) (step-less t (accepted-header t n (stepFrom b) xs e) growing x (step-item t b x q .item .item) _ refl))
 
   begin-refused : (xs : List Store) → outcome t n begin ≡ listed xs → ⊥
   unfolding outcome beginOf beginTests atRest
@@ -122,7 +122,7 @@ module _ (t : Table) (n : ℕ) (growing : Growing t) where
 
 -- ---- the items of the interim level
 
-unfoldable count : Table → ℕ
+unfoldable pub count : Table → ℕ
 count t = total (λ (j : ℕ). takenOf (headerOf t) (tokenOf t j)) (bucketsOf (sizeOf (interimOf (headerOf t .state))))
 
 in-interim : (s : State) (j : ℕ) → In j (bucketsOf (sizeOf (interimOf s))) → InLevel (interimOf s) j
@@ -140,7 +140,7 @@ module _ (t u : Table) where
       rw (s .header) (total-least (λ j. takenOf (headerOf t) (tokenOf u j)) (λ j. takenOf (headerOf t) (tokenOf t j))
       (bucketsOf (sizeOf (interimOf (headerOf t .state)))) (λ j i. s .bits j (in-interim (headerOf t .state) j i)))
 
-  steps-count : (x : Slot) → Steps t u x → count u + 1 ≤ count t
+  pub steps-count : (x : Slot) → Steps t u x → count u + 1 ≤ count t
   unfolding count
   steps-count x s =
       rw (s .shrinks .header) (total-less (λ j. takenOf (headerOf t) (tokenOf u j)) (λ j. takenOf (headerOf t) (tokenOf t j))
@@ -159,7 +159,7 @@ IsEnd (insert key r) = ⊥
 IsEnd (update key r) = ⊥
 IsEnd (delete key) = ⊥
 IsEnd begin = ⊥
-IsEnd step = ⊥
+IsEnd (stepFrom b) = ⊥
 IsEnd recover = ⊥
 
 is-end : (q : Call) → IsEnd q → q ≡ end
@@ -169,12 +169,12 @@ is-end (insert key r) i = absurd i
 is-end (update key r) i = absurd i
 is-end (delete key) i = absurd i
 is-end begin i = absurd i
-is-end step i = absurd i
+is-end (stepFrom b) i = absurd i
 is-end recover i = absurd i
 
 own-none : (q : Call) → ownStores q 0 ≡ 0
 own-none begin = refl
-own-none step = refl
+own-none (stepFrom b) = refl
 own-none end = refl
 own-none (query key) = refl
 own-none (insert key r) = refl
@@ -196,9 +196,9 @@ accepted-paid t n growing (insert key r) other xs e = shrinks-paid t (made t xs)
 accepted-paid t n growing (update key r) other xs e = shrinks-paid t (made t xs) growing (update-kept t n growing key r xs e)
 accepted-paid t n growing (delete key) other xs e = shrinks-paid t (made t xs) growing (delete-shrinks t n growing key xs e)
 accepted-paid t n growing begin other xs e = absurd (begin-refused t n growing xs e)
-accepted-paid t n growing step other xs e =
-    let s = step-taken t n growing xs e in
-    (omega (arith, storeNumbers t n step xs e .1, steps-count t (made t xs) (s .0) (s .1)), still-growing t (made t xs) (s .1 .shrinks .header) growing)
+accepted-paid t n growing (stepFrom b) other xs e =
+    let s = step-taken t n growing b xs e in
+    (omega (arith, storeNumbers t n (stepFrom b) xs e .1, steps-count t (made t xs) (s .0) (s .1)), still-growing t (made t xs) (s .1 .shrinks .header) growing)
 accepted-paid t n growing end other xs e = absurd (other tt)
 accepted-paid t n growing recover other xs e = shrinks-paid t (made t xs) growing (recover-shrinks t n growing xs e)
 
@@ -234,7 +234,7 @@ spent-most (whole q l ∷ es) t growing p o = go (outcome t (length l) q) refl o
 -- ---- from its begin
 
 -- the interim level's buckets have four slots each
-count-most : (t : Table) → count t ≤ 4 * sizeOf (interimOf (headerOf t .state))
+pub count-most : (t : Table) → count t ≤ 4 * sizeOf (interimOf (headerOf t .state))
 unfolding count bucketsOf
 count-most t = total-most (λ j. takenOf (headerOf t) (tokenOf t j)) 4 (λ j. taken-most (headerOf t) (tokenOf t j)) _ (sizeOf (interimOf (headerOf t .state)))
 

@@ -20,7 +20,7 @@ use Rattle.rules.specs.declared.Slot.{Slot}
 use Rattle.rules.specs.declared.Record.{Record}
 use Rattle.rules.specs.declared.Placing.{Placing}
 use Rattle.rules.specs.declared.Placing.the-variants.{Free, Move, Nowhere}
-use Rattle.rules.proofs.Words.Levels.{interim-used, interim-named, level-of-bucket}
+use Rattle.rules.proofs.Words.Levels.{interim-used, level-of-bucket}
 use Rattle.rules.proofs.Places.PlacesInUse.{among-used, slot-within, place-of-slot, slot-of-place}
 use Rattle.rules.proofs.Places.Placings.{placing-free, placing-move}
 use Rattle.rules.proofs.Words.FreeSlots.{free-slot}
@@ -29,6 +29,7 @@ use Rattle.rules.proofs.Carrying.Touched.{Touched, touched}
 use Rattle.rules.proofs.Carrying.StoreKinds.{SlotWritten, put-written, clear-written, log-written}
 use Rattle.rules.proofs.Carrying.Putting.{place-bucket}
 use Rattle.rules.proofs.Calls.BeginEnd.{growing-interim}
+use Rattle.rules.proofs.Tables.Interims.{item-range}
 use Rattle.rules.proofs.Calls.GrowthSteps.{Settled, not-interim}
 use Rattle.rules.proofs.Growth.InterimBits.{hide-fewer, hide-less, beside-fewer}
 
@@ -91,13 +92,6 @@ module _ (t : Table) (good : GoodHeader (length t) (headerOf t)) (growing : Grow
       let there = interim-used s (growing-interim t growing) in
       let same = level-of-bucket (headerOf t .c) s (good .state) (used .level) (interimOf s) (x .bucket) (used .used) there (used .bucket) range in
       not-interim x settled (used .name ∙ ap (λ (l : Level). l .name) same)
-
-  -- an interim item stands in the interim level's range
-  item-range : (x : Slot) → InterimItem t x → InLevel (interimOf (headerOf t .state)) (x .bucket)
-  item-range x item =
-      let used = item .item .used in
-      let same = interim-named (headerOf t .state) (used .level) (used .used) (sym (used .name) ∙ item .level) in
-      rw (same .1) at (used .bucket)
 
   within : (x : Slot) → InUse (headerOf t .state) x → 9 + 13 * x .bucket + 13 ≤ length t
   within x used = slot-within (length t) (headerOf t) good x used .0
@@ -175,7 +169,7 @@ module _ (t : Table) (good : GoodHeader (length t) (headerOf t)) (growing : Grow
       let used = item .item .used in
       let puts = placingStores t h p (keyIn t x) (recordIn t x) in
       let k = placing-keeps (keyIn t x) (recordIn t x) p e in
-      let range = item-range x item in
+      let range = item-range t x item in
       let token = k .tokens (x .bucket) range in
       let clear = clear-written (made t puts) x (used .slot) (rw (k .long) (within x used)) h (tokenOf t (x .bucket)) in
       let whole = made-append t puts (clearStores h (tokenOf t (x .bucket)) x) in

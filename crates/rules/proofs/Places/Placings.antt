@@ -78,7 +78,7 @@ module _ (t : Table) (h : Header) where
   -- ---- the slots that are tried
 
   -- a slot of a candidate's place is a slot of one of the key's places
-  candidate-among : (key : ℕ) (x : Slot) → CandidateSlot h key x
+  pub candidate-among : (key : ℕ) (x : Slot) → CandidateSlot h key x
       → (x .slot < 4) × In (placeOf x) (placesOf h key) × ((x .level ≡ top) ⊎ (x .level ≡ bottom))
   unfolding placesOf probes levelsInUse topOf bottomOf
   candidate-among key x (inl a) =
@@ -121,7 +121,7 @@ module _ (t : Table) (h : Header) (key : ℕ) where
       go (inl c) = (inl (slot-number (placeOf x) x (c .lowest .inside), c .among), c .lowest .free)
       go (inr (n, c)) = (inr (slot-number (placeOf x) x (c .lowest .inside), c .among), c .lowest .free)
 
-  placing-permitted : (from to : Slot) → placing t h key ≡ Move from to → CandidateSlot h key from × PermittedMove t h from to
+  pub placing-permitted : (from to : Slot) → placing t h key ≡ Move from to → CandidateSlot h key from × PermittedMove t h from to
   placing-permitted from to e =
       let r = move-first t h key from to e in
       let less = slot-number (placeOf to) to (r .lowest .inside) in
@@ -134,7 +134,7 @@ module _ (t : Table) (h : Header) (key : ℕ) where
   placing-free x e = let r = placing-candidate x e in free-for t h key x (r .0) (r .1)
 
   -- where an item may go is a slot of one of its own places
-  goal-candidate : (y : ℕ) (from to : Slot) → to .slot < 4 → MayGo h (hashesOf h y) from to → CandidateSlot h y to
+  pub goal-candidate : (y : ℕ) (from to : Slot) → to .slot < 4 → MayGo h (hashesOf h y) from to → CandidateSlot h y to
   goal-candidate y from to m (inl (e, inl (p, n))) = inl (m, inl p)
   goal-candidate y from to m (inl (e, inr (p, f, n))) = inl (m, inr p)
   goal-candidate y from to m (inr (inl (e, inl (p, n)))) = inr (m, inl p)

@@ -9,15 +9,15 @@ use Rattle.rules.specs.Words.{slotAt, placeAt}
 use Rattle.rules.proofs.Words.Headers.{header-state}
 use Rattle.reading.specs.Within.{BucketWithin}
 use Rattle.growing.specs.Interim.{itemOf}
-use Rattle.growing.proofs.Searches.{few-buckets, bucket-within, foundFrom, found-hit, found-pass, found-over, itemAt, items-all, item-here, item-none}
+use Rattle.growing.proofs.Searches.{few-buckets, bucket-within, foundFrom, found-hit, found-pass, found-over, itemAt, items-from, item-here, item-none}
 use Rattle.growing.proofs.interim.first_item.Statement.{statement}
 use Rattle.growing.proofs.interim.first_item.Tie as tie
 
 abbrev Inv-loop : tie.InvT-loop
-Inv-loop t h level m i₀ i = foundFrom h (itemAt t h) 0 ≡ foundFrom h (itemAt t h) i
+Inv-loop t h b level m i₀ i = foundFrom h (itemAt t h) b ≡ foundFrom h (itemAt t h) i
 
 abbrev μ-loop : tie.MeasureT-loop
-μ-loop t h level m i₀ i = m - i
+μ-loop t h b level m i₀ i = m - i
 
 -- its buckets lie in the table
 within : (c : tie.In-loop Inv-loop μ-loop) →
@@ -57,7 +57,7 @@ returns c =
     let d = c .before .before .before in
     let p = d .before .before in
     let s = p .before .before .before in (
-      sym (ap itemOf (items-all _ _ (s .pre .1) ∙ d .before .loop .inv
+      sym (ap itemOf (items-from _ _ _ (s .pre .1) ∙ d .before .loop .inv
           ∙ found-hit _ _ _ _ (p .before .interim .ensures .0) (p .power .ensures .0) (d .loop-test .taken)
           (item-here _ _ _ (c .before .before .token .ensures) (c .before .lowest-taken .ensures) (p .before .interim .ensures .0) (c .if1 .taken)))),
       (within d, c .if1 .taken),
@@ -79,7 +79,7 @@ loop-again c =
 returns-2 : tie.Need-returns-2 Inv-loop μ-loop
 returns-2 c =
     let p = c .before .before in (
-      sym (ap itemOf (items-all _ _ (p .before .before .before .pre .1) ∙ c .before .loop .inv
+      sym (ap itemOf (items-from _ _ _ (p .before .before .before .pre .1) ∙ c .before .loop .inv
           ∙ found-over _ _ _ _ (p .before .interim .ensures .0) (p .power .ensures .0) (c .loop-test .left))),
       tt,
     )

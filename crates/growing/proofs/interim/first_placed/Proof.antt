@@ -1,7 +1,7 @@
 -- `growing::interim::first_placed` meets its contract: the item that the step takes is the first that has a place from bucket i on.
 -- Assumes nothing.
 use borrow.Author.Needs.{needs}
-use Prim.Native.Nat.{ℕ, _+_, _-_}
+use Prim.Native.Nat.{_-_}
 use mathlib.Core.Path.{_≡_, refl, ap, _∙_}
 use native.Mathlib.Omega.{arith}
 use denote.Ref.{now}
@@ -10,24 +10,15 @@ use Rattle.rules.specs.Calls.{stepItem}
 use Rattle.rules.proofs.Words.Headers.{header-state}
 use Rattle.growing.specs.Interim.{placeable}
 use Rattle.growing.proofs.Searches.{few-buckets, bucket-within, is-nowhere, is-somewhere, none-placed, foundFrom, found-over, bucket-stuck}
-use Rattle.growing.proofs.Searches.{bucket-placed, placeable-from}
+use Rattle.growing.proofs.Searches.{bucket-placed, placeable-all}
 use Rattle.growing.proofs.interim.first_placed.Statement.{statement}
 use Rattle.growing.proofs.interim.first_placed.Tie as tie
 
 abbrev Inv-loop : tie.InvT-loop
-Inv-loop t h first level m i₀ i = stepItem t h ≡ foundFrom h (placeable t h) i
+Inv-loop t h b level m i₀ i = stepItem t h b ≡ foundFrom h (placeable t h) i
 
 abbrev μ-loop : tie.MeasureT-loop
-μ-loop t h first level m i₀ i = m - i
-
--- the search begins at the bucket of the first item
-start : (c : tie.After-power Inv-loop μ-loop) →
-    let s = c .before .before .before in
-    (i : ℕ) × (s .args .first .bucket ≡ c .power .result - 1 + i)
-    × (stepItem (now (s .args .t)) (s .args .h) ≡ foundFrom (s .args .h) (placeable (now (s .args .t)) (s .args .h)) i)
-start c =
-    let s = c .before .before .before in
-    placeable-from _ _ _ _ (c .before .interim .ensures .0) (c .power .ensures .0) (s .pre .1) (s .pre .2)
+μ-loop t h b level m i₀ i = m - i
 
 interim-requires : tie.Need-interim-requires Inv-loop μ-loop
 interim-requires c κs = (header-state _ _ (c .before .pre .0), c .before .pre .1)
@@ -35,31 +26,21 @@ interim-requires c κs = (header-state _ _ (c .before .pre .0), c .before .pre .
 power-requires : tie.Need-power-requires Inv-loop μ-loop
 power-requires c κs = omega (arith, c .interim .ensures .1)
 
-sub-i : tie.Need-sub-i Inv-loop μ-loop
-sub-i c = omega (arith, c .power .ensures .1)
-
-sub-i-2 : tie.Need-sub-i-2 Inv-loop μ-loop
-sub-i-2 c = omega (arith, start (c .before) .1)
-
 loop-holds : tie.Need-loop-holds Inv-loop μ-loop
-loop-holds c =
-    let p = c .before in
-    let s = start p in
-    let same : s .0 ≡ p .before .before .before .args .first .bucket - (p .power .result - 1) = omega (arith, s .1) in
-    s .2 ∙ ap (foundFrom _ _) same
+loop-holds c = placeable-all _ _ _ (c .before .before .before .pre .1)
 
-sub-t12 : tie.Need-sub-t12 Inv-loop μ-loop
-sub-t12 c = omega (arith, c .before .before .before .power .ensures .1)
+sub-t11 : tie.Need-sub-t11 Inv-loop μ-loop
+sub-t11 c = omega (arith, c .before .before .power .ensures .1)
 
-add-t13 : tie.Need-add-t13 Inv-loop μ-loop
-add-t13 c =
-    let p = c .before .before .before in
+add-t12 : tie.Need-add-t12 Inv-loop μ-loop
+add-t12 c =
+    let p = c .before .before in
     let l = few-buckets _ _ (p .power .ensures .0) (p .before .interim .ensures .1) in
     omega arith
 
 placed-in-requires : tie.Need-placed-in-requires Inv-loop μ-loop
 placed-in-requires c κs =
-    let p = c .before .before .before in
+    let p = c .before .before in
     let s = p .before .before .before in
     (s .pre .0, bucket-within _ _ (s .pre .0) (s .pre .1) (p .before .interim .ensures .0) (p .power .ensures .0) (c .loop-test .taken))
 
@@ -71,7 +52,7 @@ unfolding placeAt
 returns c =
     let f = c .before in
     let d = f .before in
-    let p = d .before .before .before in
+    let p = d .before .before in
     bucket-placed _ _ _ _ (p .before .interim .ensures .0) (p .power .ensures .0) (d .loop-test .taken) _ refl (f .placed-in .result)
     (f .placed-in .ensures) (is-somewhere (f .placed-in .result .placing) (c .match .keys2)) (d .before .loop .inv)
 
@@ -86,13 +67,13 @@ unfolding placeAt
 loop-again c =
     let f = c .before .before in
     let d = f .before in
-    let p = d .before .before .before in
+    let p = d .before .before in
     d .before .loop .inv ∙ bucket-stuck _ _ _ _ (p .before .interim .ensures .0) (p .power .ensures .0) (d .loop-test .taken) _ refl (f .placed-in .result)
     (f .placed-in .ensures) (is-nowhere (f .placed-in .result .placing) (c .before .match .keys1))
 
 returns-2 : tie.Need-returns-2 Inv-loop μ-loop
 returns-2 c =
-    let p = c .before .before .before in
+    let p = c .before .before in
     none-placed _ _ _ _ (c .before .loop .inv ∙ found-over _ _ _ _ (p .before .interim .ensures .0) (p .power .ensures .0) (c .loop-test .left)) refl
 
 pub first-placed-spec : {M : Type 1} → statement M
@@ -103,11 +84,9 @@ first-placed-spec =
     μ-loop
     interim-requires
     power-requires
-    sub-i
-    sub-i-2
     loop-holds
-    sub-t12
-    add-t13
+    sub-t11
+    add-t12
     placed-in-requires
     enum-told
     returns
