@@ -1,7 +1,7 @@
-//! The eleven calls over raw words. A changing call only reads the table and
+//! The twelve calls over raw words. A changing call only reads the table and
 //! lists its stores; `make` makes them.
 
-use crate::layout::{key_of, table_words, word, Slot, LEAST_LIST_WORDS};
+use crate::layout::{key_of, table_words, word, Level, Slot, LEAST_LIST_WORDS};
 use crate::layout::{ADDRESS_LIMIT, LARGEST_DEPTH, WORDS_PER_CHAIN_RECORD};
 use crate::placing::{find_placing, Placing};
 use crate::recovery::{judge, Kind};
@@ -106,21 +106,26 @@ pub fn begin(table: &[u64], list: &mut [u64]) -> (u64, u64) {
     })
 }
 
+/// "`step` keeps its own name, promise and numbers, and is `step_from` with 0."
 pub fn step(table: &[u64], list: &mut [u64]) -> (u64, u64) {
-    change(table, list, |table| {
+    let (number, [stores, _bucket]) = step_from(table, 0, list);
+    (number, stores)
+}
+
+/// "the step over the interim buckets from a given one on, counted from 0 in the level". Answers a number, then the
+/// stores and "the bucket (counted the same) in which the item stood, to go on from".
+pub fn step_from(table: &[u64], from: u64, list: &mut [u64]) -> (u64, [u64; 2]) {
+    // "the bucket told with a refusal is 0".
+    let mut bucket = 0;
+    let (number, stores) = change(table, list, |table| {
         let interim = table.interim().ok_or(Refusal::NotGrowing)?;
-        let items = table.taken_slots(&[interim]);
-        if items.is_empty() {
-            return Err(Refusal::InterimEmpty);
-        }
-        // Request b): "The step must take the first interim item, in the same order, that has a place. Refusal 6
-        // is then given exactly when interim items remain and none has one; 11 keeps its meaning."
-        let has_place = |item: &Slot| find_placing(table, table.key(*item)).is_some();
-        let item = items.into_iter().find(has_place).ok_or(Refusal::NoPlace)?;
+        let item = first_item_with_place(table, interim, from)?;
         let mut stores = placing_stores(table, table.record(item))?;
         stores.push(token_cleared(table, item));
+        bucket = interim.number_of(item.bucket);
         Ok(stores)
-    })
+    });
+    (number, [stores, bucket])
 }
 
 pub fn end(table: &[u64], list: &mut [u64]) -> (u64, u64) {
@@ -210,6 +215,19 @@ fn check_chain(table: &[u64], address: u64, depth: u64, lent_words: u64) -> Resu
         return Err(Refusal::ShortRecords);
     }
     Ok(())
+}
+
+/// "the first item from there on that has a place", in the order bucket, then slot. A start past the level has no
+/// item behind it, which is 11 too.
+fn first_item_with_place(table: &Table, interim: Level, from: u64) -> Result<Slot, Refusal> {
+    let mut items = table.taken_slots(&[interim]);
+    items.retain(|item| interim.number_of(item.bucket) >= from);
+    // "11 when no item stands from there on; 6 when some do and none has a place".
+    if items.is_empty() {
+        return Err(Refusal::InterimEmpty);
+    }
+    let has_place = |item: &Slot| find_placing(table, table.key(*item)).is_some();
+    items.into_iter().find(has_place).ok_or(Refusal::NoPlace)
 }
 
 /// The stores that bring a new record in, wherever it finds its place.

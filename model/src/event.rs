@@ -2,6 +2,7 @@
 
 use crate::calls;
 
+/// The bucket that a step from a start tells is answered by the call alone, not by its event.
 #[derive(Clone, Copy, Debug, PartialEq, Eq)]
 pub enum Event {
     Insert { key: u64, function: u64, place: u64 },
@@ -9,6 +10,7 @@ pub enum Event {
     Delete { key: u64 },
     Begin,
     Step,
+    StepFrom { from: u64 },
     End,
     Recover,
 }
@@ -23,6 +25,10 @@ impl Event {
             Event::Delete { key } => calls::delete(table, key, list),
             Event::Begin => calls::begin(table, list),
             Event::Step => calls::step(table, list),
+            Event::StepFrom { from } => {
+                let (number, [stores, _bucket]) = calls::step_from(table, from, list);
+                (number, stores)
+            }
             Event::End => calls::end(table, list),
             Event::Recover => calls::recover(table, list),
         }

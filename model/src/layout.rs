@@ -64,6 +64,11 @@ impl Level {
     pub fn buckets(self) -> Range<usize> {
         self.size - 1..2 * self.size - 1
     }
+
+    /// The number of one of its buckets, counted from 0 in the level.
+    pub fn number_of(self, bucket: usize) -> u64 {
+        (bucket - self.buckets().start) as u64
+    }
 }
 
 /// One slot of one bucket.

@@ -1,6 +1,6 @@
 //! An independent model of the level hashing table of document 01, the paper that fixes the table and its calls,
 //! with two requests of document 02: a), the inlined callers of an address, and b), the growth step that passes
-//! over items without a place.
+//! over items without a place; and with the request that comes after them, the step that goes on from a bucket.
 //!
 //! From the bottom up:
 //! - `layout`: where words, buckets, slots and levels stand;
@@ -8,7 +8,7 @@
 //! - `table`: reading a table whose header is good;
 //! - `placing`: where a new item would go;
 //! - `recovery`: which of the three kinds a table is, and what is unsound;
-//! - `calls`: the eleven calls, over raw words;
+//! - `calls`: the twelve calls, over raw words;
 //! - `event`: the changing calls and recovery, as values;
 //! - `script_lines`: reading the lines of a script;
 //! - `script`: the script program.
@@ -27,7 +27,7 @@ mod script;
 mod script_lines;
 mod table;
 
-pub use calls::{begin, chain, create, delete, end, insert, make, query, recover, step, update};
+pub use calls::{begin, chain, create, delete, end, insert, make, query, recover, step, step_from, update};
 pub use event::Event;
 pub use layout::{table_words, word, Level, Slot, LEAST_LIST_WORDS, SLOTS_PER_BUCKET};
 pub use recovery::{keys_in_several_slots, misplaced_items, untidy_buckets, update_target};

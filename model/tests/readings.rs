@@ -171,7 +171,7 @@ fn garbage_is_always_answered() {
         chain(&table, key / 256, key % 256, &mut [0; 512]);
         for event in [insert_event(key, 1, 2), update_event(key, 1, 2), Event::Delete { key }]
             .into_iter()
-            .chain([Event::Begin, Event::Step, Event::End, Event::Recover])
+            .chain([Event::Begin, Event::Step, Event::StepFrom { from: key }, Event::End, Event::Recover])
         {
             event.list_stores(&table, &mut [0; 20]);
         }

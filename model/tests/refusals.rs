@@ -4,12 +4,14 @@ mod common;
 use common::*;
 use ragansils_model::*;
 
-const EVENTS: [Event; 7] = [
+const EVENTS: [Event; 9] = [
     Event::Insert { key: 1, function: 2, place: 3 },
     Event::Update { key: 1, function: 2, place: 3 },
     Event::Delete { key: 1 },
     Event::Begin,
     Event::Step,
+    Event::StepFrom { from: 0 },
+    Event::StepFrom { from: u64::MAX },
     Event::End,
     Event::Recover,
 ];
