@@ -5,62 +5,10 @@
 //! item to its top place. Bucket j has its token at word 9 + 13j: 9, 22, 35, 48, 61, 74, 87, 100, 113, ...
 
 mod common;
+use common::growing::*;
 use common::*;
 use ragansils_model::*;
 use std::collections::BTreeMap;
-
-/// c = 2, growing to a top of buckets 3 to 6, with bottom buckets 1 and 2 and interim bucket 0.
-/// Bucket 1 holds 0, 4, 8, 12, and bucket 3, the top place of them all, holds 32, 36, 40, 44. So a multiple
-/// of 4 has no place, while a key of 2 modulo 4 has one in bucket 5. `interim` are even keys.
-fn one_interim_bucket(interim: &[u64]) -> Story {
-    let mut story = Story::with(2, 1, MARKED_1, MARKED_1);
-    story.insert_keys([0, 4, 8, 12]);
-    story.insert_keys(interim.iter().copied());
-    story.whole(Event::Begin);
-    story.insert_keys([32, 36, 40, 44]);
-    story
-}
-
-/// As above with 16 stuck, and with odd keys: bucket 2 holds 1, 5, 9, 3 and bucket 4, the top place of the
-/// first three, holds 33, 37, 41, 45. So 17 has a place only by the move of 3 to bucket 6.
-fn one_interim_bucket_with_a_move(interim: &[u64]) -> Story {
-    let mut story = Story::with(2, 1, MARKED_1, MARKED_1);
-    story.insert_keys([0, 4, 8, 12, 1, 5, 9, 3]);
-    story.insert_keys(interim.iter().copied());
-    story.whole(Event::Begin);
-    story.insert_keys([32, 36, 40, 44, 33, 37, 41, 45]);
-    story
-}
-
-/// c = 3, growing to a top of buckets 7 to 14, with bottom buckets 3 to 6 and interim buckets 1 and 2.
-/// Keys of 0 modulo 8 fill buckets 3 and 7, keys of 1 modulo 8 fill buckets 4 and 8: such keys have no place.
-/// Keys of 4 modulo 8 have one in bucket 11, keys of 5 modulo 8 in bucket 12.
-/// `interim` are keys of 0 modulo 4, for bucket 1, and of 1 modulo 4, for bucket 2.
-fn two_interim_buckets(interim: &[u64]) -> Story {
-    let mut story = Story::with(3, 2, MARKED_1, MARKED_1);
-    story.insert_keys([0, 8, 16, 24, 1, 9, 17, 25]);
-    story.insert_keys(interim.iter().copied());
-    story.whole(Event::Begin);
-    story.insert_keys([64, 72, 80, 88, 65, 73, 81, 89]);
-    story
-}
-
-/// The taken slots of all buckets, read from the words alone: function and place by key.
-fn map_of(table: &[u64]) -> BTreeMap<u64, [u64; 2]> {
-    let mut map = BTreeMap::new();
-    for bucket in table[9..].chunks(13) {
-        for slot in (0..4).filter(|slot| bucket[0] >> slot & 1 == 1) {
-            let [key, function, place] = [1, 2, 3].map(|offset| bucket[3 * slot + offset]);
-            assert_eq!(map.insert(key, [function, place]), None, "key {key} stands twice");
-        }
-    }
-    map
-}
-
-/// What `insert_keys` leaves of some keys.
-fn map_with(keys: impl IntoIterator<Item = u64>) -> BTreeMap<u64, [u64; 2]> {
-    keys.into_iter().map(|key| (key, [key + 100, key + 200])).collect()
-}
 
 #[test]
 fn a_later_item_of_the_same_bucket_is_taken() {
@@ -252,29 +200,6 @@ fn damage_does_not_change_which_item_is_taken() {
     story.refused(Event::Step, 11);
 }
 
-/// Keys of one residue modulo 256, in the order of their inserts at rest: four that fill one bucket of the
-/// top, which becomes the bottom, then four that go to the bottom, which becomes the interim level. Those of
-/// residue 0 are all multiples of 512.
-fn keys_of_residue(residue: u64) -> [[u64; 4]; 2] {
-    match residue {
-        0 => [[0, 512, 1024, 1536], [2048, 2560, 3072, 3584]],
-        _ => [0, 1024].map(|start| [0, 256, 512, 768].map(|more| residue + start + more)),
-    }
-}
-
-/// c = 9, growing to a top of buckets 511 to 1022, with bottom buckets 255 to 510 and interim buckets 127 to 254.
-/// All 512 interim slots are taken. Bucket 127 holds 2048, 2560, 3072, 3584, whose places, buckets 255 and 511,
-/// are filled by multiples of 512; the 508 items behind them have room in the top.
-fn hundreds_behind_four() -> Story {
-    let mut story = Story::with(9, 8, MARKED_1, MARKED_1);
-    for residue in 0..128 {
-        story.insert_keys(keys_of_residue(residue).concat());
-    }
-    assert_eq!(story.whole(Event::Begin), [(4, 256 + 9)]);
-    story.insert_keys([4096, 4608, 5120, 5632]);
-    story
-}
-
 /// The step of the item in a slot of interim bucket 127 + residue, residue not 0. Its key is residue + 1024 +
 /// 256·slot, so that even slots go to top bucket 511 + residue, and odd ones 256 buckets further.
 fn step_behind_four(residue: u64, slot: u64) -> [(u64, u64); 5] {
@@ -350,63 +275,13 @@ fn hundreds_are_placed_behind_stuck_items_and_these_after_deletes() {
     queries_answer(&story, &map);
 }
 
-/// A table of c = 5 that grows to a top of buckets 31 to 62, with bottom buckets 15 to 30 and interim buckets 7 to
-/// 14, and has any words. At most `free` slots of top and bottom are free; any slots of the interim level are taken.
-fn garbage_table(free: u64, interim_empty: bool, mut garbage: impl FnMut() -> u64) -> Story {
-    let mut table: Vec<u64> = (0..828).map(|_| garbage()).collect();
-    for bucket in 15..63 {
-        table[9 + 13 * bucket] |= 15;
-    }
-    for _ in 0..free {
-        let bucket = 15 + garbage() as usize % 48;
-        table[9 + 13 * bucket] &= !(1 << (garbage() % 4));
-    }
-    if interim_empty {
-        clear_interim(&mut table);
-    }
-    table[..6].copy_from_slice(&[1, 5, garbage() | 1, garbage() | 1, 256 + 5, 0]);
-    Story { table }
-}
-
-/// Clears the part of the interim tokens that calls read.
-fn clear_interim(table: &mut [u64]) {
-    for bucket in 7..15 {
-        table[9 + 13 * bucket] &= !15;
-    }
-}
-
-/// The word indexes of the tokens of the taken interim slots, each with its slot.
-fn interim_items(table: &[u64]) -> impl Iterator<Item = (usize, usize)> + '_ {
-    let slots = (7..15).flat_map(|bucket| [0, 1, 2, 3].map(|slot| (9 + 13 * bucket, slot)));
-    slots.filter(|&(token_word, slot)| table[token_word] >> slot & 1 == 1)
-}
-
-/// What a step has to answer, told by inserts into the table without its interim items: the first item that insert
-/// takes, with insert's stores, then its token cleared. And how many items were passed over.
-fn step_told_by_inserts(table: &[u64]) -> (u64, Vec<(u64, u64)>, usize) {
-    let mut without_interim = Story { table: table.to_vec() };
-    clear_interim(&mut without_interim.table);
-    let mut passed_over = 0;
-    for (token_word, slot) in interim_items(table) {
-        let [key, function, place] = [1, 2, 3].map(|offset| table[token_word + 3 * slot + offset]);
-        let (number, mut stores) = without_interim.list(insert_event(key, function, place));
-        if number == SUCCESS {
-            stores.push((token_word as u64, table[token_word] % 16 - (1 << slot)));
-            return (SUCCESS, stores, passed_over);
-        }
-        assert_eq!(number, 6);
-        passed_over += 1;
-    }
-    (if passed_over > 0 { 6 } else { 11 }, vec![], passed_over)
-}
-
 #[test]
 fn a_step_inserts_the_first_item_that_insert_would_take() {
     let mut garbage = garbage_words();
     let [mut first, mut later, mut later_by_move, mut stuck, mut empty] = [0; 5];
     for round in 0..4000 {
         let story = garbage_table(round % 4, round % 9 == 0, &mut garbage);
-        let (number, stores, passed_over) = step_told_by_inserts(&story.table);
+        let Told { number, stores, passed_over, .. } = step_told_by_inserts(&story.table, 0);
         match (number, passed_over) {
             (SUCCESS, 0) => first += 1,
             (SUCCESS, _) => later += 1,

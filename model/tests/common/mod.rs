@@ -1,6 +1,8 @@
 //! A table that events are made on, as the tests tell their stories.
 #![allow(dead_code)] // each test file uses its own part
 
+pub mod growing;
+
 use ragansils_model::*;
 
 /// The multipliers of the marked examples.
@@ -30,9 +32,22 @@ impl Story {
     pub fn list(&self, event: Event) -> (u64, Vec<(u64, u64)>) {
         let mut list = [UNTOUCHED; 24];
         let (number, stores) = event.list_stores(&self.table, &mut list);
-        let (written, rest) = list.split_at(2 * stores as usize);
-        assert!(rest.iter().all(|&word| word == UNTOUCHED));
-        (number, written.chunks(2).map(|pair| (pair[0], pair[1])).collect())
+        (number, pairs_listed(&list, stores))
+    }
+
+    /// What a step from a bucket on answers: the number, the bucket told and the pairs listed. The event must list
+    /// the same pairs.
+    pub fn step_from(&self, from: u64) -> (u64, u64, Vec<(u64, u64)>) {
+        let mut list = [UNTOUCHED; 24];
+        let (number, [stores, bucket]) = step_from(&self.table, from, &mut list);
+        let pairs = pairs_listed(&list, stores);
+        assert_eq!(self.list(Event::StepFrom { from }), (number, pairs.clone()));
+        (number, bucket, pairs)
+    }
+
+    /// "the bucket told with a refusal is 0".
+    pub fn step_from_refused(&self, from: u64, number: u64) {
+        assert_eq!(self.step_from(from), (number, 0, vec![]), "from {from}");
     }
 
     pub fn refused(&self, event: Event, number: u64) {
@@ -68,6 +83,13 @@ impl Story {
         let (number, count) = chain(&self.table, address, depth, &mut records);
         (number, count, records)
     }
+}
+
+/// The first pairs of a list; checks that nothing behind them was written.
+fn pairs_listed(list: &[u64], stores: u64) -> Vec<(u64, u64)> {
+    let (written, rest) = list.split_at(2 * stores as usize);
+    assert!(rest.iter().all(|&word| word == UNTOUCHED));
+    written.chunks(2).map(|pair| (pair[0], pair[1])).collect()
 }
 
 pub fn insert_event(key: u64, function: u64, place: u64) -> Event {
