@@ -1,7 +1,7 @@
 /*
  * Ragansils: a position table in lent 64-bit words. Code address and inlining depth lead to a function and a place.
  *
- * The eleven functions of the static library `collector` (`rt staticlib collector` writes target/staticlib/libcollector.a), for C99
+ * The twelve functions of the static library `collector` (`rt staticlib collector` writes target/staticlib/libcollector.a), for C99
  * and C++ on x86-64. Each is proved to end, to stay within its buffers and to answer as below on every input, however damaged the words
  * that it is lent; what each leaves in every buffer is part of that proof. On a sound table query, chain, insert, update and delete
  * answer as a plain map does, and growing keeps the map.
@@ -33,8 +33,8 @@ extern "C" {
 #endif
 
 /*
- * What a function answers: 0, or why it refused. A refusal changes no table, list or records; it writes 0 to *stores, and to a query's
- * answer and a chain's *buckets what stands there.
+ * What a function answers: 0, or why it refused. A refusal changes no table, list or records; it writes 0 to *stores, two zeros to the
+ * answer of step_from, and to a query's answer and a chain's *buckets what stands there.
  */
 enum ragansils_refusal {
     RAGANSILS_DONE = 0,
@@ -43,19 +43,19 @@ enum ragansils_refusal {
     RAGANSILS_FLAG_SET = 3,        /* update flag not 0, so recover first: all but create, make and recover */
     RAGANSILS_KEY_PRESENT = 4,     /* insert */
     RAGANSILS_KEY_ABSENT = 5,      /* query, update, delete; at some depth: chain */
-    RAGANSILS_NO_PLACE = 6,        /* insert: grow, or go without; step: no interim item has a place, so delete something first */
+    RAGANSILS_NO_PLACE = 6,        /* insert: grow, or go without; step, step_from: no item there has a place, so delete something first */
     RAGANSILS_ALREADY_GROWING = 7, /* begin */
-    RAGANSILS_NOT_GROWING = 8,     /* step, end */
+    RAGANSILS_NOT_GROWING = 8,     /* step, step_from, end */
     RAGANSILS_AT_CAPACITY = 9,     /* k = c, the table cannot grow: begin */
     RAGANSILS_INTERIM_TAKEN = 10,  /* interim not empty, so step first: end */
-    RAGANSILS_INTERIM_EMPTY = 11,  /* nothing left to move, so end: step */
+    RAGANSILS_INTERIM_EMPTY = 11,  /* nothing left to move, so end: step; nothing from there on: step_from */
     RAGANSILS_NO_KIND = 12,        /* none of the three kinds of table that recovery accepts: recover */
     RAGANSILS_BAD_CREATION = 13,   /* c, first k (1 to c), length or a multiplier bad: create */
     RAGANSILS_BAD_MAKING = 14,     /* n pairs are not in the list, or an index among them is outside the table: make */
     RAGANSILS_SHORT_RECORDS = 15,  /* fewer than 2 (depth + 1) words lent for the records: chain */
     RAGANSILS_BAD_POSITION = 16    /* address of 2^56 or more, or depth above 255: chain */
 };
-/* Where several would hold: 1, 2, 3, then the rest; insert 4 before 6, begin 7 before 9, step and end 8 first, chain 16, 15, 5. */
+/* Where several would hold: 1, 2, 3, then the rest; insert 4 before 6, begin 7 before 9, the steps and end 8 first, chain 16, 15, 5. */
 
 /* The capacity exponent c is 1 to this. */
 #define RAGANSILS_LARGEST_CAPACITY 20
@@ -77,6 +77,9 @@ enum ragansils_refusal {
 
 /* The words of a query's answer. */
 #define RAGANSILS_ANSWER_WORDS 3
+
+/* The words of the answer of step_from: the number of stores, and the bucket to go on from. */
+#define RAGANSILS_STEP_FROM_WORDS 2
 
 /* An inlining depth is 0 to this. At depth 0 stands the function that the address lies in; what stands at 1 was inlined into it, and so on. */
 #define RAGANSILS_LARGEST_DEPTH 255
@@ -124,9 +127,9 @@ uint64_t ragansils_chain(const uint64_t *table, size_t words, uint64_t address, 
                          uint64_t *buckets);
 
 /*
- * The seven functions below list stores. On success *stores is their number, at most ten, the first 2 * *stores words of the list hold
+ * The eight functions below list stores. On success *stores is their number, at most ten, the first 2 * *stores words of the list hold
  * them, each as its word's index in the table and the new word, and the rest of the list stays. On refusal *stores is 0 and the list
- * stays. The table is only read.
+ * stays. The table is only read. (Of step_from, answer[0] is what *stores is of the others.)
  */
 
 /*
@@ -148,8 +151,8 @@ uint64_t ragansils_delete(const uint64_t *table, size_t words, uint64_t key, uin
 
 /*
  * Growth begins: a new top of twice the size; the old top becomes the bottom, the old bottom the interim level: 1 store. The map stays.
- * From N top buckets, begin, steps and end take at most 20 N + 2 stores together, whatever but create is called between, if all stores
- * that are listed are made. Refusals 1 to 3, 7, 9.
+ * From N top buckets, begin, the steps of both kinds and end take at most 20 N + 2 stores together, whatever but create is called between,
+ * if all stores that are listed are made. Refusals 1 to 3, 7, 9.
  */
 uint64_t ragansils_begin(const uint64_t *table, size_t words, uint64_t *list, size_t list_words, uint64_t *stores);
 
@@ -158,15 +161,34 @@ uint64_t ragansils_begin(const uint64_t *table, size_t words, uint64_t *list, si
  * first. The map stays. Every other call may come between two steps. Refusal 6 comes exactly where items are left in the interim level and
  * none has a place; 11, where none is left. Refusals 1 to 3, 6, 8, 11.
  *
- * A step looks for that item from the first interim bucket on, past all that earlier steps have emptied and all items without a place,
- * so the time of a whole growth from N top buckets rises with N squared. On an Intel Xeon, begun at load 0.8, it took 0.016 ms for
- * N = 256, 0.21 ms for 1,024, 3.4 ms for 4,096, 42 ms for 16,384, 1.5 s for 65,536, 10 s for 131,072 and 206 s for 524,288. The last
- * steps look through N / 2 buckets each. A table that will be large is better created with a large k.
+ * It looks for that item from the first interim bucket on, past all that earlier steps have emptied and all items without a place. So a
+ * whole growth from N top buckets that takes this step alone is quadratic: begun at load 0.8, on an Intel Xeon, it took 0.21 ms for
+ * N = 1,024, 42 ms for 16,384 and 206 s for 524,288. ragansils_step_from goes on where the last step was, and is linear.
  *
  * A step that is refused with 6 has tried every interim item, so it is costly: with top and bottom full it took about 0.05 ms for 450
  * interim items and 1 ms for 6,500, on an AMD EPYC. Inserts make no room for them: try again after a delete, not after every insert.
  */
 uint64_t ragansils_step(const uint64_t *table, size_t words, uint64_t *list, size_t list_words, uint64_t *stores);
+
+/*
+ * The step that goes on: as ragansils_step, but over the interim buckets from one of them on. from is that bucket, counted from 0 in the
+ * level; with 0 it is the step itself. answer[0] is the number of stores, 5 or 10. answer[1] is the bucket in which the item stood, counted
+ * the same: the next step may go on from there. With a refusal both are 0. Refusals 1 to 3, 6, 8, 11.
+ *
+ * 11 and 6 speak of the items from there on only: 11 where there are none, 6 where there are some and none has a place. Any word may be
+ * handed in as from; past the level there are no items, so that is 11.
+ *
+ * No step gives a place to an interim item that had none. So where no other call comes between, one pass, from 0 and on from each bucket
+ * told, places all items that have a place. Begin again at 0 only where another call has changed the table since: a delete may have made
+ * room for an item that the pass left behind. The end of the pass, 11 or 6, is early enough for that; after each delete would be quadratic
+ * again. A wrong start costs time or leaves items for later, and never makes a wrong table. So the bucket may be forgotten at any time,
+ * and 0 is right after a restart, recover, begin and end.
+ *
+ * A whole growth that goes on from the bucket told is linear in the table: a pass of s steps over M interim buckets looks at no more than
+ * M + s of them. One that always steps from 0 is quadratic.
+ */
+uint64_t ragansils_step_from(const uint64_t *table, size_t words, uint64_t from, uint64_t *list, size_t list_words,
+                             uint64_t answer[RAGANSILS_STEP_FROM_WORDS]);
 
 /* Growth ends, once the interim level is empty: 1 store. The map stays. Refusals 1 to 3, 8, 10. */
 uint64_t ragansils_end(const uint64_t *table, size_t words, uint64_t *list, size_t list_words, uint64_t *stores);

@@ -1,7 +1,7 @@
 /*
- * Calls each of the eleven functions through include/ragansils.h, and meets each refusal number: the ten of document 01, the paper that
- * fixes the table, on its marked examples, and the chain. The answers differ for any two arguments taken for each other. Says how many
- * checks there were; exit status 0 only where all held.
+ * Calls each of the twelve functions through include/ragansils.h, and meets each refusal number: the ten of document 01, the paper that
+ * fixes the table, on its marked examples, the chain, and the step that goes on. The answers differ for any two arguments taken for each
+ * other. Says how many checks there were; exit status 0 only where all held.
  */
 #include <inttypes.h>
 #include <stdio.h>
@@ -26,9 +26,9 @@
 #define NO_ADDRESS (UINT64_C(1) << 56)
 
 /* A run with fewer has left something out. */
-#define LEAST_CHECKS 400
+#define LEAST_CHECKS 450
 
-static uint64_t table[WORDS], list[LENT_LIST], stores, lent[AROUND + LONGEST_CHAIN + AROUND];
+static uint64_t table[WORDS], list[LENT_LIST], stores, bucket, lent[AROUND + LONGEST_CHAIN + AROUND];
 static uint64_t *const records = lent + AROUND;
 static unsigned checks, failures;
 
@@ -55,7 +55,7 @@ static void untouch(uint64_t *words, size_t length)
         words[i] = UNTOUCHED;
 }
 
-/* ---- the seven calls that list stores, under one type ---- */
+/* ---- the eight calls that list stores, under one type ---- */
 
 struct change {
     const char *name;
@@ -89,9 +89,22 @@ WHOLE_TABLE_CALL(step)
 WHOLE_TABLE_CALL(end)
 WHOLE_TABLE_CALL(recover)
 
+/* The bucket to start from comes as the key. */
+static uint64_t call_step_from(size_t words, size_t list_words, uint64_t key, uint64_t function, uint64_t place)
+{
+    uint64_t answer[RAGANSILS_STEP_FROM_WORDS + 1] = { UNTOUCHED, UNTOUCHED, UNTOUCHED };
+    (void)function, (void)place;
+    uint64_t number = ragansils_step_from(table, words, key, list, list_words, answer);
+    check(number == RAGANSILS_DONE || (answer[0] == 0 && answer[1] == 0), "a refused step_from answers two zeros");
+    all_untouched(answer, RAGANSILS_STEP_FROM_WORDS, RAGANSILS_STEP_FROM_WORDS + 1, "the word behind the answer stays");
+    stores = answer[0];
+    bucket = answer[1];
+    return number;
+}
+
 static const struct change INSERT = { "insert", call_insert }, UPDATE = { "update", call_update }, DELETE = { "delete", call_delete },
                            BEGIN = { "begin", call_begin }, STEP = { "step", call_step }, END = { "end", call_end },
-                           RECOVER = { "recover", call_recover };
+                           RECOVER = { "recover", call_recover }, STEP_FROM = { "step_from", call_step_from };
 
 /* Makes the call with a fresh list, and checks that it answers so, lists these words and leaves the rest. */
 static void listed(struct change change, uint64_t key, uint64_t function, uint64_t place, uint64_t number, uint64_t count,
@@ -216,7 +229,7 @@ static void cut_update(void)
     listed(UPDATE, 1, 30, 40, RAGANSILS_DONE, 7, e6);
     ragansils_make(table, WORDS, list, LENT_LIST, 5);
     asked(1, RAGANSILS_FLAG_SET, 0, 0, 0);
-    const struct change flag_refuses[] = { INSERT, UPDATE, DELETE, BEGIN, STEP, END };
+    const struct change flag_refuses[] = { INSERT, UPDATE, DELETE, BEGIN, STEP, STEP_FROM, END };
     for (size_t i = 0; i < sizeof flag_refuses / sizeof *flag_refuses; i++)
         refused(flag_refuses[i], 1, RAGANSILS_FLAG_SET);
     listed(RECOVER, 0, 0, 0, RAGANSILS_DONE, 3, e7);
@@ -235,12 +248,16 @@ static void growth(void)
     insert_keys(1, 15, 2);
     refused(INSERT, 17, RAGANSILS_NO_PLACE);
     refused(STEP, 0, RAGANSILS_NOT_GROWING);
+    refused(STEP_FROM, 0, RAGANSILS_NOT_GROWING);
     refused(END, 0, RAGANSILS_NOT_GROWING);
     listed(BEGIN, 0, 0, 0, RAGANSILS_DONE, 1, begun);
     made(BEGIN, 0, 0, 0);
     refused(BEGIN, 0, RAGANSILS_ALREADY_GROWING);
     refused(END, 0, RAGANSILS_INTERIM_TAKEN);
     listed(STEP, 0, 0, 0, RAGANSILS_DONE, 5, moved);
+    listed(STEP_FROM, 0, 0, 0, RAGANSILS_DONE, 5, moved);
+    refused(STEP_FROM, 1, RAGANSILS_INTERIM_EMPTY);
+    refused(STEP_FROM, UINT64_MAX, RAGANSILS_INTERIM_EMPTY);
     for (int items = 4; items > 0; items--)
         made(STEP, 0, 0, 0);
     refused(STEP, 0, RAGANSILS_INTERIM_EMPTY);
@@ -249,6 +266,34 @@ static void growth(void)
     refused(BEGIN, 0, RAGANSILS_AT_CAPACITY);
     for (uint64_t key = 1; key <= 15; key += 2)
         check(ragansils_query(table, WORDS, key, list) == RAGANSILS_DONE && list[0] == 100 + key && list[1] == 200 + key, "grown");
+}
+
+static uint64_t made_from(uint64_t *large, size_t words, uint64_t from, uint64_t answer[RAGANSILS_STEP_FROM_WORDS])
+{
+    uint64_t number = ragansils_step_from(large, words, from, list, RAGANSILS_LIST_WORDS, answer);
+    return number != RAGANSILS_DONE ? number : ragansils_make(large, words, list, RAGANSILS_LIST_WORDS, answer[0]);
+}
+
+/* With both multipliers alike a key has one place in each level: here its remainder by 16, 8 and, in the interim level, 4. */
+static void steps_that_go_on(void)
+{
+    static uint64_t large[RAGANSILS_WORDS(4)];
+    const size_t words = RAGANSILS_WORDS(4);
+    uint64_t answer[RAGANSILS_STEP_FROM_WORDS] = { 0, 0 }, steps = 0, told = 0;
+    bool filled = ragansils_create(large, words, 4, 3, MUL1, MUL1) == RAGANSILS_DONE, ascending = true;
+    for (uint64_t key = 0; key < 48; key++)
+        filled = filled && ragansils_insert(large, words, key, key, key, list, RAGANSILS_LIST_WORDS, &stores) == RAGANSILS_DONE &&
+                 ragansils_make(large, words, list, RAGANSILS_LIST_WORDS, stores) == RAGANSILS_DONE;
+    check(filled && ragansils_begin(large, words, list, RAGANSILS_LIST_WORDS, &stores) == RAGANSILS_DONE, "a larger table");
+    ragansils_make(large, words, list, RAGANSILS_LIST_WORDS, stores);
+
+    check(made_from(large, words, 2, answer) == RAGANSILS_DONE && answer[0] == 5 && answer[1] == 2, "a step from bucket 2");
+    check(made_from(large, words, 1, answer) == RAGANSILS_DONE && answer[0] == 5 && answer[1] == 1, "a step from bucket 1");
+    check(made_from(large, words, 4, answer) == RAGANSILS_INTERIM_EMPTY && answer[0] == 0 && answer[1] == 0, "no bucket 4");
+    for (; made_from(large, words, told, answer) == RAGANSILS_DONE; steps++, told = answer[1])
+        ascending = ascending && answer[1] >= told && answer[1] < 4;
+    check(steps == 14 && ascending, "one pass over what is left of the 16 interim items");
+    check(ragansils_end(large, words, list, RAGANSILS_LIST_WORDS, &stores) == RAGANSILS_DONE, "the end of that growth");
 }
 
 /* Depths 0 to 3 of address 0 and 0 to 1 of address 16: at rest each is found in the first bucket that is looked at. */
@@ -338,7 +383,7 @@ static void longest_chain(void)
 /* That each length is taken for the length of its own buffer. */
 static void lengths(void)
 {
-    const struct change all[] = { INSERT, UPDATE, DELETE, BEGIN, STEP, END, RECOVER };
+    const struct change all[] = { INSERT, UPDATE, DELETE, BEGIN, STEP, STEP_FROM, END, RECOVER };
     uint64_t answer[RAGANSILS_ANSWER_WORDS], pair[] = { WORDS - 1, 7 };
     fresh_table();
     untouch(list, LENT_LIST);
@@ -363,12 +408,13 @@ int main(void)
     one_position();
     cut_update();
     growth();
+    steps_that_go_on();
     chains();
     refused_chains();
     chain_while_growing();
     longest_chain();
     lengths();
-    if (printf("%u checks of the eleven functions from C, %u failed\n", checks, failures) < 0 || fflush(stdout) != 0) {
+    if (printf("%u checks of the twelve functions from C, %u failed\n", checks, failures) < 0 || fflush(stdout) != 0) {
         fprintf(stderr, "calls: standard output could not be written\n");
         return 1;
     }

@@ -8,12 +8,17 @@ function length_name(name) {
     return name "_words"
 }
 
+function array_words(type) {
+    gsub(/^.*; |\]$/, "", type)
+    return type
+}
+
 function c_parameter(name, type) {
     if (type == "u64") return "uint64_t " name
     if (type == "usize") return "size_t " name
     if (type == "&mut u64" || type == "*mut u64") return "uint64_t *" name
     if (type == "*const u64") return "const uint64_t *" name
-    if (type == "&mut [u64; 3]" || type == "*mut [u64; 3]") return "uint64_t " name "[3]"
+    if (type ~ /^[&*]mut \[u64; [0-9]+\]$/) return "uint64_t " name "[" array_words(type) "]"
     if (type == "&mut [u64]") return "uint64_t *" name ", size_t " length_name(name)
     if (type == "&[u64]") return "const uint64_t *" name ", size_t " length_name(name)
     return "a type that is not known, " type
