@@ -1,4 +1,4 @@
-//! The eleven functions over slices: each is one call of the library and nothing else.
+//! The twelve functions over slices: each is one call of the library and nothing else.
 //!
 //! [`Table`](crate::Table) is the way to use them in a collector. Here a changing call is in two parts, as the library has it: the call
 //! only reads the table and lists its stores, and something else makes them.
@@ -114,6 +114,19 @@ pub fn begin(words: &[u64]) -> Result<StoreList, Refusal> {
 /// and `NoPlace`, where no interim item has one.
 pub fn step(words: &[u64]) -> Result<StoreList, Refusal> {
     whole_table(words, raw::ragansils_step)
+}
+
+/// [`step`] over the interim buckets from one of them on, counted from 0 in the level; with 0 it is `step` itself. Any word may be handed
+/// in. Beside the stores it tells the bucket in which the item stood, counted the same, to go on from. Refusals: those of `step`; but
+/// `InterimEmpty` and `NoPlace` speak of the items from there on only.
+pub fn step_from(words: &[u64], from: u64) -> Result<(StoreList, u64), Refusal> {
+    let (mut list, mut answer) = ([0; LIST_WORDS], [0; 2]);
+    let (table, length, lent) = (words.as_ptr(), words.len(), list.as_mut_ptr());
+    // SAFETY: both pointers are valid for the lengths beside them, and table, list and answer lie apart.
+    let number = unsafe { raw::ragansils_step_from(table, length, from, lent, LIST_WORDS, &mut answer) };
+    Refusal::check(number)?;
+    let [count, bucket] = answer;
+    Ok((StoreList { words: list, count }, bucket))
 }
 
 /// Lists the store that ends a growth. Refusals: `BadHeader`, `FlagSet`, `NotGrowing`, `InterimTaken`.

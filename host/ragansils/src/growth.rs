@@ -7,10 +7,19 @@ use crate::{calls, Platform, Refusal, Table};
 pub enum Growth {
     /// The table was at rest, and grows now: its top is twice as large.
     Begun,
-    /// The first item of the interim level that had a place moved out of it.
+    /// An item of the interim level moved out of it.
     Moved,
     /// The interim level was empty, and the table is at rest again.
     Ended,
+}
+
+/// What a growth step from a bucket on did ([`Table::step_from`]).
+#[derive(Clone, Copy, Debug, PartialEq, Eq)]
+pub struct Step {
+    /// The number of its stores, 5 or 10.
+    pub stores: u64,
+    /// The interim bucket in which the item stood, counted from 0 in the level. The next step may go on from there.
+    pub bucket: u64,
 }
 
 impl<W: AsRef<[u64]> + AsMut<[u64]>, P: Platform> Table<W, P> {
@@ -20,16 +29,9 @@ impl<W: AsRef<[u64]> + AsMut<[u64]>, P: Platform> Table<W, P> {
     /// this begins a growth, also where one has just ended. Every other call may come between two parts; but inserts fill the new top,
     /// so a collector does a part or more of a growth with each insert.
     ///
-    /// A part that moves an item takes the first of the interim level that has a place, and looks for it from the first interim bucket
-    /// on, past all that earlier parts have emptied and all items without a place. So the time of a whole growth from N top buckets rises
-    /// with N squared. On an Intel Xeon, begun at load 0.8:
-    ///
-    /// | N | 256 | 1,024 | 4,096 | 16,384 | 65,536 | 131,072 | 524,288 |
-    /// |---|---|---|---|---|---|---|---|
-    /// | whole growth | 0.016 ms | 0.21 ms | 3.4 ms | 42 ms | 1.5 s | 10 s | 206 s |
-    ///
-    /// The last parts look through N / 2 buckets each. A table that will be large is better created with a large
-    /// [`first_top`](crate::Creation::first_top).
+    /// A part that moves an item looks for one from the bucket on where the last part found one. The words do not hold that bucket, and
+    /// each opening begins at the first. So the time of a whole growth from N top buckets rises with N. Where nothing from there on can
+    /// move, the part looks once more from the first bucket on: a delete may have made room for an item that was passed.
     ///
     /// Refusals: `AtCapacity` where the table cannot grow any more; `NoPlace` where items are left in the interim level and none of them
     /// has a place now. Then queries, updates, deletes and inserts still work, and the growth goes on once a delete has made room for
@@ -38,12 +40,28 @@ impl<W: AsRef<[u64]> + AsMut<[u64]>, P: Platform> Table<W, P> {
     /// A part that answers `NoPlace` has tried every interim item, so it is costly: with top and bottom full it took about 0.05 ms for 450
     /// interim items and 1 ms for 6,500, on an AMD EPYC. Inserts make no room for them: try again after a delete, not after every insert.
     pub fn grow_on(&mut self) -> Result<Growth, Refusal> {
-        match self.step() {
+        match self.step_on() {
             Ok(_) => Ok(Growth::Moved),
             Err(Refusal::NotGrowing) => self.begin().map(|_| Growth::Begun),
             Err(Refusal::InterimEmpty) => self.end().map(|_| Growth::Ended),
             Err(refusal) => Err(refusal),
         }
+    }
+
+    /// A step from the hint on; where nothing there can move, from the first bucket on, so that the answer is that of a whole level.
+    ///
+    /// A delete may have made room for an item before the hint. It does not set the hint back: a growth with deletes between its parts
+    /// would go through its emptied buckets again after each of them. The item waits for the second try.
+    fn step_on(&mut self) -> Result<Step, Refusal> {
+        let mut stepped = self.step_from(self.growth_hint);
+        if self.growth_hint > 0 && matches!(stepped, Err(Refusal::InterimEmpty | Refusal::NoPlace)) {
+            self.growth_hint = 0;
+            stepped = self.step_from(0);
+        }
+        if let Ok(Step { bucket, .. }) = stepped {
+            self.growth_hint = bucket;
+        }
+        stepped
     }
 
     /// Does at most so many parts of one growth ([`grow_on`](Table::grow_on)), and answers whether it has ended.
@@ -85,3 +103,6 @@ impl<W: AsRef<[u64]> + AsMut<[u64]>, P: Platform> Table<W, P> {
         }
     }
 }
+
+#[cfg(test)]
+mod tests;

@@ -4,16 +4,16 @@
 //! words when power fails. Every change is an ordered list of at most ten word stores, and power may fail after any of them.
 //!
 //! The work is done by the static library `collector`, written in Rattle and proved to answer as its rules say on every input; this
-//! crate is thin over its eleven functions and has no other dependency. What is proved ends at the library: that stores are made in order
+//! crate is thin over its twelve functions and has no other dependency. What is proved ends at the library: that stores are made in order
 //! is this crate's own part, and is tested.
 //!
 //! From the bottom up:
-//! - [`raw`]: the eleven functions, unsafe;
+//! - [`raw`]: the twelve functions, unsafe;
 //! - [`calls`]: the same over slices, safe;
 //! - [`Key`], [`Record`], [`Lookup`], [`Chain`], [`Creation`], [`Refusal`]: what goes in and comes out;
 //! - [`StoreList`], [`Platform`]: stores, and what a platform does after each;
-//! - [`Table`]: a table that makes its own stores, grows in small parts ([`Growth`]) and tells the inlined frames at an address
-//!   ([`Frames`]);
+//! - [`Table`]: a table that makes its own stores, grows in small parts ([`Growth`], by hand [`Step`]) and tells the inlined frames at an
+//!   address ([`Frames`]);
 //! - [`MappedFile`]: words in a file, with [`words_of`] and [`bytes_of`] for a file that is only read.
 //!
 //! ```
@@ -53,7 +53,7 @@ mod table;
 pub use bytes::{bytes_of, words_of};
 pub use creation::{Creation, MULTIPLIER_1, MULTIPLIER_2};
 pub use frames::Frames;
-pub use growth::Growth;
+pub use growth::{Growth, Step};
 #[cfg(all(target_os = "linux", target_pointer_width = "64"))]
 pub use mapped::{FileError, MappedFile};
 pub use position::{Chain, Key, Lookup, Record};

@@ -1,4 +1,4 @@
-//! The eleven functions of the static library `collector`, as `include/ragansils.h` declares them.
+//! The twelve functions of the static library `collector`, as `include/ragansils.h` declares them.
 //!
 //! They are unsafe for what a compiler cannot see: a pointer must be aligned and valid for as many words as the length beside it says,
 //! and no two buffers of a call may overlap. [`calls`](crate::calls) has the same over slices.
@@ -57,6 +57,14 @@ extern "C" {
         list: *mut u64,
         list_words: usize,
         stores: *mut u64,
+    ) -> u64;
+    pub fn ragansils_step_from(
+        table: *const u64,
+        words: usize,
+        from: u64,
+        list: *mut u64,
+        list_words: usize,
+        answer: *mut [u64; 2],
     ) -> u64;
     pub fn ragansils_end(
         table: *const u64,

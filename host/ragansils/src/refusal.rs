@@ -29,7 +29,7 @@ pub enum Refusal {
     /// Update and delete: the key is absent. Chain: one of the depths has no record.
     KeyAbsent = 5,
     /// Insert: there is no place for the key; the table may grow, or something may be deleted. Growth step: no interim item
-    /// has a place; a delete may make room for one.
+    /// has a place, or, of a step from a bucket, none from there on; a delete may make room for one.
     NoPlace = 6,
     /// Begin: the table is growing already.
     AlreadyGrowing = 7,
@@ -39,7 +39,7 @@ pub enum Refusal {
     AtCapacity = 9,
     /// End: there are items in the interim level, which steps move.
     InterimTaken = 10,
-    /// Step: the interim level is empty, so growth can end.
+    /// Step: the interim level is empty, so growth can end. Step from a bucket: there is no item from there on.
     InterimEmpty = 11,
     /// Recovery: the table is none of the three kinds that a cut leaves.
     NoKind = 12,

@@ -1,7 +1,7 @@
 //! A table that makes its own stores.
 
 use crate::stores::make_in_order;
-use crate::{calls, Creation, Frames, Key, Lookup, Platform, Record, Refusal, StoreList};
+use crate::{calls, Creation, Frames, Key, Lookup, Platform, Record, Refusal, Step, StoreList};
 
 /// A position table over words that it is lent: a `&mut [u64]`, a `Vec<u64>`, or a [`MappedFile`](crate::MappedFile).
 ///
@@ -29,6 +29,9 @@ use crate::{calls, Creation, Frames, Key, Lookup, Platform, Record, Refusal, Sto
 pub struct Table<W, P> {
     words: W,
     platform: P,
+    /// The interim bucket from which the growth driver goes on. It is a mere hint: any word here leads to the same answers, and a wrong one
+    /// costs time. So it is not kept in the table, and each opened or created one begins at 0.
+    pub(crate) growth_hint: u64,
 }
 
 impl<W: AsRef<[u64]> + AsMut<[u64]>, P: Platform> Table<W, P> {
@@ -38,7 +41,7 @@ impl<W: AsRef<[u64]> + AsMut<[u64]>, P: Platform> Table<W, P> {
     /// them. Refusal: `BadCreation`.
     pub fn create(mut words: W, creation: &Creation, platform: P) -> Result<Table<W, P>, Refusal> {
         calls::create(words.as_mut(), creation)?;
-        Ok(Table { words, platform })
+        Ok(Table { words, platform, growth_hint: 0 })
     }
 
     /// Takes up a table where an earlier process left it: looks at the whole table, and mends what a cut left, by at most three
@@ -47,7 +50,7 @@ impl<W: AsRef<[u64]> + AsMut<[u64]>, P: Platform> Table<W, P> {
     /// Refusals: `BadHeader` where the words are no table, `NoKind` where they are damaged otherwise than by a cut. Either leaves the
     /// words as they are; the program `ragansils-inspect` says what is wrong.
     pub fn open(words: W, platform: P) -> Result<Table<W, P>, Refusal> {
-        let mut table = Table { words, platform };
+        let mut table = Table { words, platform, growth_hint: 0 };
         table.recover()?;
         Ok(table)
     }
@@ -84,24 +87,63 @@ impl<W: AsRef<[u64]> + AsMut<[u64]>, P: Platform> Table<W, P> {
 
     /// Begins a growth, by 1 store: the top becomes twice as large. Refusals: `AlreadyGrowing`, `AtCapacity`.
     pub fn begin(&mut self) -> Result<u64, Refusal> {
-        self.change(calls::begin)
+        self.change_and_forget_hint(calls::begin)
     }
 
     /// Moves the first item of the interim level that has a place, by 5 stores or 10, and answers their number. Refusals: `NotGrowing`,
     /// `InterimEmpty`, and `NoPlace`, where items are left and none of them has a place.
+    ///
+    /// It looks for that item from the first interim bucket on, so the time of a whole growth by such steps alone rises with the square of
+    /// its size; [`grow_on`](Table::grow_on) goes on where it was.
     pub fn step(&mut self) -> Result<u64, Refusal> {
         self.change(calls::step)
     }
 
+    /// The same over the interim buckets from one of them on, counted from 0 in the level: with 0 it is [`step`](Table::step). Any word may
+    /// be handed in; past the level there are no items. Refusals: those of `step`; but `InterimEmpty` and `NoPlace` speak of the items from
+    /// there on only.
+    ///
+    /// No step gives a place to an item that had none. So where no other call comes between, one pass, from 0 and on from each bucket told,
+    /// moves all items that have a place:
+    ///
+    /// ```
+    /// use ragansils::{Creation, Key, OrdinaryMemory, Record, Refusal, Table, MULTIPLIER_1, MULTIPLIER_2};
+    ///
+    /// let creation = Creation { capacity: 5, first_top: 4, multipliers: [MULTIPLIER_1, MULTIPLIER_2] };
+    /// let mut table = Table::create(vec![0; creation.words().unwrap()], &creation, OrdinaryMemory)?;
+    /// for line in 0..80 {
+    ///     table.insert(Key::new(0x5555_0000_1000 + 4 * line, 0).unwrap(), Record { function: 7, place: line })?;
+    /// }
+    /// table.begin()?;
+    /// let mut from = 0;
+    /// while let Ok(step) = table.step_from(from) {
+    ///     from = step.bucket;
+    /// }
+    /// table.end()?;
+    /// # Ok::<(), Refusal>(())
+    /// ```
+    ///
+    /// A wrong start costs time or leaves items for later, and never makes a wrong table. [`grow_on`](Table::grow_on) does all this by
+    /// itself.
+    pub fn step_from(&mut self, from: u64) -> Result<Step, Refusal> {
+        let mut bucket = 0;
+        let stores = self.change(|words| {
+            let (list, told) = calls::step_from(words, from)?;
+            bucket = told;
+            Ok(list)
+        })?;
+        Ok(Step { stores, bucket })
+    }
+
     /// Ends a growth, by 1 store. Refusals: `NotGrowing`, `InterimTaken`.
     pub fn end(&mut self) -> Result<u64, Refusal> {
-        self.change(calls::end)
+        self.change_and_forget_hint(calls::end)
     }
 
     /// Mends what a cut left, by no store, 1 or 3, and answers their number. [`open`](Table::open) has done so; it is needed again
     /// only where a platform's act panicked in the middle of a change. Refusals: `BadHeader`, `NoKind`.
     pub fn recover(&mut self) -> Result<u64, Refusal> {
-        self.change(calls::recover)
+        self.change_and_forget_hint(calls::recover)
     }
 
     /// The table's words.
@@ -112,6 +154,16 @@ impl<W: AsRef<[u64]> + AsMut<[u64]>, P: Platform> Table<W, P> {
     /// Gives back what was lent.
     pub fn into_parts(self) -> (W, P) {
         (self.words, self.platform)
+    }
+
+    /// A change after which the growth driver begins at the first bucket again.
+    fn change_and_forget_hint(
+        &mut self,
+        list: fn(&[u64]) -> Result<StoreList, Refusal>,
+    ) -> Result<u64, Refusal> {
+        let stores = self.change(list)?;
+        self.growth_hint = 0;
+        Ok(stores)
     }
 
     fn change(&mut self, list: impl FnOnce(&[u64]) -> Result<StoreList, Refusal>) -> Result<u64, Refusal> {

@@ -2,7 +2,9 @@
 
 use std::panic::{catch_unwind, AssertUnwindSafe};
 
-use ragansils::{calls, Creation, Growth, Key, OrdinaryMemory, Record, Refusal, Store, StoreList, Table};
+use ragansils::{
+    calls, Creation, Growth, Key, OrdinaryMemory, Record, Refusal, Step, Store, StoreList, Table,
+};
 
 /// The table of the marked examples of document 01, the paper that fixes the table.
 const MARKED: Creation = Creation { capacity: 2, first_top: 1, multipliers: [4294967297, 12884901889] };
@@ -59,9 +61,14 @@ fn every_change() -> Vec<Row> {
         row(filled_with([1, 3, 5, 7]), updated_3, |table| table.update(3.into(), NEW)),
         row(filled_with([1, 3]), |words| calls::delete(words, 3.into()), |table| table.delete(3.into())),
         row(filled_with([1, 3]), calls::begin, |table| table.begin()),
-        row(growing, calls::step, |table| table.step()),
+        row(growing.clone(), calls::step, |table| table.step()),
+        row(growing, stepped_from_0, |table| table.step_from(0).map(|step| step.stores)),
         row(moved, calls::end, |table| table.end()),
     ]
+}
+
+fn stepped_from_0(words: &[u64]) -> Result<StoreList, Refusal> {
+    calls::step_from(words, 0).map(|(list, _)| list)
 }
 
 fn updated_3(words: &[u64]) -> Result<StoreList, Refusal> {
@@ -143,6 +150,7 @@ fn a_refused_change_leaves_everything() {
     assert_eq!(table.update(2.into(), NEW), Err(Refusal::KeyAbsent));
     assert_eq!(table.delete(2.into()), Err(Refusal::KeyAbsent));
     assert_eq!(table.step(), Err(Refusal::NotGrowing));
+    assert_eq!(table.step_from(0), Err(Refusal::NotGrowing));
     assert_eq!(table.end(), Err(Refusal::NotGrowing));
     assert_eq!(table.words(), words);
 }
@@ -232,92 +240,44 @@ fn a_growth_without_a_place_goes_on_once_there_is_one() {
     assert_eq!(table.grow_on(), Ok(Growth::Moved));
 }
 
-/// A growing table of capacity 9 in which the first interim buckets, so many of 128, have no item with a place: the story of request b)
-/// of document 02. Both multipliers are alike, so that a key has one place in a level of M buckets: its remainder by M.
-struct Blocked {
-    table: Table<Vec<u64>, OrdinaryMemory>,
-    stuck_buckets: u64,
-}
-
-/// These fill the top (1,024) and the bottom (512), which is the interim level once growth has begun.
-const KEYS_AT_REST: std::ops::Range<u64> = 0..1536;
-
-impl Blocked {
-    fn new(stuck_buckets: u64) -> Blocked {
-        let creation = Creation { capacity: 9, first_top: 8, multipliers: [MARKED.multipliers[0]; 2] };
-        let words = vec![0; creation.words().unwrap()];
-        let mut table = Table::create(words, &creation, OrdinaryMemory).unwrap();
-        KEYS_AT_REST.for_each(|key| assert_eq!(table.insert(key.into(), record_of(key)), Ok(4)));
-        assert_eq!(table.grow_on(), Ok(Growth::Begun));
-        let mut blocked = Blocked { table, stuck_buckets };
-        for key in blocked.later_keys() {
-            assert_eq!(blocked.table.insert(key.into(), record_of(key)), Ok(4));
-        }
-        blocked
-    }
-
-    /// Interim bucket i holds the keys 1024 + 128f + i for f from 0 to 3. Each has a top bucket of its own, 128f + i. Their bottom
-    /// buckets were filled at rest, and the items there can only go up to these same four top buckets.
-    fn stuck_keys(&self) -> Vec<u64> {
-        (0..4).flat_map(|f| (0..self.stuck_buckets).map(move |i| 1024 + 128 * f + i)).collect()
-    }
-
-    /// Four keys that fill the top bucket of a stuck one.
-    fn keys_above(stuck: u64) -> impl Iterator<Item = u64> {
-        (0..4).map(move |n| stuck + 1024 + 512 * n)
-    }
-
-    fn later_keys(&self) -> Vec<u64> {
-        self.stuck_keys().into_iter().flat_map(Blocked::keys_above).collect()
-    }
-
-    fn keys(&self) -> Vec<u64> {
-        KEYS_AT_REST.chain(self.later_keys()).collect()
-    }
-
-    fn has(&self, key: u64) -> bool {
-        self.table.query(key.into()).unwrap().record == Some(record_of(key))
-    }
-
-    /// In the third bucket looked at.
-    fn is_interim(&self, key: u64) -> bool {
-        self.table.query(key.into()).unwrap().buckets == 3
-    }
-}
-
+/// The keys 9, 11 and 13 stand in the one bucket of the interim level.
 #[test]
-fn a_growth_goes_past_items_without_a_place() {
-    for stuck_buckets in [1, 64] {
-        let mut blocked = Blocked::new(stuck_buckets);
-        let stuck = blocked.stuck_keys();
-        (stuck.len()..512).for_each(|_| assert_eq!(blocked.table.step(), Ok(5)));
-        assert_eq!(blocked.table.grow_on(), Err(Refusal::NoPlace));
-        assert_eq!(blocked.table.end(), Err(Refusal::InterimTaken));
-        let keys = blocked.keys();
-        assert!(keys.iter().all(|&key| blocked.has(key)));
-        let left: Vec<u64> = keys.into_iter().filter(|&key| blocked.is_interim(key)).collect();
-        assert_eq!(left, stuck);
+fn a_step_from_the_first_bucket_is_the_step_and_tells_its_bucket() {
+    let mut words = after(filled_with([1, 3, 5, 7, 9, 11, 13]), calls::begin, None);
+    for _ in 0..3 {
+        let (list, bucket) = calls::step_from(&words, 0).unwrap();
+        assert_eq!((list.words(), bucket), (calls::step(&words).unwrap().words(), 0));
+        for past in [1, 2, 1 << 32, u64::MAX] {
+            assert_eq!(calls::step_from(&words, past).map(drop), Err(Refusal::InterimEmpty));
+        }
+        calls::make(&mut words, list.words(), list.count()).unwrap();
     }
+    assert_eq!(calls::step_from(&words, 0).map(drop), Err(Refusal::InterimEmpty));
 }
 
-/// Each delete makes room for one item, and the growth ends at last.
+/// With both multipliers alike a key has one place in a level of M buckets, its remainder by M: here 16, 8 and, in the interim level, 4.
 #[test]
-fn a_growth_without_a_place_goes_on_with_each_delete() {
-    for stuck_buckets in [1, 64] {
-        let mut blocked = Blocked::new(stuck_buckets);
-        while blocked.table.step().is_ok() {}
-        let mut keys = blocked.keys();
-        for stuck in blocked.stuck_keys() {
-            assert_eq!(blocked.table.grow_on(), Err(Refusal::NoPlace));
-            let deleted = Blocked::keys_above(stuck).next().unwrap();
-            blocked.table.delete(deleted.into()).unwrap();
-            keys.retain(|&key| key != deleted);
-            assert_eq!(blocked.table.grow_on(), Ok(Growth::Moved));
-            assert!(!blocked.is_interim(stuck));
-        }
-        assert_eq!(blocked.table.grow_on(), Ok(Growth::Ended));
-        assert!(keys.into_iter().all(|key| blocked.has(key)));
+fn a_step_goes_on_from_the_bucket_that_it_is_told() {
+    let creation = Creation { capacity: 4, first_top: 3, multipliers: [MARKED.multipliers[0]; 2] };
+    let mut table = Table::create(vec![0; creation.words().unwrap()], &creation, OrdinaryMemory).unwrap();
+    for key in 0..48 {
+        table.insert(key.into(), record_of(key)).unwrap();
     }
+    table.begin().unwrap();
+    let mut steps = vec![];
+    for from in [2, 2, 0, 3, 1] {
+        let Step { stores, bucket } = table.step_from(from).unwrap();
+        steps.push((stores, bucket));
+    }
+    assert_eq!(steps, [(5, 2), (5, 2), (5, 0), (5, 3), (5, 1)]);
+    assert_eq!(table.step_from(4), Err(Refusal::InterimEmpty));
+    let mut from = 0;
+    while let Ok(step) = table.step_from(from) {
+        assert!((from..4).contains(&step.bucket));
+        from = step.bucket;
+    }
+    assert_eq!(table.end(), Ok(1));
+    assert!((0..48).all(|key| table.query(key.into()).unwrap().record == Some(record_of(key))));
 }
 
 #[test]
