@@ -32,6 +32,7 @@ struct collector {
     bool persistent;
     uint64_t stores_made;
     uint64_t end_after; /* so many stores; 0 never */
+    uint64_t from;      /* the interim bucket from which a growth goes on; a hint, which only saves time */
     bool stuck;         /* no item that a growth has left to move has a place, and nothing was deleted since */
 };
 
@@ -110,26 +111,41 @@ static uint64_t delete(struct collector *collector, uint64_t key)
     return make(collector, number, list, stores);
 }
 
-/* begin, step, end and recover are lent the same. */
+/* begin, end and recover are lent the same. After each of them a growth looks from the first bucket on. */
 typedef uint64_t whole_table_call(const uint64_t *, size_t, uint64_t *, size_t, uint64_t *);
 
 static uint64_t change_whole(struct collector *collector, whole_table_call *call)
 {
     uint64_t list[RAGANSILS_LIST_WORDS], stores;
     uint64_t number = call(collector->table, collector->words, list, RAGANSILS_LIST_WORDS, &stores);
+    collector->from = 0;
     return make(collector, number, list, stores);
 }
 
+/* The bucket told is the one to go on from, and 0 with a refusal. */
+static uint64_t step_from(struct collector *collector, uint64_t from)
+{
+    uint64_t list[RAGANSILS_LIST_WORDS], answer[RAGANSILS_STEP_FROM_WORDS];
+    uint64_t number = ragansils_step_from(collector->table, collector->words, from, list, RAGANSILS_LIST_WORDS, answer);
+    collector->from = answer[1];
+    return make(collector, number, list, answer[0]);
+}
+
 /*
- * One small part of a growth that is under way. The state is in the table, so that a growth goes on after a restart. Refusal 6 says
- * that no item left to move has a place now: the table stays as it is, and every other call goes on working. Such a step has tried all
- * these items, and only a delete can make room for one; so until then it is not tried again.
+ * One small part of a growth that is under way. The state is in the table, so that a growth goes on after a restart. The bucket is not: it
+ * keeps the next step from looking through all buckets that are empty already. Where nothing from there on can move, the first bucket comes
+ * again, since a delete may have made room for an item that was passed.
+ *
+ * Refusal 6 says that no item left to move has a place now: the table stays as it is, and every other call goes on working. Such a step has
+ * tried all these items, and only a delete can make room for one; so until then it is not tried again.
  */
 static uint64_t grow_on(struct collector *collector)
 {
     if (collector->stuck)
         return RAGANSILS_NO_PLACE;
-    uint64_t number = change_whole(collector, ragansils_step);
+    uint64_t from = collector->from, number = step_from(collector, from);
+    if (from != 0 && (number == RAGANSILS_NO_PLACE || number == RAGANSILS_INTERIM_EMPTY))
+        number = step_from(collector, 0);
     collector->stuck = number == RAGANSILS_NO_PLACE;
     return number == RAGANSILS_INTERIM_EMPTY ? change_whole(collector, ragansils_end) : number;
 }
@@ -312,14 +328,14 @@ static struct collector open_file(const char *path)
     if (flock(file, LOCK_EX | LOCK_NB) != 0)
         complain("another process has the table in", path);
     size_t words = (size_t)status.st_size / sizeof(uint64_t);
-    struct collector collector = { map_words(file, words, path), words, true, 0, 0, false };
+    struct collector collector = { map_words(file, words, path), words, true, 0, 0, 0, false };
     return collector;
 }
 
 static struct collector in_memory(void)
 {
     static uint64_t table[RAGANSILS_WORDS(CAPACITY)];
-    struct collector collector = { table, RAGANSILS_WORDS(CAPACITY), false, 0, 0, false };
+    struct collector collector = { table, RAGANSILS_WORDS(CAPACITY), false, 0, 0, 0, false };
     must("create", ragansils_create(table, collector.words, CAPACITY, FIRST_TOP, RAGANSILS_MULTIPLIER_1, RAGANSILS_MULTIPLIER_2));
     printf("made a table of %zu words\n", collector.words);
     return collector;
