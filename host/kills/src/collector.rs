@@ -146,6 +146,9 @@ fn change(table: &mut Table<MappedFile, Gate>, event: Event) -> u64 {
         Event::Update { key, function, place } => table.update(key.into(), Record { function, place }),
         Event::Delete { key } => table.delete(key.into()),
         Event::Begin => table.begin(),
+        // By the growth driver, so that kills meet it in the middle of a pass. Where nothing is left to move it ends the growth, which keeps
+        // the map as a step does.
+        Event::Step if table.is_growing() == Ok(true) => table.grow_on().map(|_| 0),
         Event::Step => table.step(),
         Event::End => table.end(),
         Event::Recover => table.recover(),
