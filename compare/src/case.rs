@@ -26,7 +26,8 @@ pub struct Case {
 #[derive(Clone, Debug, PartialEq, Eq)]
 pub struct Outcome {
     pub number: u64,
-    /// The query's three words, the chain's count of buckets, a changing call's number of stores, else nothing.
+    /// The query's three words, the chain's count of buckets, a changing call's number of stores and, of a step from a start, the bucket
+    /// told; else nothing.
     pub answer: Vec<u64>,
     pub table: Vec<u64>,
     pub list: Vec<u64>,
@@ -47,6 +48,7 @@ impl Call {
         match self {
             Call::Create { .. } | Call::Make { .. } => 0,
             Call::Query { .. } => 3,
+            Call::Change(Event::StepFrom { .. }) => 2,
             Call::Chain(_) | Call::Change(_) => 1,
         }
     }
@@ -65,6 +67,7 @@ pub fn event_name(event: Event) -> &'static str {
         Event::Delete { .. } => "delete",
         Event::Begin => "begin",
         Event::Step => "step",
+        Event::StepFrom { .. } => "step_from",
         Event::End => "end",
         Event::Recover => "recover",
     }
@@ -74,6 +77,11 @@ impl Outcome {
     /// The number of stores a changing call or recovery reports.
     pub fn stores(&self) -> u64 {
         self.answer.first().copied().unwrap_or(0)
+    }
+
+    /// The bucket that a step from a start tells; 0 for other calls.
+    pub fn bucket(&self) -> u64 {
+        self.answer.get(1).copied().unwrap_or(0)
     }
 }
 
@@ -89,6 +97,10 @@ pub fn run_model(case: &Case) -> Outcome {
         Call::Chain(Chain { address, depth }) => {
             let (number, buckets) = model::chain(&table, address, depth, &mut list);
             (number, vec![buckets])
+        }
+        Call::Change(Event::StepFrom { from }) => {
+            let (number, answer) = model::step_from(&table, from, &mut list);
+            (number, answer.to_vec())
         }
         Call::Change(event) => {
             let (number, stores) = event.list_stores(&table, &mut list);

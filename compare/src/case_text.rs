@@ -46,6 +46,7 @@ pub fn event_arguments(event: Event) -> Vec<(&'static str, u64)> {
             vec![("key", key), ("fn", function), ("at", place)]
         }
         Event::Delete { key } => vec![("key", key)],
+        Event::StepFrom { from } => vec![("from", from)],
         Event::Begin | Event::Step | Event::End | Event::Recover => vec![],
     }
 }
@@ -88,6 +89,7 @@ pub fn read_call(op: &str, number: impl Fn(&str) -> Result<u64, String>) -> Resu
         "delete" => Event::Delete { key: number("key")? },
         "begin" => Event::Begin,
         "step" => Event::Step,
+        "step_from" => Event::StepFrom { from: number("from")? },
         "end" => Event::End,
         "recover" => Event::Recover,
         other => return Err(format!("unknown op {other}")),
@@ -112,6 +114,7 @@ mod tests {
             Call::Change(Event::Delete { key: 1 }),
             Call::Change(Event::Begin),
             Call::Change(Event::Step),
+            Call::Change(Event::StepFrom { from: 8 }),
             Call::Change(Event::End),
             Call::Change(Event::Recover),
         ];

@@ -62,7 +62,7 @@ fn guard_word(index: usize) -> u64 {
 struct Lent {
     table: Guarded,
     list: Guarded,
-    /// The query's answer, the chain's count of buckets, or the number of stores.
+    /// The query's answer, the chain's count of buckets, or the number of stores, with the bucket told by a step from a start.
     answer: Guarded,
 }
 
@@ -103,12 +103,15 @@ fn call_library(call: Call, lent: &mut Lent) -> u64 {
                 raw::ragansils_chain(table, words, address, depth, list, list_words, answer)
             }
             Call::Make { n } => raw::ragansils_make(table, words, list, list_words, n),
+            Call::Change(Event::StepFrom { from }) => {
+                raw::ragansils_step_from(table, words, from, list, list_words, answer.cast())
+            }
             Call::Change(event) => list_event(event, table, words, list, list_words, answer),
         }
     }
 }
 
-/// The call of an event, which lists its stores.
+/// The call of an event, which lists its stores. The bucket that a step from a start tells is left out.
 ///
 /// # Safety
 /// As for the functions of [`raw`]: pointers are aligned and valid for the lengths beside them, and the buffers do not overlap.
@@ -131,6 +134,12 @@ pub unsafe fn list_event(
         Event::Delete { key } => raw::ragansils_delete(table, words, key, list, list_words, stores),
         Event::Begin => raw::ragansils_begin(table, words, list, list_words, stores),
         Event::Step => raw::ragansils_step(table, words, list, list_words, stores),
+        Event::StepFrom { from } => {
+            let mut answer = [0; 2];
+            let number = raw::ragansils_step_from(table, words, from, list, list_words, &mut answer);
+            *stores = answer[0];
+            number
+        }
         Event::End => raw::ragansils_end(table, words, list, list_words, stores),
         Event::Recover => raw::ragansils_recover(table, words, list, list_words, stores),
     }

@@ -57,6 +57,7 @@ fn arguments(call: &mut Call) -> Vec<&mut u64> {
         Call::Change(Event::Insert { key, function, place } | Event::Update { key, function, place }) => {
             vec![key, function, place]
         }
+        Call::Change(Event::StepFrom { from }) => vec![from],
         Call::Change(_) => vec![],
         Call::Make { n } => vec![n],
     }

@@ -150,6 +150,7 @@ fn change(table: &mut Table<MappedFile, Gate>, event: Event) -> u64 {
         // the map as a step does.
         Event::Step if table.is_growing() == Ok(true) => table.grow_on().map(|_| 0),
         Event::Step => table.step(),
+        Event::StepFrom { from } => table.step_from(from).map(|step| step.stores),
         Event::End => table.end(),
         Event::Recover => table.recover(),
     };

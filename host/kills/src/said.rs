@@ -45,8 +45,13 @@ pub fn read_event(text: &str) -> Result<Event, String> {
     let name = words.next().unwrap_or_default();
     let numbers: Vec<&str> = words.collect();
     let argument = |wanted: &str| {
-        let index = ["key", "fn", "at"].iter().position(|&name| name == wanted);
-        let number = index.and_then(|index| numbers.get(index)?.parse().ok());
+        // No event has a key and a start.
+        let index = match wanted {
+            "key" | "from" => 0,
+            "fn" => 1,
+            _ => 2,
+        };
+        let number = numbers.get(index).and_then(|number| number.parse().ok());
         number.ok_or(format!("no {wanted} in '{text}'"))
     };
     match read_call(name, argument)? {
@@ -63,8 +68,9 @@ mod tests {
     fn what_is_said_can_be_read() {
         let insert = Event::Insert { key: u64::MAX, function: 0, place: 7 };
         let update = Event::Update { key: 1, function: 2, place: 3 };
+        let (delete, step_from) = (Event::Delete { key: 4 }, Event::StepFrom { from: 5 });
         for event in
-            [insert, update, Event::Delete { key: 4 }, Event::Begin, Event::Step, Event::End, Event::Recover]
+            [insert, update, delete, Event::Begin, Event::Step, step_from, Event::End, Event::Recover]
         {
             assert_eq!(Said::read(&Said::About(event).line()), Ok(Said::About(event)));
         }
