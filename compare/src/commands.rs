@@ -17,6 +17,7 @@ use crate::say;
 use crate::scripts::{self, Disagreement};
 use crate::shrink::shrink_case;
 use crate::sound_tables::check_alone;
+use crate::starts::rare_numbers;
 use crate::stuck_items::Way;
 use crate::tally::Tally;
 use crate::words;
@@ -34,6 +35,12 @@ compare corners <INPUT
 /// From these sizes on, a refusal number or a kind of chain or growth step that was never seen fails the run.
 const FULL_SIZE_CALLS: u64 = 100_000;
 const FULL_SIZE_SCRIPTS: u64 = 1_000;
+
+/// So often at least each kind of start is met then, and each number of a step from a start.
+const LEAST_OF_EACH_START: u64 = 3;
+const NUMBERS_OF_STARTS_ON_CUT_TABLES: [u64; 4] = [0, 3, 6, 11];
+const NUMBERS_OF_STARTS_ON_RECOVERED_TABLES: [u64; 3] = [0, 6, 11];
+const NUMBERS_OF_STARTS_ON_OTHER_WORDS: [u64; 7] = [0, 1, 2, 3, 6, 8, 11];
 
 /// One round of a long run.
 const ROUND_CALLS: u64 = 1_000_000;
@@ -106,6 +113,7 @@ fn words_run(seed: u64, calls: u64, trace: Option<&Path>) -> Answer {
         demand_refusals(&tally, REFUSALS_OF_CALLS)?;
         demand_chains(&tally)?;
         demand_steps(&tally)?;
+        demand_starts(&tally)?;
     }
     say_alike();
     Ok(())
@@ -148,6 +156,7 @@ fn long_run(minutes: u32, seed: u64, program: Option<&Path>) -> Answer {
     demand_refusals(&tally, REFUSALS_OF_CALLS)?;
     demand_chains(&tally)?;
     demand_steps(&tally)?;
+    demand_starts(&tally)?;
     say_alike();
     Ok(())
 }
@@ -202,6 +211,28 @@ fn demand_steps(tally: &Tally) -> Answer {
         Some(way) => Err(format!("no step of other words came past stuck items, {way:?}")),
         None => Ok(()),
     }
+}
+
+/// A start that is never wrong, or never past a stuck item, would show little.
+fn demand_starts(tally: &Tally) -> Answer {
+    let starts = &tally.starts;
+    let rare = starts.rare(LEAST_OF_EACH_START);
+    if !rare.is_empty() {
+        return Err(format!("steps from a start seldom or never seen: {rare:?}"));
+    }
+    let by_tables: [(&str, _, &[u64]); 3] = [
+        ("cut tables", &starts.of_cut_tables, &NUMBERS_OF_STARTS_ON_CUT_TABLES),
+        ("recovered tables", &starts.of_recovered_tables, &NUMBERS_OF_STARTS_ON_RECOVERED_TABLES),
+        ("other words", &starts.of_other_words, &NUMBERS_OF_STARTS_ON_OTHER_WORDS),
+    ];
+    for (tables, numbers, possible) in by_tables {
+        let rare = rare_numbers(numbers, possible, LEAST_OF_EACH_START);
+        if !rare.is_empty() {
+            return Err(format!("numbers of steps from a start seldom or never seen on {tables}: {rare:?}"));
+        }
+    }
+    demand_some(starts.moves, "moves by steps from a later start")?;
+    demand_some(starts.steps_of_passes, "passes that go on from the bucket told")
 }
 
 fn check_case(check: Check, case: &Case) -> Result<(), Finding> {

@@ -7,7 +7,7 @@ use crate::both::{Both, Check, Finding};
 use crate::case::{is_growing, Call, Case, Outcome};
 use crate::chain::Chain;
 use crate::plain_map::{self, PlainMap};
-use crate::stuck_items::{step_by_inserts, Step};
+use crate::stuck_items::{step_from_by_inserts, Step};
 
 /// The list lent to recoveries: longer than need be, and not zero.
 const RECOVERY_LIST: [u64; 22] = [0x0123_4567_89ab_cdef; 22];
@@ -24,6 +24,9 @@ pub struct Changed {
     pub number: u64,
     pub table: Vec<u64>,
     pub map: PlainMap,
+    pub stores: u64,
+    /// The one that a step from a start told.
+    pub bucket: u64,
 }
 
 /// Checks one change of a sound table whose map is `before`.
@@ -39,11 +42,14 @@ pub fn check_change(
     if !plain_map::answer_fits(before, event, number) {
         return Err(finding(case, format!("the plain map does not allow the answer {number}")));
     }
-    if event == Event::Step {
-        check_step(both, case, &outcome)?;
+    match event {
+        Event::Step => check_step(both, case, &outcome)?,
+        Event::StepFrom { from } => check_step_from(case, from, &outcome).map(drop)?,
+        _ => {}
     }
+    let (stores, bucket) = (outcome.stores(), outcome.bucket());
     if number != 0 {
-        return Ok(Changed { number, table: case.table.clone(), map: before.clone() });
+        return Ok(Changed { number, table: case.table.clone(), map: before.clone(), stores, bucket });
     }
     let after = plain_map::after(before, event);
     let mut change = Change { both, case, outcome: &outcome, before, after: &after };
@@ -53,20 +59,30 @@ pub fn check_change(
         }
     }
     let table = change.whole()?;
-    Ok(Changed { number, table, map: after })
+    Ok(Changed { number, table, map: after, stores, bucket })
 }
 
 /// The plain map does not tell which item a step takes; inserts do.
 fn check_step(both: &mut Both, case: &Case, outcome: &Outcome) -> Result<(), Finding> {
-    let step = step_by_inserts(&case.table)
-        .ok_or_else(|| finding(case, "no insert tells which item a step takes".to_string()))?;
+    let step = check_step_from(case, 0, outcome)?;
     both.tally.steps_of_sound_tables.count(&step);
-    let Step { number, list, .. } = step;
+    Ok(())
+}
+
+/// The bucket told is the item's own too.
+fn check_step_from(case: &Case, from: u64, outcome: &Outcome) -> Result<Step, Finding> {
+    let step = step_from_by_inserts(&case.table, from)
+        .ok_or_else(|| finding(case, "no insert tells which item a step takes".to_string()))?;
+    let Step { number, list, bucket, .. } = &step;
     let listed = outcome.list.get(..2 * outcome.stores() as usize);
-    if outcome.number == number && listed == Some(&list) {
-        return Ok(());
+    let is_told = outcome.answer.len() < 2 || outcome.bucket() == *bucket;
+    if outcome.number == *number && listed == Some(list) && is_told {
+        return Ok(step);
     }
-    Err(finding(case, format!("by inserts a step answers {number} and lists {list:?}")))
+    Err(finding(
+        case,
+        format!("by inserts a step answers {number}, lists {list:?} and tells bucket {bucket}"),
+    ))
 }
 
 /// Checks one query of a sound table whose map is `map`.
@@ -196,7 +212,7 @@ impl Change<'_, '_> {
 mod tests {
     use super::*;
     use crate::random::Random;
-    use crate::stuck_items::KINDS;
+    use crate::stuck_items::{step_by_inserts, KINDS};
     use crate::stuck_tables::history_to;
     use crate::tally::Tally;
     use crate::test_table::{table_after, table_of};
@@ -236,6 +252,23 @@ mod tests {
         let mut of_first_item = list.clone();
         of_first_item[9] = 14;
         assert!(!check(0, &of_first_item));
+    }
+
+    #[test]
+    fn a_wrong_bucket_is_found() {
+        let (setting, events) = history_to(&mut Random::new(1), KINDS[6]);
+        let table = table_after(setting, events);
+        let step = step_by_inserts(&table).unwrap();
+        let case = Case { call: Call::Change(Event::StepFrom { from: 0 }), table, list: vec![] };
+        let check = |bucket| {
+            let answer = vec![step.list.len() as u64 / 2, bucket];
+            let outcome = Outcome { number: 0, answer, table: vec![], list: step.list.clone() };
+            check_step_from(&case, 0, &outcome).is_ok()
+        };
+        assert!(step.bucket > 0 && check(step.bucket));
+        assert!(
+            [0, step.bucket - 1, step.bucket + 1].into_iter().filter(|&bucket| check(bucket)).count() == 0
+        );
     }
 
     #[test]

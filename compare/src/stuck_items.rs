@@ -98,6 +98,8 @@ pub struct Step {
     pub number: u64,
     /// The words of its list.
     pub list: Vec<u64>,
+    /// The interim bucket of its item, counted from 0 in the level; 0 with a refusal.
+    pub bucket: u64,
     /// None where there is no interim item.
     pub kind: Option<Kind>,
 }
@@ -105,19 +107,26 @@ pub struct Step {
 /// The answer of a step, found without a step: an item has a place exactly where it could be inserted if it stood nowhere, and a step is
 /// that insert, and then the item's token cleared. None where the table's words keep an insert from telling it, as no sound table's do.
 pub fn step_by_inserts(words: &[u64]) -> Option<Step> {
+    step_from_by_inserts(words, 0)
+}
+
+/// The same for a step over the interim buckets from one of them on, counted from 0 in the level.
+pub fn step_from_by_inserts(words: &[u64], from: u64) -> Option<Step> {
     let table = Table::read(words).ok()?;
-    let refused = |number, kind| Some(Step { number, list: vec![], kind });
+    let refused = |number, kind| Some(Step { number, list: vec![], bucket: 0, kind });
     let interim = match table.interim() {
         Some(interim) => interim,
         None => return refused(8, None),
     };
-    let items = table.taken_slots(&[interim]);
+    let mut items = table.taken_slots(&[interim]);
+    items.retain(|item| interim.number_of(item.bucket) >= from);
     for (index, &item) in items.iter().enumerate() {
         match insert_of(words, &table, item) {
             (SUCCESS, list) => {
                 let way = if list.len() == LEAST_LIST_WORDS { Way::Move } else { Way::FreeSlot };
                 let kind = takes(passed(&items[..index], item), way);
-                return Some(Step { number: SUCCESS, list, kind: Some(kind) });
+                let bucket = interim.number_of(item.bucket);
+                return Some(Step { number: SUCCESS, list, bucket, kind: Some(kind) });
             }
             (6, _) => {}
             _ => return None,
@@ -205,10 +214,10 @@ mod tests {
         let e10 = growing(MARKED_2, (1..16).step_by(2), 0..0);
         let list = vec![62, 9, 63, 5, 64, 5, 61, 1, 9, 14];
         let kind = Some(takes(Passed::Nothing, Way::FreeSlot));
-        assert_eq!(step_by_inserts(&e10), Some(Step { number: 0, list, kind }));
+        assert_eq!(step_by_inserts(&e10), Some(Step { number: 0, list, bucket: 0, kind }));
 
         let e11 = growing(MARKED_1, every_fourth(0, 32), every_fourth(32, 48));
-        let all_stuck = Step { number: 6, list: vec![], kind: Some(Kind::AllStuck) };
+        let all_stuck = Step { number: 6, list: vec![], bucket: 0, kind: Some(Kind::AllStuck) };
         assert_eq!(step_by_inserts(&e11), Some(all_stuck));
     }
 
@@ -219,7 +228,7 @@ mod tests {
         let mut table = growing(MARKED_1, at_rest, every_fourth(32, 48));
         let list = vec![62, 17, 63, 5, 64, 5, 61, 1, 9, 7];
         let kind = Some(takes(Passed::ItsBucket, Way::FreeSlot));
-        assert_eq!(step_by_inserts(&table), Some(Step { number: 0, list, kind }));
+        assert_eq!(step_by_inserts(&table), Some(Step { number: 0, list, bucket: 0, kind }));
 
         change(&mut table, Event::Delete { key: 40 });
         let kind = step_by_inserts(&table).and_then(|step| step.kind);
@@ -228,7 +237,7 @@ mod tests {
 
     #[test]
     fn without_interim_items_a_step_has_no_kind() {
-        let refused = |number| Some(Step { number, list: vec![], kind: None });
+        let refused = |number| Some(Step { number, list: vec![], bucket: 0, kind: None });
         let mut table = growing(MARKED_1, 0..0, 0..0);
         assert_eq!(step_by_inserts(&table), refused(11));
         change(&mut table, Event::End);
@@ -248,7 +257,7 @@ mod tests {
         let mut tally = StepTally::default();
         let kinds = [None, Some(Kind::AllStuck), Some(takes(Passed::Nothing, Way::Move))];
         for kind in kinds.into_iter().chain([Some(takes(Passed::WholeBucket, Way::FreeSlot))]) {
-            tally.count(&Step { number: 0, list: vec![], kind });
+            tally.count(&Step { number: 0, list: vec![], bucket: 0, kind });
         }
         assert_eq!((tally.unseen().len(), tally.unseen().contains(&Kind::AllStuck)), (10, false));
         assert_eq!([Way::FreeSlot, Way::Move].map(|way| tally.past_stuck_items(way)), [1, 0]);

@@ -6,6 +6,7 @@ use std::fmt::Display;
 use crate::case::{Case, Outcome};
 use crate::chain_tally::ChainTally;
 use crate::say;
+use crate::starts::StartTally;
 use crate::stuck_items::StepTally;
 
 type Counts = BTreeMap<String, u64>;
@@ -22,6 +23,7 @@ pub struct Tally {
     pub chains_of_other_words: ChainTally,
     pub steps_of_sound_tables: StepTally,
     pub steps_of_other_words: StepTally,
+    pub starts: StartTally,
     pub total_calls: u64,
     pub cuts: u64,
     pub recovery_cuts: u64,
@@ -71,7 +73,22 @@ impl Tally {
         print_counts("bad lines by kind", &self.bad_lines);
         print_counts("steps of sound tables", &self.steps_of_sound_tables.kinds);
         print_counts("steps of other words", &self.steps_of_other_words.kinds);
+        self.print_starts();
         self.print_chains();
+    }
+
+    fn print_starts(&self) {
+        let starts = &self.starts;
+        print_counts("steps from a start, of sound tables", &starts.kinds);
+        print_counts("their numbers on cut tables", &starts.of_cut_tables);
+        print_counts("on recovered tables", &starts.of_recovered_tables);
+        print_counts("on other words", &starts.of_other_words);
+        if starts.passes > 0 {
+            say!(
+                "passes that go on from the bucket told: {}, of {} steps; moves by steps from a later start: {}",
+                starts.passes, starts.steps_of_passes, starts.moves
+            );
+        }
     }
 
     fn print_chains(&self) {

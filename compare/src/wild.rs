@@ -8,6 +8,7 @@ use crate::damage::few_depths_of_one_address;
 use crate::history::any_item;
 use crate::random::Random;
 use crate::random_chains::{chain_near, lent_words};
+use crate::starts::{any_start, count_number};
 
 /// Creations, makings and all other calls.
 pub fn wild_calls(random: &mut Random, both: &mut Both) -> Result<(), Finding> {
@@ -26,10 +27,19 @@ pub fn wild_calls(random: &mut Random, both: &mut Both) -> Result<(), Finding> {
         Call::Change(Event::Recover),
     ]);
     both.run(&Case { call, table, list: any_list(random) })?;
+    let step = wild_step(random);
+    let number = both.run(&step)?.number;
+    count_number(&mut both.tally.starts.of_other_words, number);
     let chain = wild_chain(random);
     let number = both.run(&chain)?.number;
     both.tally.chains_of_other_words.count(&chain, number);
     Ok(())
+}
+
+fn wild_step(random: &mut Random) -> Case {
+    let table = wild_table(random);
+    let from = any_start(random, &table);
+    Case { call: Call::Change(Event::StepFrom { from }), list: any_list(random), table }
 }
 
 fn wild_chain(random: &mut Random) -> Case {

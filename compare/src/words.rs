@@ -7,11 +7,13 @@ use crate::both::{Both, Finding};
 use crate::case::{is_growing, Call, Case};
 use crate::chain::{key_of, Chain};
 use crate::damage;
+use crate::going_on::{try_made_tables, try_pass, try_starts, try_starts_after_a_cut, Sound};
 use crate::history::{next_event, Keys, Mood, Setting};
 use crate::plain_map::PlainMap;
 use crate::random::Random;
 use crate::random_chains::{chain_near, chains_of_history, lent_words, longest_chain};
 use crate::sound_tables::{check_chain, check_change, check_query, Changed, Depth};
+use crate::starts::{any_start, count_number};
 use crate::stuck_items::{step_by_inserts, Kind};
 use crate::stuck_tables::{history_to, kinds_before};
 use crate::wild::{any_list, wild_calls};
@@ -25,6 +27,13 @@ const LONGEST_CHAIN_ONE_IN: u64 = 4;
 const CAPACITIES_OF_LONGEST_CHAIN: [u64; 2] = [6, 7];
 const EVENTS_OF_LONGEST_CHAIN: u64 = 20;
 
+/// A run begins with so many tables made for each kind of step: few histories would not meet every kind of start.
+const FIRST_TABLES_OF_EACH_KIND: u64 = 10;
+
+/// One event in so many is followed by steps from every start, or by a pass, of tables that grow.
+const STARTS_ONE_IN: u64 = 8;
+const PASS_ONE_IN: u64 = 20;
+
 /// So often room is made for stuck items.
 const ROOM_MADE: u64 = 3;
 const EVENTS_OF_STUCK_ITEMS: u64 = 5;
@@ -33,6 +42,7 @@ const EVENTS_OF_STUCK_ITEMS: u64 = 5;
 pub fn run(seed: u64, calls: u64, both: &mut Both) -> Result<(), Finding> {
     let mut random = Random::new(seed);
     let enough = both.tally.total_calls + calls;
+    try_made_tables(&mut random, both, FIRST_TABLES_OF_EACH_KIND)?;
     for number in 0.. {
         if both.tally.total_calls >= enough {
             break;
@@ -84,9 +94,11 @@ fn history_of_stuck_items(
     for event in events {
         history.change(both, event, Depth::WholeOnly)?;
     }
+    history.go_on(both)?;
     history.step_past_stuck_items(both)?;
     for _ in 0..ROOM_MADE {
         history.delete_one_of_top_and_bottom(both)?;
+        history.go_on(both)?;
         history.step_past_stuck_items(both)?;
     }
     history.play(both, EVENTS_OF_STUCK_ITEMS, enough_calls)
@@ -103,6 +115,8 @@ struct History {
     table: Vec<u64>,
     map: PlainMap,
     last_number: u64,
+    /// By the last step from a start.
+    told: u64,
 }
 
 impl History {
@@ -120,7 +134,17 @@ impl History {
         keys.add(chains.iter().flat_map(|chain| chain.keys()));
         let mut random = Random::new(random.word());
         let mood = Mood::random(&mut random);
-        Ok(History { random, setting, keys, chains, mood, table, map: PlainMap::new(), last_number: 0 })
+        Ok(History {
+            random,
+            setting,
+            keys,
+            chains,
+            mood,
+            table,
+            map: PlainMap::new(),
+            last_number: 0,
+            told: 0,
+        })
     }
 
     fn play(&mut self, both: &mut Both, events: u64, enough_calls: u64) -> Result<(), Finding> {
@@ -131,6 +155,7 @@ impl History {
             self.one_event(both)?;
             self.some_queries(both)?;
             self.some_chains(both)?;
+            self.some_starts(both)?;
             if self.random.one_in(4) {
                 self.damaged_calls(both)?;
                 wild_calls(&mut self.random, both)?;
@@ -143,10 +168,23 @@ impl History {
     }
 
     fn one_event(&mut self, both: &mut Both) -> Result<(), Finding> {
-        let event = next_event(&mut self.random, &self.table, &self.keys, self.mood, self.last_number);
+        let event = match self.next_event() {
+            Event::Step if self.random.one_in(2) => self.next_step_from(),
+            event => event,
+        };
         let shallow = self.setting.c >= LARGE_CAPACITY && !self.random.one_in(30);
         let depth = if shallow { Depth::WholeOnly } else { Depth::EveryCut };
         self.change(both, event, depth)
+    }
+
+    fn next_event(&mut self) -> Event {
+        next_event(&mut self.random, &self.table, &self.keys, self.mood, self.last_number)
+    }
+
+    /// Mostly from the bucket told, as a growth goes on.
+    fn next_step_from(&mut self) -> Event {
+        let from = if self.random.one_in(4) { any_start(&mut self.random, &self.table) } else { self.told };
+        Event::StepFrom { from }
     }
 
     fn change(&mut self, both: &mut Both, event: Event, depth: Depth) -> Result<(), Finding> {
@@ -154,6 +192,9 @@ impl History {
         self.table = changed.table;
         self.map = changed.map;
         self.last_number = changed.number;
+        if matches!(event, Event::StepFrom { .. }) {
+            self.told = changed.bucket;
+        }
         Ok(())
     }
 
@@ -173,6 +214,44 @@ impl History {
             check_query(both, &case, key, &self.map)?;
         }
         Ok(())
+    }
+
+    /// Where the table grows: now and then from every start, and on from each bucket told.
+    fn some_starts(&mut self, both: &mut Both) -> Result<(), Finding> {
+        if self.random.one_in(STARTS_ONE_IN) {
+            self.try_starts(both)?;
+        }
+        if self.random.one_in(PASS_ONE_IN) {
+            self.try_pass(both)?;
+        }
+        Ok(())
+    }
+
+    fn go_on(&mut self, both: &mut Both) -> Result<(), Finding> {
+        self.try_pass(both)?;
+        self.try_starts(both)
+    }
+
+    fn try_pass(&mut self, both: &mut Both) -> Result<(), Finding> {
+        try_pass(&mut self.random, both, Sound { table: &self.table, map: &self.map }).map(drop)
+    }
+
+    fn try_starts(&mut self, both: &mut Both) -> Result<(), Finding> {
+        let sound = Sound { table: &self.table, map: &self.map };
+        try_starts(&mut self.random, both, sound, self.told)?;
+        let event = self.change_to_cut();
+        try_starts_after_a_cut(&mut self.random, both, &self.table, event, self.told)
+    }
+
+    /// Any change; often a step, or an update, which may leave its flag set.
+    fn change_to_cut(&mut self) -> Event {
+        let key = self.keys.pick_likely(&mut self.random, &self.table);
+        let (function, place) = (self.random.any_word(), self.random.any_word());
+        match self.random.below(3) {
+            0 => self.next_event(),
+            1 => self.next_step_from(),
+            _ => Event::Update { key, function, place },
+        }
     }
 
     /// One that may be there, and now and then one that is put in.
@@ -292,6 +371,9 @@ impl History {
             if call == Call::Change(Event::Step) && [SUCCESS, 6].contains(&outcome.number) {
                 step_by_inserts(&table).iter().for_each(|step| both.tally.steps_of_other_words.count(step));
             }
+            if matches!(call, Call::Change(Event::StepFrom { .. })) {
+                count_number(&mut both.tally.starts.of_other_words, outcome.number);
+            }
             let listed = matches!(call, Call::Change(_)) && outcome.number == 0;
             if listed && self.random.one_in(4) {
                 // The damage lives on under the next calls.
@@ -305,6 +387,7 @@ impl History {
     fn every_call(&mut self, table: &[u64]) -> Vec<Call> {
         let (absent, also_absent) = (self.random.word(), self.random.word());
         let chains = [self.likely_chain(table), self.likely_chain(table)];
+        let (from, also_from) = (any_start(&mut self.random, table), any_start(&mut self.random, table));
         let mut key = || self.keys.pick_likely(&mut self.random, table);
         let (function, place) = (key(), key());
         let mut calls = vec![Call::Query { key: key() }, Call::Query { key: key() }];
@@ -317,6 +400,8 @@ impl History {
             Event::Delete { key: key() },
             Event::Begin,
             Event::Step,
+            Event::StepFrom { from },
+            Event::StepFrom { from: also_from },
             Event::End,
         ];
         calls.extend(events.map(Call::Change));
