@@ -156,7 +156,8 @@ impl<W: AsRef<[u64]> + AsMut<[u64]>, P: Platform> Table<W, P> {
         (self.words, self.platform)
     }
 
-    /// A change after which the growth driver begins at the first bucket again.
+    /// A change after which the growth driver begins at the first bucket again: of another interim level, or because a step that was cut
+    /// may have left room for an item that was passed.
     fn change_and_forget_hint(
         &mut self,
         list: fn(&[u64]) -> Result<StoreList, Refusal>,
