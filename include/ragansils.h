@@ -175,8 +175,9 @@ uint64_t ragansils_step(const uint64_t *table, size_t words, uint64_t *list, siz
  * level; with 0 it is the step itself. answer[0] is the number of stores, 5 or 10. answer[1] is the bucket in which the item stood, counted
  * the same: the next step may go on from there. With a refusal both are 0. Refusals 1 to 3, 6, 8, 11.
  *
- * 11 and 6 speak of the items from there on only: 11 where there are none, 6 where there are some and none has a place. Any word may be
- * handed in as from; past the level there are no items, so that is 11.
+ * 11 and 6 speak of the items from there on only: 11 where there are none, 6 where there are some and none has a place. So after 11 from
+ * a later bucket, items without a place may be left before it: then end answers 10. Any word may be handed in as from; past the level there
+ * are no items, so that is 11.
  *
  * No step gives a place to an interim item that had none. So where no other call comes between, one pass, from 0 and on from each bucket
  * told, places all items that have a place. Begin again at 0 only where another call has changed the table since: a delete may have made
