@@ -1,4 +1,4 @@
-/* Growth in small steps: begin, step and end. */
+/* Growth in small steps: begin, the two steps and end. */
 #include "placing.h"
 #include "table.h"
 #include "twin.h"
@@ -21,12 +21,20 @@ static inline struct spot interim_from(struct table *t, struct spot from)
     return (struct spot){b, __builtin_ctz(taken)};
 }
 
-static struct spot first_interim(struct table *t)
+static inline struct bucket *first_interim_bucket(struct table *t)
 {
-    return interim_from(t, (struct spot){&t->buckets[interim_size(t) - 1], 0});
+    return &t->buckets[interim_size(t) - 1];
 }
 
-/* The first tests of step and end: then 8. */
+/* The first taken interim slot from a bucket on, counted from 0 in the level. Any number is a start; past the level there is none. */
+static inline struct spot first_interim_from(struct table *t, uint64_t from)
+{
+    if (from >= interim_size(t))
+        return (struct spot){NULL, 0};
+    return interim_from(t, (struct spot){first_interim_bucket(t) + from, 0});
+}
+
+/* The first tests of the steps and of end: then 8. */
 static inline enum ragansils_refusal growing_tests(const struct table *t, size_t words)
 {
     enum ragansils_refusal refusal = first_tests(t, words);
@@ -49,25 +57,34 @@ uint64_t twin_begin(uint64_t *table, size_t words)
     return RAGANSILS_DONE;
 }
 
-/* Moves the first interim item that has a place. */
-uint64_t twin_step(uint64_t *table, size_t words)
+uint64_t twin_step_from(uint64_t *table, size_t words, uint64_t from, uint64_t *bucket)
 {
     struct table *t = (struct table *)table;
+    *bucket = 0;
     enum ragansils_refusal refusal = growing_tests(t, words);
     if (refusal != RAGANSILS_DONE)
         return refusal;
-    struct spot spot = first_interim(t);
+    struct spot spot = first_interim_from(t, from);
     if (spot.bucket == NULL)
         return RAGANSILS_INTERIM_EMPTY;
     do {
         struct slot item = spot.bucket->slots[spot.slot];
+        /* Read before the item is stored: where that goes is known only once its top buckets have come out of memory. */
+        unsigned left = taken_in(spot.bucket) & ~(1u << spot.slot);
         if (place_item(t, item, hashes_of(t, item.key))) {
-            clear_slot(spot.bucket, spot.slot);
+            spot.bucket->token = left;
+            *bucket = spot.bucket - first_interim_bucket(t);
             return RAGANSILS_DONE;
         }
         spot = interim_from(t, (struct spot){spot.bucket, spot.slot + 1});
     } while (spot.bucket != NULL);
     return RAGANSILS_NO_PLACE;
+}
+
+uint64_t twin_step(uint64_t *table, size_t words)
+{
+    uint64_t bucket;
+    return twin_step_from(table, words, 0, &bucket);
 }
 
 uint64_t twin_end(uint64_t *table, size_t words)
@@ -76,7 +93,7 @@ uint64_t twin_end(uint64_t *table, size_t words)
     enum ragansils_refusal refusal = growing_tests(t, words);
     if (refusal != RAGANSILS_DONE)
         return refusal;
-    if (first_interim(t).bucket != NULL)
+    if (first_interim_from(t, 0).bucket != NULL)
         return RAGANSILS_INTERIM_TAKEN;
     t->state = top_exponent(t);
     return RAGANSILS_DONE;

@@ -28,6 +28,10 @@ uint64_t twin_begin(uint64_t *table, size_t words);
 uint64_t twin_step(uint64_t *table, size_t words);
 uint64_t twin_end(uint64_t *table, size_t words);
 
+/* The step over the interim buckets from one of them on, counted from 0 in the level. *bucket is the one in which the item stood, counted
+ * the same, and 0 with a refusal. */
+uint64_t twin_step_from(uint64_t *table, size_t words, uint64_t from, uint64_t *bucket);
+
 uint64_t twin_recover(uint64_t *table, size_t words);
 
 /*

@@ -10,6 +10,8 @@ use ragansils_compare::stuck_tables::{history_to, kinds_before};
 use ragansils_model::{table_words, Event, SUCCESS};
 use ragansils_twin::{ListingTwin, Proved, Side, Twin};
 
+use crate::starts::{answer_after_pass, interim_items, interim_size, Start, StartTally};
+
 /// What a run has met.
 #[derive(Default)]
 pub struct Seen {
@@ -21,6 +23,8 @@ pub struct Seen {
     pub flagged: u64,
     /// Steps of sound tables, by the stuck items that they came past.
     pub steps: StepTally,
+    /// Steps that go on, by where they start.
+    pub starts: StartTally,
 }
 
 /// Makes at least so many calls of each side, or says where they differ.
@@ -47,9 +51,36 @@ fn play_past_stuck_items(random: &mut Random, kind: Kind, seen: &mut Seen) -> Re
     for event in events {
         history.change(seen, event)?;
     }
+    one_pass(seen, &history.table)?;
     while history.last_number == SUCCESS {
         history.damaged(seen)?;
         history.change(seen, Event::Step)?;
+    }
+    Ok(())
+}
+
+/// One pass over a growing table, in which each step goes on from the bucket told: it places every item that has a place, whatever stuck
+/// items stand before it, and so the step after it is refused.
+fn one_pass(seen: &mut Seen, growing: &[u64]) -> Result<(), String> {
+    let items = interim_items(growing);
+    let (mut start, mut from, mut moved, mut table) = (Start::First, 0, 0, growing.to_vec());
+    loop {
+        let (number, bucket, after) = both_step_from(seen, &table, start, from)?;
+        if number != SUCCESS {
+            break;
+        }
+        if bucket < from {
+            return Err(format!("a step from {from} tells bucket {bucket}; table before: {table:?}"));
+        }
+        (start, from, moved, table) = (Start::Told, bucket, moved + 1, after);
+    }
+    let left = interim_items(&table);
+    let (number, _) = both_change(seen, &table, Event::Step)?;
+    seen.starts.count_pass(left);
+    if moved + left != items || number != answer_after_pass(left) {
+        return Err(format!(
+            "a pass moves {moved} of {items} items, leaves {left}, and a step then answers {number}; table before: {growing:?}"
+        ));
     }
     Ok(())
 }
@@ -100,7 +131,26 @@ impl History {
         }
         self.some_cut(seen, event)?;
         (self.last_number, self.table) = both_change(seen, &self.table, event)?;
+        self.some_start(seen)?;
         self.query(seen, &self.table.clone())
+    }
+
+    /// A step from some start on a copy of the table, and one that goes on from the bucket told.
+    fn some_start(&mut self, seen: &mut Seen) -> Result<(), String> {
+        let is_growing = interim_size(&self.table).is_some();
+        // At rest there is one answer, and it need not be met often.
+        if !is_growing && !self.random.one_in(20) {
+            return Ok(());
+        }
+        if is_growing && self.random.one_in(20) {
+            one_pass(seen, &self.table)?;
+        }
+        let (start, from) = Start::random(&mut self.random, &self.table);
+        let (number, bucket, after) = both_step_from(seen, &self.table, start, from)?;
+        if number == SUCCESS {
+            both_step_from(seen, &after, Start::Told, bucket)?;
+        }
+        Ok(())
     }
 
     fn query(&mut self, seen: &mut Seen, table: &[u64]) -> Result<(), String> {
@@ -139,6 +189,8 @@ impl History {
         for event in events {
             both_change(seen, &table, event)?;
         }
+        let (start, from) = Start::random(&mut self.random, &table);
+        both_step_from(seen, &table, start, from)?;
         both_query(seen, &table, key)
     }
 }
@@ -173,6 +225,34 @@ fn both_change(seen: &mut Seen, table: &[u64], event: Event) -> Result<(u64, Vec
     let what = || format!("{event:?}");
     let by_both = same(what, table, by_library, changed(&mut Twin, table, event))?;
     same(what, table, by_both, changed(&mut ListingTwin::default(), table, event))
+}
+
+/// The number, the bucket told and the table after it.
+fn both_step_from(
+    seen: &mut Seen,
+    table: &[u64],
+    start: Start,
+    from: u64,
+) -> Result<(u64, u64, Vec<u64>), String> {
+    let what = || format!("step_from {from}");
+    let (number, bucket, by_library) = stepped(&mut Proved::default(), table, from);
+    let (twin_number, twin_bucket, by_twin) = stepped(&mut Twin, table, from);
+    seen.note(number);
+    seen.starts.count(start, number);
+    let (number, after) = same(what, table, (number, by_library), (twin_number, by_twin))?;
+    if bucket != twin_bucket {
+        return Err(format!(
+            "{}: the library tells bucket {bucket}, the twin {twin_bucket}; table before: {table:?}",
+            what()
+        ));
+    }
+    Ok((number, bucket, after))
+}
+
+fn stepped(side: &mut impl Side, table: &[u64], from: u64) -> (u64, u64, Vec<u64>) {
+    let mut words = table.to_vec();
+    let (number, bucket) = side.step_from(&mut words, from);
+    (number, bucket, words)
 }
 
 /// What a side answers, and the words that it leaves.

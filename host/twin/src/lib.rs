@@ -24,4 +24,8 @@ pub trait Side {
 
     /// Brings the table to what it is after the whole event.
     fn change(&mut self, table: &mut [u64], event: Event) -> u64;
+
+    /// The same of the step over the interim buckets from one of them on, counted from 0 in the level: the number, and the bucket in
+    /// which the item stood, counted the same.
+    fn step_from(&mut self, table: &mut [u64], from: u64) -> (u64, u64);
 }

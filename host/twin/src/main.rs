@@ -1,6 +1,7 @@
 //! `twin-check SEED CALLS`: the twin answers and writes as the proved library does.
 
 mod check;
+mod starts;
 
 use std::process::ExitCode;
 
@@ -10,6 +11,8 @@ use ragansils_twin::TWIN_COMPILER;
 
 /// From so many calls on, an answer or a kind of step that never came fails the run: it would have compared too little.
 const TELLING_CALLS: u64 = 100_000;
+/// Among so many calls each answer of a step from each kind of start is met so often at least.
+const LEAST_OF_EACH_START: u64 = 15;
 
 fn main() -> ExitCode {
     program::run(|arguments| run(arguments).map(|report| say!("{report}")))
@@ -33,14 +36,23 @@ fn run(arguments: &[String]) -> Result<String, String> {
     if calls >= TELLING_CALLS && !missing_steps.is_empty() {
         return Err(format!("seed {seed}: never met: steps {missing_steps:?}"));
     }
+    let least = calls / TELLING_CALLS * LEAST_OF_EACH_START;
+    let rare_starts = seen.starts.rare(least);
+    if !rare_starts.is_empty() {
+        return Err(format!("seed {seed}: steps that go on, met less than {least} times: {rare_starts:?}"));
+    }
     Ok(format!(
         "{} calls of the twin ({TWIN_COMPILER}) and of the proved library: the same answers and words; seed {seed}; \
-         {} doubled and {} flagged tables recovered; steps past stuck items: {} to a free slot, {} by a move",
+         {} doubled and {} flagged tables recovered; steps past stuck items: {} to a free slot, {} by a move; \
+         {} steps from some start; passes that went on: {} to the end, {} with stuck items left",
         seen.calls,
         seen.doubled,
         seen.flagged,
         seen.steps.past_stuck_items(Way::FreeSlot),
-        seen.steps.past_stuck_items(Way::Move)
+        seen.steps.past_stuck_items(Way::Move),
+        seen.starts.steps(),
+        seen.starts.passes_to_the_end,
+        seen.starts.passes_with_items_left
     ))
 }
 

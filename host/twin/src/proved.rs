@@ -23,7 +23,19 @@ impl Proved {
         unsafe { list_event(event, words, length, list, list_length, stores) }
     }
 
-    /// The number of stores that the last event listed.
+    /// Lists the stores of a step from an interim bucket on; answers its number and the bucket told.
+    #[inline(always)]
+    pub fn list_step_from(&mut self, table: &[u64], from: u64) -> (u64, u64) {
+        let (words, length) = (table.as_ptr(), table.len());
+        let (list, list_length, mut answer) = (self.list.as_mut_ptr(), self.list.len(), [u64::MAX; 2]);
+        // SAFETY: each pointer is valid for the length beside it, the answer has two words, and no two buffers overlap.
+        let number = unsafe { raw::ragansils_step_from(words, length, from, list, list_length, &mut answer) };
+        let [stores, bucket] = answer;
+        self.stores = stores;
+        (number, bucket)
+    }
+
+    /// The number of stores that the last change listed.
     pub fn stores(&self) -> u64 {
         self.stores
     }
@@ -67,6 +79,14 @@ impl Side for Proved {
         match self.list_stores(table, event) {
             SUCCESS => self.make(table, self.stores),
             number => number,
+        }
+    }
+
+    #[inline(always)]
+    fn step_from(&mut self, table: &mut [u64], from: u64) -> (u64, u64) {
+        match self.list_step_from(table, from) {
+            (SUCCESS, bucket) => (self.make(table, self.stores), bucket),
+            refused => refused,
         }
     }
 }

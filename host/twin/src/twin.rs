@@ -17,6 +17,7 @@ mod raw {
         pub fn twin_delete(table: *mut u64, words: usize, key: u64) -> u64;
         pub fn twin_begin(table: *mut u64, words: usize) -> u64;
         pub fn twin_step(table: *mut u64, words: usize) -> u64;
+        pub fn twin_step_from(table: *mut u64, words: usize, from: u64, bucket: *mut u64) -> u64;
         pub fn twin_end(table: *mut u64, words: usize) -> u64;
         pub fn twin_recover(table: *mut u64, words: usize) -> u64;
         pub fn twin_list_insert(
@@ -62,10 +63,20 @@ impl Side for Twin {
                 Event::Delete { key } => raw::twin_delete(words, length, key),
                 Event::Begin => raw::twin_begin(words, length),
                 Event::Step => raw::twin_step(words, length),
+                Event::StepFrom { from } => raw::twin_step_from(words, length, from, &mut 0),
                 Event::End => raw::twin_end(words, length),
                 Event::Recover => raw::twin_recover(words, length),
             }
         }
+    }
+
+    #[inline(always)]
+    fn step_from(&mut self, table: &mut [u64], from: u64) -> (u64, u64) {
+        // No bucket, so that one which is not told is seen.
+        let mut bucket = u64::MAX;
+        // SAFETY: the table's pointer is valid for the length beside it, and the bucket is a word of its own.
+        let number = unsafe { raw::twin_step_from(table.as_mut_ptr(), table.len(), from, &mut bucket) };
+        (number, bucket)
     }
 }
 
@@ -99,5 +110,9 @@ impl Side for ListingTwin {
                 number => number,
             }
         }
+    }
+
+    fn step_from(&mut self, table: &mut [u64], from: u64) -> (u64, u64) {
+        Twin.step_from(table, from)
     }
 }
