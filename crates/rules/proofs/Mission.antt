@@ -15,7 +15,7 @@ use Rattle.rules.proofs.Calls.StepPlacing.{stepIsACall}
 use Rattle.rules.proofs.Calls.StepSentences.{stepTakesTheFirst, noItemBlocks, sixExactly, elevenExactly, sixIsNotEleven}
 use Rattle.rules.proofs.Calls.StepSentences.{takesTheFirstFrom, elevenFromExactly, sixFromExactly}
 use Rattle.rules.proofs.Calls.StepFromSentences.{stepFromIsACall, zeroIsTheStep, refusedTellsZero, pastTheLevel, asTheStep}
-use Rattle.rules.proofs.Calls.StuckItems.{stuckStaysStuck}
+use Rattle.rules.proofs.Calls.StuckItems.{stuckStaysStuck, insertsGiveNoPlace}
 use Rattle.rules.proofs.Growth.Passes.{passEnds, passPlacesAll, passLooksAtFew}
 use Rattle.rules.proofs.Calls.Inside.{storesInside, tokenStoresLow}
 use Rattle.rules.proofs.Calls.Inserting.{insertAnswers}
@@ -107,6 +107,7 @@ goesOn =
       pastTheLevel = pastTheLevel;
       asTheStep = asTheStep;
       stuckStaysStuck = stuckStaysStuck;
+      insertsGiveNoPlace = insertsGiveNoPlace;
       passEnds = passEnds;
       passPlacesAll = passPlacesAll;
       passLooksAtFew = passLooksAtFew;

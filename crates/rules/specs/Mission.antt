@@ -10,7 +10,7 @@ use Rattle.rules.specs.Demands.{MakeTakesTheList, CutsAreSafe, RecoveryM
 use Rattle.rules.specs.Demands.{ProbesAreDistinct}
 use Rattle.rules.specs.ChainSentences.{ChainRefusals, ChainWrites, ChainCounts, ChainLooksAtFew, ChainAnswers, ChainsAfterCuts}
 use Rattle.rules.specs.StepFromSentences.{StepFromIsACall, ZeroIsTheStep, TakesTheFirstFrom, ElevenFromExactly, SixFromExactly}
-use Rattle.rules.specs.StepFromSentences.{RefusedTellsZero, PastTheLevel, AsTheStep, StuckStaysStuck, PassEnds, PassPlacesAll, PassLooksAtFew}
+use Rattle.rules.specs.StepFromSentences.{RefusedTellsZero, PastTheLevel, AsTheStep, StuckStaysStuck, InsertsGiveNoPlace, PassEnds, PassPlacesAll, PassLooksAtFew}
 use Rattle.rules.specs.StepSentences.{StepTakesTheFirst, NoItemBlocks, SixExactly, ElevenExactly, SixIsNotEleven}
 
 pub record Demand1 : Type 0 where
@@ -104,6 +104,8 @@ pub record GoesOn : Type 0 where
   -- "where no interim item stands before the start, it answers as the step does; a step gives no place to an item that had none"
   pub asTheStep : AsTheStep
   pub stuckStaysStuck : StuckStaysStuck
+  -- "Inserts never go to the interim level, so what was passed once stays passed."
+  pub insertsGiveNoPlace : InsertsGiveNoPlace
   -- "with no other call between, one pass that goes on from the bucket told ends with an empty interim level or with items left of which none
   -- has a place"
   pub passEnds : PassEnds

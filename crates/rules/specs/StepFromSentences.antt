@@ -17,13 +17,14 @@ use Rattle.rules.specs.Placing.{placing}
 use Rattle.rules.specs.Stores.{Store, made}
 use Rattle.rules.specs.Soundness.{SoundTable}
 use Rattle.rules.specs.Answers.{numberOf, steppedFromMeans}
-use Rattle.rules.specs.Calls.{refused, listed, interimItems, interimBucket, hasPlace, stepFrom, step, outcome}
+use Rattle.rules.specs.Calls.{refused, listed, interimItems, interimBucket, hasPlace, insert, stepFrom, step, outcome}
 use Rattle.rules.specs.Results.{changeResult, stepFromResult, stepResult}
 use Rattle.rules.specs.NoPlace.{NoPlaceFor}
 use Rattle.rules.specs.Histories.{whole, after, Accepted}
 use Rattle.rules.specs.Demands.{Growing, InterimItem, None, NoInterim, InterimFrom, FirstWithPlace, NoneHasPlace, StepWritten}
 use Rattle.rules.specs.StepSentences.{MayStep}
 use Rattle.rules.specs.declared.Header.{Header}
+use Rattle.rules.specs.declared.Record.{Record}
 use Rattle.rules.specs.declared.Slot.{Slot}
 use Rattle.rules.specs.declared.Refusal.{Refusal}
 use Rattle.rules.specs.declared.Refusal.the-variants.{NoPlace, InterimEmpty}
@@ -95,6 +96,13 @@ abbrev pub StuckStaysStuck : Type 0
 StuckStaysStuck =
     (t : Table) (n b : ℕ) (stores : List Store) → SoundTable t → outcome t n (stepFrom b) ≡ listed stores
     → (key : ℕ) → NoPlaceFor t (headerOf t) key → NoPlaceFor (made t stores) (headerOf (made t stores)) key
+
+-- "Inserts never go to the interim level, so what was passed once stays passed": and they give no place to what had none
+abbrev pub InsertsGiveNoPlace : Type 0
+InsertsGiveNoPlace =
+    (t : Table) (n key : ℕ) (r : Record) (stores : List Store) → SoundTable t → outcome t n (insert key r) ≡ listed stores
+    → ((x : Slot) → InterimItem (made t stores) x ↔ InterimItem t x)
+    × ((other : ℕ) → NoPlaceFor t (headerOf t) other → NoPlaceFor (made t stores) (headerOf (made t stores)) other)
 
 -- ==== "with no other call between, one pass that goes on from the bucket told"
 

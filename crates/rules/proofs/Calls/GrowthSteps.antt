@@ -40,7 +40,7 @@ pub not-interim : (x : Slot) → Settled x → x .level ≡ interim → ⊥
 not-interim x (inl e) f = omega arith
 not-interim x (inr e) f = omega arith
 
-slot-same : (x y : Slot) → Dec (x ≡ y)
+pub slot-same : (x y : Slot) → Dec (x ≡ y)
 slot-same x y = go (ℕ-discrete (x .level) (y .level)) (ℕ-discrete (x .bucket) (y .bucket)) (ℕ-discrete (x .slot) (y .slot))
   where
     go : Dec (x .level ≡ y .level) → Dec (x .bucket ≡ y .bucket) → Dec (x .slot ≡ y .slot) → Dec (x ≡ y)

@@ -14,7 +14,7 @@ use Rattle.rules.specs.declared.Slot.{Slot}
 use Rattle.rules.proofs.Words.Made.{made-append}
 use Rattle.rules.proofs.Carrying.Carried.{carried-stays, carried-stood}
 use Rattle.rules.proofs.Carrying.Moving.{Nothing, Only}
-use Rattle.rules.proofs.Carrying.Putting.{SoundMap, TwinMap, put-writes, put-carries, put-twin, clear-writes, clear-bit, clear-carries, clear-twin}
+use Rattle.rules.proofs.Carrying.Putting.{SoundMap, TwinMap, put-writes, put-stays, put-stood, put-twin, clear-writes, clear-bit, clear-carries, clear-twin}
 
 pub record AfterMove (t u : Table) (m : PlainMap) (from to : Slot) : Type 0 where
   pub whole : SoundMap u m
@@ -60,12 +60,11 @@ module _ (t : Table) (m : PlainMap) (whole : SoundMap t m) (from to : Slot) (ite
       let put = put-writes t m whole to here free key r among in
       let hidden = clear-writes copied (twin .orderly) from (twin .first) in
       let bit = clear-bit copied (twin .orderly) from (twin .first) in
-      let gain = put-carries t m whole to here free key r among in
       let loss = clear-carries copied (twin .orderly) from (twin .first) in
       let good-cleared : GoodState (h .c) (headerOf cleared .state) = rw (hidden .near .header) good-copied in
       let keep = carried-stays copied cleared (Only from) Nothing loss (h .c) good-cleared (hidden .near .header) in
-      let first = carried-stays t copied Nothing (Only to) gain (h .c) good-copied (put .near .header) in
-      let stood-before = carried-stood t copied Nothing (Only to) gain (h .c) good-copied (put .near .header) in
+      let first = put-stays t m whole to here free key r among in
+      let stood-before = put-stood t m whole to here free key r among in
       let stood-after = carried-stood copied cleared (Only from) Nothing loss (h .c) good-cleared (hidden .near .header) in
       record {
         whole = clear-twin copied (twin .orderly) from (twin .first) m (twin .map) to twin .whole;
@@ -75,13 +74,13 @@ module _ (t : Table) (m : PlainMap) (whole : SoundMap t m) (from to : Slot) (ite
         tokens = λ j d e. hidden .near .tokens j d ∙ put .near .tokens j e;
         arrived = let k = keep to (twin .second) (twin .apart) in (k .0, k .1 ∙ put .key, k .2 ∙ put .value);
         stays = λ y a n.
-            let f = first y a (λ g. g) in
+            let f = first y a in
             let k = keep y (f .0) n in
             (k .0, k .1 ∙ f .1, k .2 ∙ f .2);
         stood = λ y a.
             ⊎-elim (λ (n : Nothing y). absurd n)
             (λ (b : (y ≡ from → ⊥) × TakenSlot copied y).
-            ⊎-elim (λ (e : y ≡ to). inl e) (λ (c : (Nothing y → ⊥) × TakenSlot t y). inr (b .0, c .1)) (stood-before y (b .1)))
+            ⊎-elim (λ (e : y ≡ to). inl e) (λ (c : TakenSlot t y). inr (b .0, c)) (stood-before y (b .1)))
             (stood-after y a);
       }
 

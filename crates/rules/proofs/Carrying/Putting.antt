@@ -6,7 +6,7 @@ use Prim.Native.Nat.{ℕ, _+_, _*_, _≤_, _<_}
 use mathlib.Core.Path.{_≡_, refl, sym, ap, _∙_}
 use mathlib.Core.Bool.{true, false}
 use mathlib.Core.List.{_++_, List·Memᴰ as In}
-use mathlib.Core.Logic.{_⊎_, inl, inr}
+use mathlib.Core.Logic.{_⊎_, inl, inr, ⊎-elim}
 use mathlib.Core.Option.{none, some}
 use lib.ListN.{length}
 use Rattle.rules.specs.Words.{Table, GoodState, headerOf, InUse, placeOf, keyWord, keyIn, recordIn, tokenOf, keysOf, isTaken, taken, show, hide}
@@ -22,7 +22,7 @@ use Rattle.rules.proofs.Words.Tokens.{Bit, Follows, show-bit, hide-bit,
 use Rattle.rules.proofs.Words.SlotsInUse.{slots-of-place}
 use Rattle.rules.proofs.Places.PlacesInUse.{slot-within, place-of-slot, slot-of-place}
 use Rattle.rules.proofs.Places.Lookups.{placed-in}
-use Rattle.rules.proofs.Carrying.Carried.{Carry, Carried, Alone, carry-same, carried-stays}
+use Rattle.rules.proofs.Carrying.Carried.{Carry, Carried, Alone, carry-same, carried-stays, carried-stood}
 use Rattle.rules.proofs.Carrying.Moving.{Nothing, Only, map-misses, set-alone, set-map, cleared-alone, cleared-map, copied-map, dropped-map}
 use Rattle.rules.proofs.Carrying.Moving.{dropped-alone}
 use Rattle.rules.proofs.Carrying.SlotChanged.{good-after, shown-after, put-carried, clear-carried, rewrite-carried, beside-carried}
@@ -73,8 +73,19 @@ module _ (t : Table) (m : PlainMap) (whole : SoundMap t m) where
     pub put-carries : Carried t put Nothing (Only x)
     put-carries = put-carried 0 t put x _ key r orderly here put-writes bit free
 
-    put-shown : TakenSlot put x
+    pub put-shown : TakenSlot put x
     put-shown = shown-after 0 t put x _ key r orderly here put-writes (bit .here)
+
+    -- all other items stand where they stood
+    pub put-stays : (y : Slot) → TakenSlot t y → TakenSlot put y × (keyIn put y ≡ keyIn t y) × (recordIn put y ≡ recordIn t y)
+    put-stays y a = carried-stays t put Nothing (Only x) put-carries (headerOf t .c) (rw (put-writes .near .header) (orderly .header .state))
+        (put-writes .near .header) y a (λ g. g)
+
+    pub put-stood : (y : Slot) → TakenSlot put y → (y ≡ x) ⊎ TakenSlot t y
+    put-stood y a =
+        ⊎-elim (λ (e : y ≡ x). inl e) (λ (b : (Nothing y → ⊥) × TakenSlot t y). inr (b .1))
+        (carried-stood t put Nothing (Only x) put-carries (headerOf t .c) (rw (put-writes .near .header) (orderly .header .state))
+        (put-writes .near .header) y a)
 
     put-orderly : OrderlyTable 0 put
     put-orderly =
@@ -129,7 +140,7 @@ module _ (t : Table) (m : PlainMap) (whole : SoundMap t m) where
       pub put-twin : TwinMap put m y x
       unfolding Pairs
       put-twin =
-          let still = carried-stays t put Nothing (Only x) put-carries (headerOf t .c) good-put (put-writes .near .header) y there (λ g. g) in
+          let still = put-stays y there in
           record {
             orderly = put-orderly;
             map = copied-map t put (headerOf t .c) good-put m (whole .map) x put-carries
