@@ -12,7 +12,6 @@ use Rattle.rules.specs.declared.Slot.{Slot}
 use Rattle.rules.specs.declared.Refusal.{Refusal}
 use Rattle.rules.specs.declared.Placing.the-variants.{Nowhere}
 use Rattle.rules.specs.declared.Change.the-variants.{Refused}
-use Rattle.rules.specs.declared.Stepped.{Stepped}
 use Rattle.rules.specs.declared.SteppedFrom.{SteppedFrom}
 
 abbrev pub RefusedStep : Refusal → SteppedFrom → Type 0

@@ -33,7 +33,8 @@ called-query {t} {key = key} r d =
     never-none : {A : Type 0} → some key ≡ none → A
     never-none e = let z : _≡_ {A = ℕ} 0 1 = cc in absurd (omega arith)
 
-pub called-change : {q : ScriptCall} {t u : Table} {l m : List ℕ} (r : Change) → queried q ≡ none → ChangedBy (callOf q) t l r u m → Called q t l (Changed r) u m
+pub called-change : {q : ScriptCall} {t u : Table} {l m : List ℕ} (r : Change) → queried q ≡ none → ChangedBy (callOf q) t l r u m
+    → Called q t l (Changed r) u m
 called-change {q} {t} {l = l} r n d =
     record { answer = rw n (ap Changed (change-one r (changeResult t l (callOf q) .0) (d .answer))); table = d .table; list = λ e. d .list }
 
@@ -71,6 +72,7 @@ module _ (q : ScriptCall) (c : Cut) (t : Table) where
     unfolding answerTo tableAfter
     query-done other = go (queried q) refl (d .answer)
       where
-        go : (o : Option ℕ) → queried q ≡ o → x ≡ either o (λ key. Found (queryResult t key)) (Changed (changeResult t lent (callOf q) .0)) → EventDone q c t x w
+        go : (o : Option ℕ) → queried q ≡ o → x ≡ either o (λ key. Found (queryResult t key)) (Changed (changeResult t lent (callOf q) .0))
+            → EventDone q c t x w
         go (some key) n f = record { answer = rw n f; table = rw n (d .table) }
         go none n f = absurd (other (changeResult t lent (callOf q) .0) f)

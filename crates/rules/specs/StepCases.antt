@@ -1,6 +1,6 @@
 -- Cases of the growth step as one table under one statement, computed from the rules: of document 02's request b), and of the step that goes
--- on. Each row holds what the rules compute and what the request's sentences ask for. Tables and rows are those of `Examples`, made as a caller makes them. Both
--- multipliers are 4294967297, as in E11: a key K has one place in a level of M buckets, the bucket K modulo M.
+-- on. Each row holds what the rules compute and what the request's sentences ask for. Tables and rows are those of `Examples`, made as a
+-- caller makes them. Both multipliers are 4294967297, as in E11: a key K has one place in a level of M buckets, the bucket K modulo M.
 -- Assumes nothing.
 use Prim.Native.Nat.{ℕ}
 use mathlib.Core.Path.{_≡_, refl}

@@ -44,7 +44,8 @@ returns-2 : tie.Need-returns-2
 returns-2 c =
     let m = c .before .before in
     let f = m .before in
-    did-step-refuse _ _ _ _ (step-empty _ _ _ (growing (f .before)) (nothing (itemsFrom _ _ _) (sym (f .first-item .ensures .0) ∙ is-empty _ (m .match .keys2))))
+    let none = nothing (itemsFrom _ _ _) (sym (f .first-item .ensures .0) ∙ is-empty _ (m .match .keys2)) in
+    did-step-refuse _ _ _ _ (step-empty _ _ _ (growing (f .before)) none)
     (c .unplaced2 .ensures)
 
 -- the first item

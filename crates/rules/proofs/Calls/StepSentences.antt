@@ -1,6 +1,6 @@
 -- Which item a step takes, and when it gives 6 and 11, on every table: from a given bucket on, and then from the first, which is request b).
 -- Assumes nothing.
-use Prim.Native.Nat.{ℕ, _+_, _-_, _<_}
+use Prim.Native.Nat.{ℕ, _<_}
 use mathlib.Core.Path.{_≡_, refl, sym, ap, _∙_, subst}
 use mathlib.Core.Bool.{Bool, true, false}
 use mathlib.Core.List.{List, [], _∷_}
@@ -13,11 +13,11 @@ use Rattle.rules.specs.Words.{Table, headerOf, headerTests, word, interi
 use Rattle.rules.specs.NoPlace.{NoPlaceFor}
 use Rattle.rules.specs.Stores.{Store}
 use Rattle.rules.specs.Answers.{numberOf}
-use Rattle.rules.specs.Calls.{Outcome, refused, listed, interimBucket, stepFrom, step, stepItem, outcome}
+use Rattle.rules.specs.Calls.{Outcome, refused, listed, stepFrom, step, outcome}
 use Rattle.rules.specs.Results.{stepFromResult}
-use Rattle.rules.specs.Demands.{InterimItem, None, NoInterim, InterimFrom, FirstWithPlace, NoneHasPlace, HeaderWords, refusals, FirstRefuses, StepWritten}
+use Rattle.rules.specs.Demands.{InterimItem, None, NoInterim, InterimFrom, NoneHasPlace, HeaderWords, refusals, FirstRefuses, StepWritten}
 use Rattle.rules.specs.StepSentences.{MayStep, StepTakesTheFirst, NoItemBlocks, SixExactly, ElevenExactly, SixIsNotEleven}
-use Rattle.rules.specs.StepFromSentences.{Takes, TakesTheFirstFrom, ElevenFromExactly, SixFromExactly}
+use Rattle.rules.specs.StepFromSentences.{TakesTheFirstFrom, ElevenFromExactly, SixFromExactly}
 use Rattle.rules.specs.declared.Refusal.{Refusal}
 use Rattle.rules.specs.declared.Slot.{Slot}
 use Rattle.rules.specs.declared.Refusal.the-variants.{InterimEmpty, NoPlace}

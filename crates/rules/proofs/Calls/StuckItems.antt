@@ -2,7 +2,7 @@
 -- slot of a stuck key, that move would have made a place for that key before. So no key gains a place by it, and none by an insert.
 -- Assumes nothing.
 use Prim.Native.Nat.{ℕ}
-use mathlib.Core.Path.{_≡_, refl, sym, ap, _∙_}
+use mathlib.Core.Path.{_≡_, refl, sym, _∙_}
 use mathlib.Core.Bool.{Bool, true, false}
 use mathlib.Core.List.{List, List·Memᴰ as In}
 use mathlib.Core.Logic.{_⊎_, inl, inr, _↔_, ⊎-elim}
@@ -12,7 +12,7 @@ use Rattle.rules.specs.Places.{lookup, placesOf}
 use Rattle.rules.specs.Placing.{placing}
 use Rattle.rules.specs.Stores.{Store, putStores, moveStores, placingStores, stepStores, made}
 use Rattle.rules.specs.Soundness.{TakenSlot, PlainMap}
-use Rattle.rules.specs.Calls.{listed, changingTests, placedBy, insertIn, insert, stepItem, stepIn, stepTests, stepOf, stepFrom, outcome}
+use Rattle.rules.specs.Calls.{listed, changingTests, placedBy, insertIn, stepItem, stepIn, stepTests, stepOf, outcome}
 use Rattle.rules.specs.NoPlace.{CandidateSlot, PermittedMove, NoPlaceFor}
 use Rattle.rules.specs.Demands.{InterimItem}
 use Rattle.rules.specs.StepFromSentences.{StuckStaysStuck, InsertsGiveNoPlace}
@@ -146,8 +146,8 @@ module _ (t : Table) (m : PlainMap) (whole : SoundMap t m) (key : ℕ) (r : Reco
     same-table : after-put ≡ made t (placingStores t (headerOf t) (Move from to) key r)
     unfolding placingStores
     same-table =
-        rw (moved .header, moved .token)
-        (sym (made-append t (moveStores t (headerOf t) from to) (putStores (headerOf t) (hide (headerOf t) (tokenOf t (from .bucket)) (from .slot)) from key r)))
+        let h = headerOf t in
+        rw (moved .header, moved .token) (sym (made-append t (moveStores t h from to) (putStores h (hide h (tokenOf t (from .bucket)) (from .slot)) from key r)))
 
     among : In (placeOf from) (placesOf (headerOf between) key)
     among = rw (moved .header) (freed .among)

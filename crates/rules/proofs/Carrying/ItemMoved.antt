@@ -14,7 +14,8 @@ use Rattle.rules.specs.declared.Slot.{Slot}
 use Rattle.rules.proofs.Words.Made.{made-append}
 use Rattle.rules.proofs.Carrying.Carried.{carried-stays, carried-stood}
 use Rattle.rules.proofs.Carrying.Moving.{Nothing, Only}
-use Rattle.rules.proofs.Carrying.Putting.{SoundMap, TwinMap, put-writes, put-stays, put-stood, put-twin, clear-writes, clear-bit, clear-carries, clear-twin}
+use Rattle.rules.proofs.Carrying.Putting.{SoundMap, TwinMap, put-writes, put-stays, put-stood, put-twin}
+use Rattle.rules.proofs.Carrying.Putting.{clear-writes, clear-bit, clear-carries, clear-twin}
 
 pub record AfterMove (t u : Table) (m : PlainMap) (from to : Slot) : Type 0 where
   pub whole : SoundMap u m

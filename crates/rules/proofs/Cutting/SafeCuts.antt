@@ -16,7 +16,8 @@ use Rattle.rules.specs.Stores.{Store, putStores, clearStores, moveStores
 use Rattle.rules.specs.Soundness.{TakenSlot, PlainMap}
 use Rattle.rules.specs.Calls.{Outcome, refused, listed, placedBy, insertIn, updateIn, stepItem, stepIn, stepTests, stepOf, Call, query, insert}
 use Rattle.rules.specs.Calls.{update, delete, begin, stepFrom, end, recover, outcome}
-use Rattle.rules.specs.Demands.{AtRest, Given, Gives, mapWith, mapAfter, InterimItem, None, NoInterim, InterimFrom, FirstWithPlace, NoneHasPlace, InsertBy}
+use Rattle.rules.specs.Demands.{AtRest, Given, Gives, mapWith, mapAfter, InterimItem, None, NoInterim, InterimFrom, FirstWithPlace}
+use Rattle.rules.specs.Demands.{NoneHasPlace, InsertBy}
 use Rattle.rules.specs.Demands.{ChangeBy, StepBy}
 use Rattle.rules.specs.declared.State.{State}
 use Rattle.rules.specs.declared.Slot.{Slot}

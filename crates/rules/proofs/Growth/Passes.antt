@@ -1,7 +1,7 @@
 -- A pass of steps, each from the bucket that the one before told: it ends, it leaves no item that has a place, and it looks at each bucket of
 -- the level once, and once more for each step.
 -- Assumes nothing.
-use Prim.Native.Nat.{ℕ, zero, suc, _+_, _-_, _*_, _≤_, _<_}
+use Prim.Native.Nat.{ℕ, zero, suc, _+_, _-_, _≤_, _<_}
 use mathlib.Core.Path.{_≡_, refl, sym, ap, _∙_}
 use mathlib.Core.Bool.{Bool, true, false, cond}
 use mathlib.Core.List.{List, [], _∷_, List·Memᴰ as In}
@@ -16,17 +16,16 @@ use Rattle.rules.specs.Choice.{select, empty, from}
 use Rattle.rules.specs.Words.{Table, headerOf, sizeOf, interimOf, keyIn}
 use Rattle.rules.specs.Placing.{placing, somewhere}
 use Rattle.rules.specs.Stores.{Store, stepStores, made}
-use Rattle.rules.specs.Soundness.{SoundTable, TakenSlot, Before}
+use Rattle.rules.specs.Soundness.{SoundTable, Before}
 use Rattle.rules.specs.Calls.{refused, listed, changingTests, interimItems, interimBucket, hasPlace, stepItem, stepIn, stepTests, stepOf, stepFrom}
 use Rattle.rules.specs.Calls.{outcome}
 use Rattle.rules.specs.Results.{changeResult, stepFromResult}
 use Rattle.rules.specs.NoPlace.{NoPlaceFor}
 use Rattle.rules.specs.Histories.{whole, after, Accepted}
 use Rattle.rules.specs.Demands.{Growing, InterimItem, None, NoInterim, InterimFrom, FirstWithPlace, NoneHasPlace, StepBy}
-use Rattle.rules.specs.StepFromSentences.{interimSize, Pass, PassEnds, PassPlacesAll, placesAny, upTo, lookedAt, looks, PassLooksAtFew}
+use Rattle.rules.specs.StepFromSentences.{Pass, PassEnds, PassPlacesAll, placesAny, upTo, lookedAt, looks, PassLooksAtFew}
 use Rattle.rules.specs.declared.Header.{Header}
 use Rattle.rules.specs.declared.Slot.{Slot}
-use Rattle.rules.specs.declared.Placing.{Placing}
 use Rattle.rules.specs.declared.Placing.the-variants.{Move}
 use Rattle.rules.specs.declared.Refusal.{Refusal}
 use Rattle.rules.specs.declared.Refusal.the-variants.{InterimEmpty, NoPlace}

@@ -1,7 +1,7 @@
 -- The interim items: those that an end looks at are the taken slots of the interim level, those that a step looks at are the ones from its
 -- start on, and the one that it takes is the first of these that has a place.
 -- Assumes nothing.
-use Prim.Native.Nat.{ℕ, _+_, _-_, _≤_, _<_}
+use Prim.Native.Nat.{ℕ, _+_, _-_, _<_}
 use mathlib.Core.Path.{_≡_, refl, sym, ap, _∙_}
 use mathlib.Core.Bool.{false}
 use mathlib.Core.List.{List·Memᴰ as In}
