@@ -147,7 +147,8 @@ module _ (t : Table) (m : PlainMap) (whole : SoundMap t m) (key : ℕ) (r : Reco
     unfolding placingStores
     same-table =
         let h = headerOf t in
-        rw (moved .header, moved .token) (sym (made-append t (moveStores t h from to) (putStores h (hide h (tokenOf t (from .bucket)) (from .slot)) from key r)))
+        let puts = putStores h (hide h (tokenOf t (from .bucket)) (from .slot)) from key r in
+        rw (moved .header, moved .token) (sym (made-append t (moveStores t h from to) puts))
 
     among : In (placeOf from) (placesOf (headerOf between) key)
     among = rw (moved .header) (freed .among)
