@@ -1,12 +1,16 @@
 -- What the answers of query and chain tell, as a number and its values.
 -- Assumes nothing.
 use Prim.Native.Nat.{ℕ}
-use mathlib.Core.Path.{_≡_, sym, _∙_}
+use mathlib.Core.Path.{_≡_, refl, sym, ap, _∙_}
 use mathlib.Core.List.{List, [], _∷_}
+use lib.ListN.{getD}
 use Rattle.rules.specs.Words.{Table}
-use Rattle.rules.specs.Answers.{numberOf}
+use Rattle.rules.specs.Answers.{numberOf, Meaning, changeMeans, goneOnMeans}
+use Rattle.rules.specs.Calls.{step}
+use Rattle.rules.specs.Results.{stepFromResult}
 use Rattle.rules.specs.declared.Record.{Record}
 use Rattle.rules.specs.declared.Refusal.{Refusal}
+use Rattle.rules.specs.declared.Placing.{Placing}
 use Rattle.rules.specs.declared.Change.{Change}
 use Rattle.rules.specs.declared.Change.the-variants.{Listed, Refused}
 use Rattle.rules.specs.declared.SteppedFrom.{SteppedFrom}
@@ -15,7 +19,8 @@ use Rattle.rules.specs.declared.Query.the-variants.{Known, Unknown}
 use Rattle.rules.specs.declared.Chain.{Chain}
 use Rattle.rules.specs.declared.Chain.the-variants.{Whole, Broken}
 use Rattle.numbering.specs.Told.{toldWith}
-use Rattle.listing.specs.Promises.{StepTakenFrom, WentOnBy}
+use Rattle.rules.proofs.Calls.StepFromSentences.{stepFromIsACall}
+use Rattle.listing.specs.Promises.{ChangedBy, StepTakenFrom, WentOnBy}
 use Rattle.listing.proofs.Steps.{step-went-on}
 use Rattle.querying.specs.Promises.{QueriedBy, Queried}
 use Rattle.chaining.specs.Promises.{ChainedBy, Chained}
@@ -45,3 +50,23 @@ module _ {b : ℕ} {t u : Table} {l m : List ℕ} {s : SteppedFrom} {c : Change}
   step-refused {r} e k =
       let q : s .stepped .change ≡ Refused r = sym same ∙ e in
       rw k (rw q at (step-went-on d))
+
+-- a step from the first bucket on, without its bucket: the step
+abbrev storesAlone : Meaning → Meaning
+storesAlone a = toldWith (a .number) (getD (a .values) 0 0 ∷ [])
+
+stores-left : (c : Change) (p : Placing) (b : ℕ)
+    → storesAlone (goneOnMeans (record { stepped = record { change = c; placing = p }; bucket = b })) ≡ changeMeans c
+stores-left (Listed n) p b = refl
+stores-left (Refused e) p b = refl
+
+pub step-told : {t u : Table} {l m : List ℕ} {r : ℕ} (x : List ℕ) → WentOnBy 0 t l (toldWith r x) u m
+    → ChangedBy step t l (toldWith r (getD x 0 0 ∷ [])) u m
+step-told {t} {l = l} x d =
+    let s = stepFromResult t 0 l .0 in
+    let call = stepFromIsACall t 0 l in
+    record {
+      answer = ap storesAlone (d .answer) ∙ stores-left (s .stepped .change) (s .stepped .placing) (s .bucket) ∙ ap changeMeans (call .0);
+      table = d .table;
+      list = d .list ∙ call .1;
+    }

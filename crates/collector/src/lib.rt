@@ -6,7 +6,6 @@ use changing::insert;
 use changing::update;
 use growing::begin;
 use growing::end;
-use growing::step;
 use growing::step_from;
 use making::create;
 use making::make;
@@ -145,24 +144,9 @@ pub extern "C" fn ragansils_begin(table: &[u64], list: &mut [u64], stores: &mut 
     report(begin(table, list), stores)
 }
 
-// C is not told the placing.
-#[no_mangle]
-pub extern "C" fn ragansils_step(table: &[u64], list: &mut [u64], stores: &mut u64) -> u64
-    ensures { λ r. ⌜ Reported stepCall (now (table .entry)) (now (list .entry)) r (now (stores .exit)) (now (table .exit)) (now (list .exit)) ⌝ }
-{
-    let taken = step(table, list);
-    let change = taken.change;
-    report(change, stores)
-}
-
-// Stores, and the bucket to go on from.
-#[no_mangle]
-pub extern "C" fn ragansils_step_from(
-    table: &[u64],
-    from: u64,
-    list: &mut [u64],
-    answer: &mut [u64; 2],
-) -> u64
+// A step's number; its stores, and the bucket to go on from, in the words lent for them. C is not told the placing, and both steps come
+// here: so the compiler need not keep it.
+fn report_step(table: &[u64], list: &mut [u64], from: u64, answer: &mut [u64; 2]) -> u64
     ensures { λ r. ⌜ ReportedFrom from (now (table .entry)) (now (list .entry)) r (now (answer .exit)) (now (table .exit)) (now (list .exit)) ⌝ }
 {
     let taken = step_from(table, list, from);
@@ -178,6 +162,28 @@ pub extern "C" fn ragansils_step_from(
             number(refusal)
         }
     }
+}
+
+#[no_mangle]
+pub extern "C" fn ragansils_step(table: &[u64], list: &mut [u64], stores: &mut u64) -> u64
+    ensures { λ r. ⌜ Reported stepCall (now (table .entry)) (now (list .entry)) r (now (stores .exit)) (now (table .exit)) (now (list .exit)) ⌝ }
+{
+    let mut answer: [u64; 2] = [0, 0];
+    let told = report_step(table, list, 0, &mut answer);
+    *stores = answer[0];
+    told
+}
+
+#[no_mangle]
+pub extern "C" fn ragansils_step_from(
+    table: &[u64],
+    from: u64,
+    list: &mut [u64],
+    answer: &mut [u64; 2],
+) -> u64
+    ensures { λ r. ⌜ ReportedFrom from (now (table .entry)) (now (list .entry)) r (now (answer .exit)) (now (table .exit)) (now (list .exit)) ⌝ }
+{
+    report_step(table, list, from, answer)
 }
 
 #[no_mangle]

@@ -1,10 +1,10 @@
--- `collector::ragansils_step_from` meets its contract.
+-- `collector::report_step` meets its contract.
 -- Assumes nothing.
 use mathlib.Core.Path.{refl}
 use borrow.Author.Needs.{needs}
 use Rattle.collector.proofs.Tellings.{step-listed, step-refused}
-use Rattle.collector.proofs.ragansils_step_from.Statement.{statement}
-use Rattle.collector.proofs.ragansils_step_from.Tie as tie
+use Rattle.collector.proofs.report_step.Statement.{statement}
+use Rattle.collector.proofs.report_step.Tie as tie
 
 step-from-requires : tie.Need-step-from-requires
 step-from-requires c κs = search needs
@@ -34,8 +34,8 @@ returns-2 c =
     let f = c .before .before .before in
     step-refused (f .before .before .before .before .before .step-from .ensures) refl (f .change2 .given .1) (c .number .ensures)
 
-pub ragansils-step-from-spec : {M : Type 1} → statement M
-ragansils-step-from-spec =
+pub report-step-spec : {M : Type 1} → statement M
+report-step-spec =
     tie.close
     (tie.spec
     step-from-requires
