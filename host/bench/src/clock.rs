@@ -51,10 +51,17 @@ pub fn timed<T>(run: impl FnOnce() -> T) -> (f64, T) {
 #[cfg(test)]
 mod tests {
     use super::*;
+    use std::sync::atomic::{AtomicU64, Ordering};
 
     #[test]
     fn work_takes_time_and_sleep_takes_none() {
-        let (working, _) = timed(|| (0..10_000_000u64).fold(1, |a: u64, b| (a ^ b).rotate_left(7)));
+        // A sum that nobody asks for would be left out by the compiler, or made outside of what is timed.
+        let count = AtomicU64::new(0);
+        let (working, _) = timed(|| {
+            for _ in 0..1_000_000 {
+                count.fetch_add(1, Ordering::SeqCst);
+            }
+        });
         let (sleeping, ()) = timed(|| std::thread::sleep(std::time::Duration::from_millis(20)));
         assert!(working > 1e5 && sleeping < 1e6, "{working} and {sleeping}");
     }

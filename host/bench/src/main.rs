@@ -3,7 +3,7 @@
 //! From the bottom up:
 //! - `peers`: what is measured;
 //! - `clock`, `rounds`: how it is timed, and what is said of the times;
-//! - `operations`, `recovery`, `growth`, `chains`: what is timed; `instructions`: what valgrind counts of it;
+//! - `operations`, `recovery`, `growth` with its drivers and limits, `chains`: what is timed; `instructions`: what valgrind counts of it;
 //! - `plan`, `run`: how much, and all of it;
 //! - `svg`, `chart`, `plots`, `report`: what is written of it.
 //!
@@ -32,10 +32,11 @@ use ragansils_compare::random::Random;
 use ragansils_compare::{program, say};
 
 use crate::chains::Chains;
+use crate::growth::Growths;
 use crate::run::{Results, Run};
 
 const USAGE: &str =
-    "usage: ragansils-bench quick|full SEED OUT-FOLDER LMDB-FOLDER   or   ragansils-bench chains SEED OUT-FOLDER";
+    "usage: ragansils-bench quick|full SEED OUT-FOLDER LMDB-FOLDER   or   ragansils-bench chains|growth SEED OUT-FOLDER";
 
 fn main() -> ExitCode {
     program::run(command)
@@ -44,7 +45,7 @@ fn main() -> ExitCode {
 fn command(arguments: &[String]) -> Result<(), String> {
     let words: Vec<&str> = arguments.iter().map(String::as_str).collect();
     match words[..] {
-        // These two by the program itself, under valgrind.
+        // These three by the program itself, under valgrind.
         ["counted", operation, side, c] => {
             say!("{}", instructions::run_counted(operation, side, number(c)?)?);
             Ok(())
@@ -53,7 +54,12 @@ fn command(arguments: &[String]) -> Result<(), String> {
             say!("{}", chains::run_counted(way, number(depths)?)?);
             Ok(())
         }
+        ["counted-growth", side, c] => {
+            say!("{}", growth::run_counted(side, number(c)?)?);
+            Ok(())
+        }
         ["chains", seed, out] => chains_alone(number(seed)?, Path::new(out)),
+        ["growth", seed, out] => growth_alone(number(seed)?, Path::new(out)),
         ["quick", seed, out, lmdb] => bench(&plan::QUICK, number(seed)?, Path::new(out), Path::new(lmdb)),
         ["full", seed, out, lmdb] => bench(&plan::FULL, number(seed)?, Path::new(out), Path::new(lmdb)),
         _ => Err(USAGE.to_string()),
@@ -71,20 +77,43 @@ fn chains_alone(seed: u64, out: &Path) -> Result<(), String> {
     chains.iter().try_for_each(Chains::check)
 }
 
+/// Writes the section and its picture, and then says where a growth costs more than it may.
+fn growth_alone(seed: u64, out: &Path) -> Result<(), String> {
+    let begun = Instant::now();
+    let growths = growth::measure(&plan::FULL, seed, out, |part| note(begun, part))?;
+    let section = write_growths(&growths, seed, out)?;
+    write(out, "growth-rounds.txt", &report::rounds_of(growths.times.iter()))?;
+    program::say(section);
+    growths.check()
+}
+
+fn write_growths(growths: &Growths, seed: u64, out: &Path) -> Result<String, String> {
+    let section = report::growths(growths, seed);
+    write(out, "growth.svg", &plots::growth(growths))?;
+    write(out, "growth.md", &section)?;
+    Ok(section)
+}
+
 fn bench(plan: &plan::Plan, seed: u64, out: &Path, lmdb: &Path) -> Result<(), String> {
     let (random, begun, results) = (Random::new(seed), Instant::now(), Results::default());
     let mut run = Run { plan, random, folder: lmdb, begun, results };
     run.everything(seed, out)?;
-    let write = |name: &str, text: &str| {
-        let file = out.join(name);
-        std::fs::write(&file, text).map_err(|error| format!("{}: {error}", file.display()))
-    };
     for (name, picture) in plots::all(&run.results) {
-        write(name, &picture)?;
+        write(out, name, &picture)?;
     }
-    let figures = report::figures(&run.results, seed);
-    write("figures.md", &figures)?;
-    write("rounds.txt", &report::every_round(&run.results))?;
+    write(out, "figures.md", &report::figures(&run.results, seed))?;
+    write_growths(&run.results.growths, seed, out)?;
+    write(out, "rounds.txt", &report::every_round(&run.results))?;
     say!("{}", report::targets(&run.results));
     Ok(())
+}
+
+fn write(folder: &Path, name: &str, text: &str) -> Result<(), String> {
+    let file = folder.join(name);
+    std::fs::write(&file, text).map_err(|error| format!("{}: {error}", file.display()))
+}
+
+/// How far a long run is.
+fn note(begun: Instant, part: &str) {
+    program::note(format_args!("bench: {:4} s: {part}", begun.elapsed().as_secs()));
 }

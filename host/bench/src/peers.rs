@@ -21,6 +21,8 @@ use level::LevelPeer;
 /// Names of the two sides, which are always the first two peers.
 pub const LIBRARY: &str = "library";
 pub const TWIN: &str = "twin";
+/// What a growth is held to.
+pub const CUCKOO: &str = "libcuckoo";
 /// The twin whose inserts are listed, and made as the library's are.
 pub const LISTING_TWIN: &str = "twin with a list";
 
@@ -33,18 +35,12 @@ pub trait Peer {
     fn update(&mut self, key: u64, record: Record) -> bool;
     fn remove(&mut self, key: u64) -> bool;
 
-    /// Whether there is such a thing as doubling the table's room at once.
-    fn grows(&self) -> bool {
-        false
-    }
-
-    /// Doubles the table's room with all its items in it; whether that was done.
+    /// Doubles the table's room at once, with all its items in it; whether that was done. A level table grows in steps instead.
     fn grow(&mut self) -> bool {
         false
     }
 
-    /// Before and after `grow`, so that it can be done again.
-    fn before_growth(&mut self) {}
+    /// Takes `grow` back, so that it can be done again.
     fn after_growth(&mut self) {}
 
     /// A level table's recovery; whether it was accepted.
@@ -93,6 +89,13 @@ pub fn two_sides(creation: Creation) -> Vec<Box<dyn Peer>> {
 pub fn two_sides_and_a_list(creation: Creation) -> Vec<Box<dyn Peer>> {
     let mut peers = two_sides(creation);
     peers.push(Box::new(LevelPeer::new(LISTING_TWIN, ListingTwin::default(), creation)));
+    peers
+}
+
+/// Those whose room can be doubled at once, empty, with room for so many items.
+pub fn growing(items: usize) -> Vec<Box<dyn Peer>> {
+    let mut peers = vec![foreign::cuckoo(items)];
+    peers.extend(standard::all(items));
     peers
 }
 

@@ -10,23 +10,22 @@ pub struct Plan {
     pub rounds: usize,
     /// Calls of each operation in a round: a few milliseconds, in which a busy machine is as busy for one peer as for the next.
     pub calls: usize,
-    /// More capacities, at which the recovery of a sound table is timed, and a whole growth.
+    /// More capacities, at which the recovery of a sound table is timed.
     pub recovered: RangeInclusive<u64>,
+    /// The capacities to which a table grows.
     pub grown: RangeInclusive<u64>,
 }
 
 pub const FULL: Plan =
-    Plan { counts: plan::FULL, rounds: 25, calls: 40_000, recovered: 6..=20, grown: 5..=17 };
+    Plan { counts: plan::FULL, rounds: 25, calls: 40_000, recovered: 6..=20, grown: 5..=20 };
 
 pub const QUICK: Plan =
-    Plan { counts: plan::QUICK, rounds: 9, calls: 10_000, recovered: 6..=14, grown: 5..=12 };
+    Plan { counts: plan::QUICK, rounds: 9, calls: 10_000, recovered: 6..=14, grown: 5..=14 };
 
 /// From this capacity on a round takes long, and fewer do.
 const LARGE: u64 = 19;
 const SOME_ROUNDS: usize = 15;
 const FEW_ROUNDS: usize = 5;
-/// From this capacity on a whole growth is measured once.
-const LONG_GROWTH: u64 = 16;
 
 impl Plan {
     pub fn rounds_at(&self, c: u64) -> usize {
@@ -44,10 +43,8 @@ impl Plan {
         }
     }
 
-    pub fn growth_rounds(&self, c: u64) -> usize {
-        match c {
-            LONG_GROWTH.. => 1,
-            _ => self.rounds.min(FEW_ROUNDS),
-        }
+    /// Before each of them the whole table is brought back, which takes as long as the growth.
+    pub fn growth_rounds(&self) -> usize {
+        self.rounds.min(SOME_ROUNDS)
     }
 }

@@ -4,17 +4,17 @@ use ragansils_counts::{Bin, BINS};
 use ragansils_model::table_words;
 
 use crate::chart::{lines, rows, Axis, Line, Row};
-use crate::peers::{LIBRARY, TWIN};
+use crate::growth::{Growths, FROM_FIRST};
+use crate::peers::{CUCKOO, LIBRARY, TWIN};
 use crate::rounds::Measured;
 use crate::run::Results;
 
-/// File names and pictures.
+/// File names and pictures, but that of growths.
 pub fn all(results: &Results) -> Vec<(&'static str, String)> {
     vec![
         ("ratios.svg", ratios(results)),
         ("peers.svg", peers(results)),
         ("recovery.svg", recovery(results)),
-        ("growth.svg", growth(results)),
         ("filling.svg", filling(results)),
     ]
 }
@@ -97,12 +97,18 @@ fn recovery(results: &Results) -> String {
     lines("Recovery of a sound table, load 0.8", &x, &y, &all)
 }
 
-fn growth(results: &Results) -> String {
+pub fn growth(growths: &Growths) -> String {
     let top_buckets = |c: u64| f64::from(1u32 << (c - 1));
-    let measured = results.whole_growths();
-    let [library, twin] = [LIBRARY, TWIN].map(|side| line_of(&measured, side, top_buckets, 1e6));
-    let (linear, quadratic) = (guide("linear", &library, 1), guide("quadratic", &library, 2));
-    let all = [library, twin, linear, quadratic];
+    let all: Vec<&Measured> = growths.times.iter().collect();
+    let line = |peer: &'static str, label: &str| {
+        let line = line_of(&all, peer, top_buckets, 1e6);
+        Line { label: label.to_string(), ..line }
+    };
+    let library = line(LIBRARY, "library, going on");
+    let old_way = line(FROM_FIRST, FROM_FIRST);
+    let (linear, quadratic) = (guide("linear", &library, 1), guide("quadratic", &old_way, 2));
+    let (twin, cuckoo) = (line(TWIN, "twin, going on"), line(CUCKOO, CUCKOO));
+    let all = [library, old_way, twin, cuckoo, linear, quadratic];
     let [x, y] = log_axes("N, the top's buckets before the growth", 2, "milliseconds", &all);
     lines("One whole growth, begun at load 0.8", &x, &y, &all)
 }

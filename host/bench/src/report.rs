@@ -1,5 +1,9 @@
 //! The figures as text, for docs/BENCHMARKS.md.
 
+mod growth;
+
+pub use growth::growths;
+
 use ragansils_counts::markdown::{heads, table};
 use ragansils_counts::Middle;
 use ragansils_model::table_words;
@@ -18,14 +22,18 @@ const TARGET_CAPACITIES: [u64; 2] = [14, 18];
 /// A ratio above this is called slower.
 const SLOWER: f64 = 1.05;
 
-/// All sections.
-pub fn figures(results: &Results, seed: u64) -> String {
-    let intro = format!(
+/// How the figures of a section were come by.
+fn intro(seed: u64) -> String {
+    format!(
         "Seed {seed}; the twin by `{TWIN_COMPILER}`. Times are medians over the rounds; a ratio is the \
          median of the rounds' ratios, with the bounds of the middle half of the rounds beside it.\n"
-    );
+    )
+}
+
+/// All sections but that of growths.
+pub fn figures(results: &Results, seed: u64) -> String {
     [
-        intro,
+        intro(seed),
         slower(results),
         slower_than_others(results),
         targets(results),
@@ -34,7 +42,6 @@ pub fn figures(results: &Results, seed: u64) -> String {
         twin_tables(results),
         peer_tables(results),
         recovery_table(results),
-        growth_table(results),
         chain_table(&results.chains),
         results.counts.sections(),
     ]
@@ -48,12 +55,15 @@ pub fn every_round(results: &Results) -> String {
         &results.listed_inserts,
         &results.recovery,
         &results.more_recovery,
-        &results.growth,
-        &results.more_growth,
+        &results.growths.times,
     ];
     let chains = results.chains.iter().map(|chains| &chains.times);
+    rounds_of(parts.iter().copied().flatten().chain(chains))
+}
+
+pub fn rounds_of<'a>(all: impl Iterator<Item = &'a Measured>) -> String {
     let mut text = String::new();
-    for measured in parts.iter().copied().flatten().chain(chains) {
+    for measured in all {
         for series in &measured.series {
             let rounds: Vec<String> = series.rounds.iter().map(|time| format!("{time:.1}")).collect();
             let (c, operation, peer) = (measured.c, &measured.operation, series.peer);
@@ -85,7 +95,7 @@ fn time(measured: &Measured, peer: &str, unit: f64) -> String {
 
 /// Everything that has a twin, with the name of its capacity.
 fn beside_the_twin(results: &Results) -> impl Iterator<Item = &Measured> {
-    results.operations.iter().chain(&results.recovery).chain(&results.growth)
+    results.operations.iter().chain(&results.recovery)
 }
 
 fn slower(results: &Results) -> String {
@@ -270,21 +280,6 @@ fn recovery_table(results: &Results) -> String {
     let names =
         ["c", "words", "table", "library, ms", "twin, ms", "ratio", "middle half", "library, ns for a word"];
     table("### Recovery of a whole table", &heads(&names), rows)
-}
-
-fn growth_table(results: &Results) -> String {
-    let others = others(&results.growth);
-    let mut names = heads(&["k", "N = 2^k", "library, ms", "twin, ms", "ratio"]);
-    names.extend(others.iter().map(|peer| format!("{peer}, ms")));
-    let rows = results.whole_growths().into_iter().filter_map(|measured| {
-        let k = measured.c - 1;
-        let middle = measured.ratio_to_twin()?;
-        let [library, twin] = [LIBRARY, TWIN].map(|peer| time(measured, peer, 1e6));
-        let mut row = vec![k.to_string(), (1u64 << k).to_string(), library, twin, ratio(middle)];
-        row.extend(others.iter().map(|peer| time(measured, peer, 1e6)));
-        Some(row)
-    });
-    table("### One whole growth, begun at load 0.8", &names, rows)
 }
 
 pub fn chain_table(all: &[Chains]) -> String {

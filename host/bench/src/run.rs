@@ -4,16 +4,15 @@ use std::path::Path;
 use std::time::Instant;
 
 use ragansils::Creation;
-use ragansils_compare::program;
 use ragansils_compare::random::Random;
 use ragansils_counts::plan::{HIGH_LOAD, LOADS};
 use ragansils_counts::{full_size, half_way, items_at, last_growth, slots_of, Counts, Keys, Kind};
 
 use crate::chains::{self, Chains};
-use crate::growth::whole;
+use crate::growth::{self, Growths};
 use crate::instructions::{count_all, Counted};
 use crate::operations::Filled;
-use crate::peers::{self, Peer};
+use crate::peers;
 use crate::plan::Plan;
 use crate::recovery::{self, Kinds, SOUND};
 use crate::rounds::Measured;
@@ -32,9 +31,7 @@ pub struct Results {
     /// Recovery, nanoseconds for a table: of every kind at the plan's capacities, and of sound tables at others.
     pub recovery: Vec<Measured>,
     pub more_recovery: Vec<Measured>,
-    /// A whole growth to a capacity, nanoseconds: of all peers at the plan's capacities, and of the two sides at others.
-    pub growth: Vec<Measured>,
-    pub more_growth: Vec<Measured>,
+    pub growths: Growths,
     pub counts: Counts,
     pub instructions: Vec<Counted>,
     pub chains: Vec<Chains>,
@@ -44,24 +41,15 @@ impl Results {
     /// The recoveries of a sound table at the high load, by capacity.
     pub fn sound_recoveries(&self) -> Vec<&Measured> {
         let sound = recovery::operation(SOUND, HIGH_LOAD);
-        by_capacity(
-            self.recovery.iter().chain(&self.more_recovery).filter(|measured| measured.operation == sound),
-        )
-    }
-
-    pub fn whole_growths(&self) -> Vec<&Measured> {
-        by_capacity(self.growth.iter().chain(&self.more_growth))
+        let all = self.recovery.iter().chain(&self.more_recovery);
+        let mut sorted: Vec<&Measured> = all.filter(|measured| measured.operation == sound).collect();
+        sorted.sort_by_key(|measured| measured.c);
+        sorted
     }
 }
 
 fn few_of(creation: Creation) -> usize {
     (slots_of(creation) / FEW_SHARE).max(FEW_AT_LEAST)
-}
-
-fn by_capacity<'a>(all: impl Iterator<Item = &'a Measured>) -> Vec<&'a Measured> {
-    let mut sorted: Vec<&Measured> = all.collect();
-    sorted.sort_by_key(|measured| measured.c);
-    sorted
 }
 
 pub struct Run<'a> {
@@ -81,22 +69,22 @@ impl Run<'_> {
         self.results.instructions = count_all(callgrind_folder)?;
         self.say("chains");
         self.results.chains = chains::measure(seed, callgrind_folder)?;
+        self.results.growths = growth::measure(self.plan, seed, callgrind_folder, |part| self.say(part))?;
         for &c in self.plan.counts.capacities {
             self.at_rest(c, Kind::Random)?;
             self.growing(c, Kind::Random)?;
             self.listed_inserts(c)?;
             self.recoveries(c)?;
-            self.whole_growth(c)?;
         }
         for &c in self.plan.counts.collector_capacities {
             self.at_rest(c, Kind::Collector)?;
             self.growing(c, Kind::Collector)?;
         }
-        self.curves()
+        self.recovery_curve()
     }
 
     fn say(&self, part: &str) {
-        program::note(format_args!("bench: {:4} s: {part}", self.begun.elapsed().as_secs()));
+        crate::note(self.begun, part);
     }
 
     /// All peers, empty, with keys enough for a load.
@@ -165,45 +153,15 @@ impl Run<'_> {
         Ok(())
     }
 
-    /// The last growth of a table of capacity c, of all peers that can grow at once.
-    fn whole_growth(&mut self, c: u64) -> Result<(), String> {
-        self.say(&format!("growth to c = {c}"));
-        let folder = self.folder;
-        let measured = self.grow(c, |creation, items| peers::all(creation, items, folder))?;
-        self.results.growth.extend(measured);
-        Ok(())
-    }
-
-    /// The same of those among some peers, which are handed their creation and the number of their items.
-    fn grow(
-        &mut self,
-        c: u64,
-        peers: impl FnOnce(Creation, usize) -> Vec<Box<dyn Peer>>,
-    ) -> Result<Vec<Measured>, String> {
-        let creation = last_growth(full_size(&mut self.random, c));
-        let items = items_at(creation, HIGH_LOAD);
-        let keys = Keys::new(&mut self.random, Kind::Random, items, 0);
-        let peers = peers(creation, items).into_iter().filter(|peer| peer.grows()).collect();
-        let mut filled = Filled { c, peers, keys: &keys, items: 0, when: format!("load {HIGH_LOAD}") };
-        filled.fill(items)?;
-        whole(&mut filled, self.plan.growth_rounds(c))
-    }
-
-    /// How recovery and growth take longer in larger tables: the capacities between those of the plan.
-    fn curves(&mut self) -> Result<(), String> {
+    /// How recovery takes longer in larger tables: the capacities between those of the plan.
+    fn recovery_curve(&mut self) -> Result<(), String> {
         self.say("recovery by capacity");
         let is_between = |c: &u64| !self.plan.counts.capacities.contains(c);
         let recovered: Vec<u64> = self.plan.recovered.clone().filter(is_between).collect();
-        let grown: Vec<u64> = self.plan.grown.clone().filter(is_between).collect();
         for c in recovered {
             let (creation, rounds) = (full_size(&mut self.random, c), self.plan.whole_table_rounds(c));
             let measured = recovery::measure(&mut self.random, creation, HIGH_LOAD, rounds, Kinds::Sound)?;
             self.results.more_recovery.extend(measured);
-        }
-        self.say("growth by capacity");
-        for c in grown {
-            let measured = self.grow(c, |creation, _| peers::two_sides(creation))?;
-            self.results.more_growth.extend(measured);
         }
         Ok(())
     }

@@ -6,7 +6,7 @@ use std::path::Path;
 
 use ragansils_counts::Record;
 
-use super::Peer;
+use super::{Peer, CUCKOO};
 
 /// A table's functions. Every pointer to a record is to two words.
 struct Calls {
@@ -97,15 +97,11 @@ impl Peer for Foreign {
         unsafe { (self.calls.remove)(self.table, key) }
     }
 
-    fn grows(&self) -> bool {
-        self.calls.resize.is_some()
-    }
-
     fn grow(&mut self) -> bool {
         if let Some([double, _]) = self.calls.resize {
             unsafe { double(self.table) }
         }
-        self.grows()
+        self.calls.resize.is_some()
     }
 
     fn after_growth(&mut self) {
@@ -115,14 +111,19 @@ impl Peer for Foreign {
     }
 }
 
-pub fn all(items: usize, folder: &Path) -> Vec<Box<dyn Peer>> {
+/// It keeps no file.
+pub fn cuckoo(items: usize) -> Box<dyn Peer> {
     let resize: Option<[unsafe extern "C" fn(*mut c_void); 2]> = Some([cuckoo_grow, cuckoo_shrink]);
+    let calls = foreign_calls!(cuckoo_open cuckoo_close cuckoo_get cuckoo_insert cuckoo_update cuckoo_remove, CUCKOO, resize);
+    Box::new(Foreign::open(calls, items, Path::new("")))
+}
+
+pub fn all(items: usize, folder: &Path) -> Vec<Box<dyn Peer>> {
     let tables = [
-        foreign_calls!(cuckoo_open cuckoo_close cuckoo_get cuckoo_insert cuckoo_update cuckoo_remove, "libcuckoo", resize),
         foreign_calls!(lmdb_open lmdb_close lmdb_get lmdb_insert lmdb_update lmdb_remove, "LMDB", None),
         foreign_calls!(uthash_open uthash_close uthash_get uthash_insert uthash_update uthash_remove, "uthash", None),
     ];
-    let mut peers: Vec<Box<dyn Peer>> = vec![];
+    let mut peers: Vec<Box<dyn Peer>> = vec![cuckoo(items)];
     for calls in tables {
         peers.push(Box::new(Foreign::open(calls, items, folder)));
     }

@@ -10,13 +10,11 @@ use super::Peer;
 pub struct LevelPeer<S> {
     name: &'static str,
     table: LevelTable<S>,
-    /// The words before a growth.
-    before: Vec<u64>,
 }
 
 impl<S: Side> LevelPeer<S> {
     pub fn new(name: &'static str, side: S, creation: Creation) -> LevelPeer<S> {
-        LevelPeer { name, table: LevelTable::new(side, creation), before: vec![] }
+        LevelPeer { name, table: LevelTable::new(side, creation) }
     }
 }
 
@@ -46,24 +44,6 @@ impl<S: Side> Peer for LevelPeer<S> {
     #[inline(always)]
     fn remove(&mut self, key: u64) -> bool {
         self.table.change(Event::Delete { key })
-    }
-
-    fn grows(&self) -> bool {
-        true
-    }
-
-    fn grow(&mut self) -> bool {
-        let begun = self.table.change(Event::Begin);
-        while self.table.change(Event::Step) {}
-        begun && self.table.change(Event::End)
-    }
-
-    fn before_growth(&mut self) {
-        self.before.clone_from(&self.table.words);
-    }
-
-    fn after_growth(&mut self) {
-        self.table.words.clone_from(&self.before);
     }
 
     fn recover(&mut self) -> bool {

@@ -65,10 +65,6 @@ impl<B: BuildHasher> Peer for Standard<B> {
         self.map.remove(&key).is_some()
     }
 
-    fn grows(&self) -> bool {
-        true
-    }
-
     fn grow(&mut self) -> bool {
         // One item more than there is room for makes it double.
         self.map.reserve(self.map.capacity() - self.map.len() + 1);

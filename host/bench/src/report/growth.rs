@@ -1,0 +1,90 @@
+//! The figures of whole growths.
+
+use ragansils_counts::markdown::{heads, table};
+
+use crate::growth::{factors, Growths, FROM_FIRST};
+use crate::peers::{CUCKOO, LIBRARY, TWIN};
+use crate::rounds::Measured;
+
+use super::{bounds, intro, others, ratio, three_digits, time};
+
+/// Milliseconds.
+const UNIT: f64 = 1e6;
+
+/// The section of whole growths.
+pub fn growths(growths: &Growths, seed: u64) -> String {
+    [intro(seed), limit_table(growths), time_table(growths), peer_table(growths), instruction_table(growths)]
+        .join("\n")
+}
+
+fn limit_table(growths: &Growths) -> String {
+    let rows = growths.limits().into_iter().map(|limit| {
+        let verdict = if limit.is_met() { "met" } else { "missed" };
+        let measured = format!("**{:.2}**", limit.measured);
+        vec![limit.what, format!("{:.1}", limit.most), verdict.to_string(), measured, limit.of]
+    });
+    table("### Limits of a growth", &heads(&["", "at most", "", "measured", "where"]), rows)
+}
+
+/// The library beside the twin, and beside itself: at half the size, and in the old way.
+fn time_table(growths: &Growths) -> String {
+    let factors = factors(&growths.times);
+    let factor_at =
+        |k: u64| factors.iter().find(|(at, _)| *at == k).map(|(_, factor)| format!("{factor:.2}"));
+    let rows = growths.times.iter().filter_map(|measured| {
+        let k = measured.c - 1;
+        let middle = measured.ratio_to_twin()?;
+        let [library, twin, old_way] = [LIBRARY, TWIN, FROM_FIRST].map(|peer| time(measured, peer, UNIT));
+        let factor = factor_at(k).unwrap_or_default();
+        let n = (1u64 << k).to_string();
+        Some(vec![k.to_string(), n, library, factor, twin, ratio(middle), bounds(middle), old_way])
+    });
+    let names = [
+        "k",
+        "N = 2^k",
+        "library, ms",
+        "times that from N/2",
+        "twin, ms",
+        "library / twin",
+        "middle half",
+        "library from bucket 0 each time, ms",
+    ];
+    table("### One whole growth, begun at load 0.8", &heads(&names), rows)
+}
+
+fn peer_table(growths: &Growths) -> String {
+    let others: Vec<&str> = others(&growths.times).into_iter().filter(|peer| *peer != FROM_FIRST).collect();
+    let mut names = heads(&["k", "library, ms"]);
+    names.extend(others.iter().map(|peer| peer.to_string()));
+    let cell = |measured: &Measured, peer: &str| {
+        let middle = measured.ratio_to(peer)?;
+        Some(format!("{} ({:.2})", time(measured, peer, UNIT), middle.median))
+    };
+    let rows = growths.times.iter().map(|measured| {
+        let mut row = vec![(measured.c - 1).to_string(), time(measured, LIBRARY, UNIT)];
+        row.extend(others.iter().map(|peer| cell(measured, peer).unwrap_or_default()));
+        row
+    });
+    let title = format!(
+        "### A growth beside the doubling of other tables\n\nMilliseconds, and in brackets the library's time as a multiple of it. \
+         {CUCKOO} and `HashMap` hold as many items, and double their room at once."
+    );
+    table(&title, &names, rows)
+}
+
+fn instruction_table(growths: &Growths) -> String {
+    let rows = growths.instructions.iter().map(|(c, [library, twin])| {
+        vec![
+            (c - 1).to_string(),
+            three_digits(library.instructions),
+            three_digits(twin.instructions),
+            format!("**{:.2}**", library.instructions / twin.instructions),
+            format!("{:.2}", library.mispredicted),
+            format!("{:.2}", twin.mispredicted),
+        ]
+    });
+    let title = "### Instructions of a growth, for an item moved\n\nOf the whole growth, divided by the number of its items. Counted by \
+        callgrind, with its model of a branch predictor.";
+    let names = ["k", "library", "twin", "ratio", "mispredicted, library", "mispredicted, twin"];
+    table(title, &heads(&names), rows)
+}
