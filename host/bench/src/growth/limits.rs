@@ -84,7 +84,7 @@ impl Growths {
             what: format!("time from 2N top buckets as a multiple of that from N, N = 2^{LEAST_K} and more"),
             most: MOST_FACTOR,
             measured: worst.map_or(f64::NAN, |(_, factor)| factor),
-            of: worst.map_or("not measured".to_string(), |(k, _)| format!("worst from 2^{} to 2^{k}", k - 1)),
+            of: worst.map_or(String::new(), |(k, _)| format!("worst from 2^{} to 2^{k}", k - 1)),
         }
     }
 }

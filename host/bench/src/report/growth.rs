@@ -19,8 +19,11 @@ pub fn growths(growths: &Growths, seed: u64) -> String {
 
 fn limit_table(growths: &Growths) -> String {
     let rows = growths.limits().into_iter().map(|limit| {
-        let verdict = if limit.is_met() { "met" } else { "missed" };
-        let measured = format!("**{:.2}**", limit.measured);
+        let (verdict, measured) = match limit.measured {
+            number if number.is_nan() => ("not measured", String::new()),
+            number if limit.is_met() => ("met", format!("**{number:.2}**")),
+            number => ("missed", format!("**{number:.2}**")),
+        };
         vec![limit.what, format!("{:.1}", limit.most), verdict.to_string(), measured, limit.of]
     });
     table("### Limits of a growth", &heads(&["", "at most", "", "measured", "where"]), rows)
