@@ -120,13 +120,22 @@ pub fn step(words: &[u64]) -> Result<StoreList, Refusal> {
 /// in. Beside the stores it tells the bucket in which the item stood, counted the same, to go on from. Refusals: those of `step`; but
 /// `InterimEmpty` and `NoPlace` speak of the items from there on only.
 pub fn step_from(words: &[u64], from: u64) -> Result<(StoreList, u64), Refusal> {
-    let (mut list, mut answer) = ([0; LIST_WORDS], [0; 2]);
-    let (table, length, lent) = (words.as_ptr(), words.len(), list.as_mut_ptr());
+    let mut list = StoreList::empty();
+    let bucket = list_step_from(words, from, &mut list)?;
+    Ok((list, bucket))
+}
+
+/// The same into a list that the caller has; answers the bucket told. A whole growth makes this call for each of its items, and a list that
+/// is handed back by value is copied on its way.
+#[inline]
+pub(crate) fn list_step_from(words: &[u64], from: u64, list: &mut StoreList) -> Result<u64, Refusal> {
+    let mut answer = [0; 2];
+    let (table, length, lent) = (words.as_ptr(), words.len(), list.words.as_mut_ptr());
     // SAFETY: both pointers are valid for the lengths beside them, and table, list and answer lie apart.
     let number = unsafe { raw::ragansils_step_from(table, length, from, lent, LIST_WORDS, &mut answer) };
-    Refusal::check(number)?;
     let [count, bucket] = answer;
-    Ok((StoreList { words: list, count }, bucket))
+    list.count = count;
+    Refusal::check(number).map(|()| bucket)
 }
 
 /// Lists the store that ends a growth. Refusals: `BadHeader`, `FlagSet`, `NotGrowing`, `InterimTaken`.

@@ -84,6 +84,7 @@ impl Refusal {
     }
 
     /// What a number of the library means.
+    #[inline]
     pub(crate) fn check(number: u64) -> Result<(), Refusal> {
         match number {
             0 => Ok(()),

@@ -22,17 +22,25 @@ pub struct StoreList {
 }
 
 impl StoreList {
+    #[inline]
+    pub(crate) fn empty() -> StoreList {
+        StoreList { words: [0; LIST_WORDS], count: 0 }
+    }
+
     /// The number of stores.
+    #[inline]
     pub fn count(&self) -> u64 {
         self.count
     }
 
     /// The stores as a call lists them: index and value of each, in turn.
+    #[inline]
     pub fn words(&self) -> &[u64] {
         &self.words[..2 * self.count as usize]
     }
 
     /// The stores in order.
+    #[inline]
     pub fn stores(&self) -> impl Iterator<Item = Store> + '_ {
         self.words().chunks_exact(2).map(|pair| Store { index: pair[0] as usize, value: pair[1] })
     }

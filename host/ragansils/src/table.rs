@@ -126,13 +126,10 @@ impl<W: AsRef<[u64]> + AsMut<[u64]>, P: Platform> Table<W, P> {
     /// A wrong start costs time or leaves items for later, and never makes a wrong table. [`grow_on`](Table::grow_on) does all this by
     /// itself.
     pub fn step_from(&mut self, from: u64) -> Result<Step, Refusal> {
-        let mut bucket = 0;
-        let stores = self.change(|words| {
-            let (list, told) = calls::step_from(words, from)?;
-            bucket = told;
-            Ok(list)
-        })?;
-        Ok(Step { stores, bucket })
+        let mut list = StoreList::empty();
+        let bucket = calls::list_step_from(self.words(), from, &mut list)?;
+        make_in_order(self.words.as_mut(), &list, &mut self.platform);
+        Ok(Step { stores: list.count(), bucket })
     }
 
     /// Ends a growth, by 1 store. Refusals: `NotGrowing`, `InterimTaken`.
