@@ -23,7 +23,7 @@
 
 use crate::raw;
 use crate::stores::LIST_WORDS;
-use crate::{Chain, Creation, Key, Lookup, Record, Refusal, StoreList};
+use crate::{ahead, Chain, Creation, Key, Lookup, Record, Refusal, StoreList};
 
 /// Zeroes all words and writes the header of an empty table. Refusal: `BadCreation`.
 pub fn create(words: &mut [u64], creation: &Creation) -> Result<(), Refusal> {
@@ -136,6 +136,13 @@ pub(crate) fn list_step_from(words: &[u64], from: u64, list: &mut StoreList) -> 
     let [count, bucket] = answer;
     list.count = count;
     Refusal::check(number).map(|()| bucket)
+}
+
+/// Asks the processor for the words that the steps will look at that come after one in this bucket; `last` is the bucket of the step before
+/// it. A mere hint, for whoever drives a growth by hand: nothing that is answered or stored depends on it.
+#[inline]
+pub fn read_ahead(words: &[u64], last: u64, bucket: u64) {
+    ahead::read_ahead(words, last, bucket)
 }
 
 /// Lists the store that ends a growth. Refusals: `BadHeader`, `FlagSet`, `NotGrowing`, `InterimTaken`.

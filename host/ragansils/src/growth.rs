@@ -59,6 +59,7 @@ impl<W: AsRef<[u64]> + AsMut<[u64]>, P: Platform> Table<W, P> {
             stepped = self.step_from(0);
         }
         if let Ok(Step { bucket, .. }) = stepped {
+            calls::read_ahead(self.words(), self.growth_hint, bucket);
             self.growth_hint = bucket;
         }
         stepped

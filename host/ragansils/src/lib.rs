@@ -37,6 +37,7 @@
 //! ```
 #![deny(missing_docs)]
 
+mod ahead;
 mod bytes;
 pub mod calls;
 mod creation;

@@ -1,6 +1,6 @@
 //! The ways through a whole growth of a level table, from its beginning to its end.
 
-use ragansils::{OrdinaryMemory, Table};
+use ragansils::{calls, OrdinaryMemory, Table};
 use ragansils_model::{Event, SUCCESS};
 use ragansils_twin::{Side, Twin};
 
@@ -46,13 +46,16 @@ fn by_the_twin(table: Lent) -> Grown {
     Grown { nanoseconds, has_ended, words }
 }
 
-/// As the crate's driver does it: each step goes on from the bucket told, and where none is taken there, once more from the first.
+/// As the crate's driver does it: each step goes on from the bucket told, and reads ahead; where none is taken there, once more from the first.
 fn grow_on(side: &mut impl Side, words: &mut [u64]) -> bool {
     let begun = side.change(words, Event::Begin);
     let mut from = 0;
     loop {
         match side.step_from(words, from) {
-            (SUCCESS, bucket) => from = bucket,
+            (SUCCESS, bucket) => {
+                calls::read_ahead(words, from, bucket);
+                from = bucket;
+            }
             _ if from > 0 => from = 0,
             _ => break,
         }
