@@ -179,8 +179,8 @@ uint64_t ragansils_step(const uint64_t *table, size_t words, uint64_t *list, siz
  * a later bucket, items without a place may be left before it: then end answers 10. Any word may be handed in as from; past the level there
  * are no items, so that is 11.
  *
- * No step gives a place to an interim item that had none. So where no other call comes between, one pass, from 0 and on from each bucket
- * told, places all items that have a place. Begin again at 0 only where another call has changed the table since: a delete may have made
+ * On a sound table no step gives a place to an interim item that had none. So where no other call comes between, one pass, from 0 and on
+ * from each bucket told, places all items that have a place. Begin again at 0 only where another call has changed the table since: a delete may have made
  * room for an item that the pass left behind. That is early enough when the pass has ended, with 11 or 6; done after each delete, the growth
  * is quadratic again. A wrong start costs time or leaves items for later, and never makes a wrong table. So the bucket may be forgotten at any time,
  * and 0 is right after a restart, recover, begin and end.

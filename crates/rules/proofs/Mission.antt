@@ -16,7 +16,7 @@ use Rattle.rules.proofs.Calls.StepSentences.{stepTakesTheFirst, noItemB
 use Rattle.rules.proofs.Calls.StepSentences.{takesTheFirstFrom, elevenFromExactly, sixFromExactly}
 use Rattle.rules.proofs.Calls.StepFromSentences.{stepFromIsACall, zeroIsTheStep, refusedTellsZero, pastTheLevel, asTheStep}
 use Rattle.rules.proofs.Calls.StuckItems.{stuckStaysStuck, insertsGiveNoPlace}
-use Rattle.rules.proofs.Growth.Passes.{passEnds, passPlacesAll, passLooksAtFew}
+use Rattle.rules.proofs.Growth.Passes.{passEnds, passPlacesAll, looksUntilFound, passLooksAtFew}
 use Rattle.rules.proofs.Calls.Inside.{storesInside, tokenStoresLow}
 use Rattle.rules.proofs.Calls.Inserting.{insertAnswers}
 use Rattle.rules.proofs.Calls.Updating.{updateAnswers, deleteAnswers}
@@ -110,6 +110,7 @@ goesOn =
       insertsGiveNoPlace = insertsGiveNoPlace;
       passEnds = passEnds;
       passPlacesAll = passPlacesAll;
+      looksUntilFound = looksUntilFound;
       passLooksAtFew = passLooksAtFew;
     }
 

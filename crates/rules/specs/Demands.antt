@@ -140,11 +140,15 @@ None Items = (x : Slot) → Items x → ⊥
 abbrev pub NoInterim : Table → Type 0
 NoInterim t = None (InterimItem t)
 
+-- how many buckets the interim level has: "a quarter" of 2^k
+abbrev pub interimSize : Table → ℕ
+interimSize t = 2 ^ (headerOf t .state .k - 2)
+
 -- the step that goes on: an interim item "from there on", that is in the level's bucket b, "counted from 0 in the level", or in a later one.
--- "A level of M buckets .. is always buckets M − 1 to 2M − 2", and the interim level has a quarter of 2^k
+-- "A level of M buckets .. is always buckets M − 1 to 2M − 2"
 pub record InterimFrom (t : Table) (b : ℕ) (x : Slot) : Type 0 where
   pub item : InterimItem t x
-  pub start : 2 ^ (headerOf t .state .k - 2) - 1 + b ≤ x .bucket
+  pub start : interimSize t - 1 + b ≤ x .bucket
 
 -- request b), "the first interim item, in the same order, that has a place": it has one, and every earlier one has none. "No place" is
 -- meant as for insert; the order is "bucket, then slot ascending". Of all interim items, or of those from a bucket on

@@ -11,7 +11,7 @@ use Rattle.rules.specs.Demands.{ProbesAreDistinct}
 use Rattle.rules.specs.ChainSentences.{ChainRefusals, ChainWrites, ChainCounts, ChainLooksAtFew, ChainAnswers, ChainsAfterCuts}
 use Rattle.rules.specs.StepFromSentences.{StepFromIsACall, ZeroIsTheStep, TakesTheFirstFrom, ElevenFromExactly, SixFromExactly}
 use Rattle.rules.specs.StepFromSentences.{RefusedTellsZero, PastTheLevel, AsTheStep, StuckStaysStuck, InsertsGiveNoPlace}
-use Rattle.rules.specs.StepFromSentences.{PassEnds, PassPlacesAll, PassLooksAtFew}
+use Rattle.rules.specs.StepFromSentences.{PassEnds, PassPlacesAll, LooksUntilFound, PassLooksAtFew}
 use Rattle.rules.specs.StepSentences.{StepTakesTheFirst, NoItemBlocks, SixExactly, ElevenExactly, SixIsNotEleven}
 
 pub record Demand1 : Type 0 where
@@ -111,7 +111,9 @@ pub record GoesOn : Type 0 where
   -- has a place"
   pub passEnds : PassEnds
   pub passPlacesAll : PassPlacesAll
-  -- "a pass of s steps over a level of M buckets looks at no more than M + s interim buckets"
+  -- "a pass of s steps over a level of M buckets looks at no more than M + s interim buckets (.. as a theorem over the definition of what is
+  -- looked at)"
+  pub looksUntilFound : LooksUntilFound
   pub passLooksAtFew : PassLooksAtFew
 
 -- the user's three demands, document 02's requests, and the step that goes on

@@ -15,8 +15,9 @@ use Rattle.rules.specs.Placing.{takenIn, freeSlot, fewer, emptier, roomI
 use Rattle.rules.specs.Stores.{putStores, clearStores, moveStores, placingStores, beginStores, endStores, stepStores, written}
 use Rattle.rules.specs.Answers.{steppedMeans, steppedFromMeans}
 use Rattle.rules.specs.Calls.{headerGood, listLong, flagClear, changingTests, beginTests, beginOf, interimSlots, interimItems, interimBucket}
-use Rattle.rules.specs.Calls.{itemsFrom, hasPlace, stepItem, stepTests, stepOf, endTests, endOf, delete, begin, stepFrom, step, end, outcome}
+use Rattle.rules.specs.Calls.{itemsFrom, hasPlace, stepItem, stepTests, stepOf, endTests, endOf, Call, delete, begin, stepFrom, step, end, outcome}
 use Rattle.rules.specs.Results.{changeResult, stepFromResult, stepResult, createTests, created, createResult, makeTests, makeResult}
+use Rattle.rules.specs.Histories.{whole, spent}
 use Rattle.rules.specs.declared.Record.{Record}
 use Rattle.rules.specs.Examples.{Shown, lists, refuses, tells, words, Row, row, sees, inserted, answered, madeFirst, madeAll, fresh}
 
@@ -78,6 +79,8 @@ goesOn r t =
     -- 3 comes first; and at rest it is 8, whatever the start
     ∷ row 28 (toldFrom (set gone 5 1) 1) (tells 3 (0 ∷ 0 ∷ []))
     ∷ row 29 (toldFrom (set gone 4 3) 2) (tells 8 (0 ∷ 0 ∷ []))
+    -- "It counts among growth's own calls": five stores of each step, and none of a delete
+    ∷ row 32 (words (spent t (map (λ (q : Call). whole q (replicate 20 0)) (stepFrom 1 ∷ step ∷ delete 0 ∷ [])) ∷ [])) (words (10 ∷ []))
     ∷ []
 
 -- t is `late r`
@@ -121,13 +124,13 @@ oneBucket r t =
 unfoldable pub twoBuckets : (ℕ → Record) → Table → List Row
 twoBuckets r t =
     let half = inserted r t (48 ∷ 56 ∷ 64 ∷ 72 ∷ []) in
-    let whole = inserted r half (36 ∷ 44 ∷ 52 ∷ 60 ∷ []) in
+    let full = inserted r half (36 ∷ 44 ∷ 52 ∷ 60 ∷ []) in
     -- slot after slot of one bucket: 16 and 24 are stuck, in slots 0 and 2
     row 13 (sees half step) (lists ((153, 20) ∷ (154, r 20 .function) ∷ (155, r 20 .place) ∷ (152, 1) ∷ (22, 13) ∷ []))
     ∷ row 14 (sees (madeAll half step) step) (lists ((156, 28) ∷ (157, r 28 .function) ∷ (158, r 28 .place) ∷ (152, 3) ∷ (22, 5) ∷ []))
     -- bucket after bucket: the whole first bucket is stuck
-    ∷ row 15 (sees whole step) (lists ((114, 17) ∷ (115, r 17 .function) ∷ (116, r 17 .place) ∷ (113, 1) ∷ (35, 0) ∷ []))
-    ∷ row 16 (sees (madeAll whole step) step) (refuses 6)
+    ∷ row 15 (sees full step) (lists ((114, 17) ∷ (115, r 17 .function) ∷ (116, r 17 .place) ∷ (113, 1) ∷ (35, 0) ∷ []))
+    ∷ row 16 (sees (madeAll full step) step) (refuses 6)
     ∷ row 17 (words (answered r t (48 ∷ 56 ∷ 64 ∷ 72 ∷ 36 ∷ 44 ∷ 52 ∷ 60 ∷ []))) (words (replicate 8 0))
     ∷ goesOn r half
 

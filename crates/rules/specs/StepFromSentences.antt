@@ -4,7 +4,7 @@
 -- 20N + 2 statement, and in every statement about cuts and maps that the step has": `GrowthBound`, `CutsAreSafe`, `StepAnswers` and the others
 -- of `Demands` that speak of every call.
 -- Assumes nothing.
-use Prim.Native.Nat.{ℕ, _+_, _-_, _*_, _^_, _≤_}
+use Prim.Native.Nat.{ℕ, _+_, _-_, _*_, _≤_}
 use mathlib.Core.Path.{_≡_}
 use mathlib.Core.Bool.{Bool, cond}
 use mathlib.Core.List.{List, [], _∷_, map}
@@ -12,7 +12,7 @@ use mathlib.Core.Logic.{_⊎_, _↔_}
 use lib.ListN.{length}
 use lib.Dec.{eqb}
 use Rattle.rules.specs.Choice.{any, select, from}
-use Rattle.rules.specs.Words.{Table, headerOf, sizeOf, interimOf, keyIn}
+use Rattle.rules.specs.Words.{Table, headerOf, keyIn, recordIn}
 use Rattle.rules.specs.Placing.{placing}
 use Rattle.rules.specs.Stores.{Store, made}
 use Rattle.rules.specs.Soundness.{SoundTable}
@@ -21,7 +21,7 @@ use Rattle.rules.specs.Calls.{refused, listed, interimItems, interimBuck
 use Rattle.rules.specs.Results.{changeResult, stepFromResult, stepResult}
 use Rattle.rules.specs.NoPlace.{NoPlaceFor}
 use Rattle.rules.specs.Histories.{whole, after, Accepted}
-use Rattle.rules.specs.Demands.{Growing, InterimItem, None, NoInterim, InterimFrom, FirstWithPlace, NoneHasPlace, StepWritten}
+use Rattle.rules.specs.Demands.{Growing, InterimItem, None, NoInterim, interimSize, InterimFrom, FirstWithPlace, NoneHasPlace, StepWritten}
 use Rattle.rules.specs.StepSentences.{MayStep}
 use Rattle.rules.specs.declared.Header.{Header}
 use Rattle.rules.specs.declared.Record.{Record}
@@ -29,10 +29,6 @@ use Rattle.rules.specs.declared.Slot.{Slot}
 use Rattle.rules.specs.declared.Refusal.{Refusal}
 use Rattle.rules.specs.declared.Refusal.the-variants.{NoPlace, InterimEmpty}
 use Rattle.rules.specs.declared.Change.the-variants.{Listed}
-
--- how many buckets the interim level has
-abbrev pub interimSize : Table → ℕ
-interimSize t = 2 ^ (headerOf t .state .k - 2)
 
 -- ==== "in every statement about cuts and maps that the step has": its answer and its list are those of the call that they speak of
 
@@ -102,6 +98,7 @@ abbrev pub InsertsGiveNoPlace : Type 0
 InsertsGiveNoPlace =
     (t : Table) (n key : ℕ) (r : Record) (stores : List Store) → SoundTable t → outcome t n (insert key r) ≡ listed stores
     → ((x : Slot) → InterimItem (made t stores) x ↔ InterimItem t x)
+    × ((x : Slot) → InterimItem t x → (keyIn (made t stores) x ≡ keyIn t x) × (recordIn (made t stores) x ≡ recordIn t x))
     × ((other : ℕ) → NoPlaceFor t (headerOf t) other → NoPlaceFor (made t stores) (headerOf (made t stores)) other)
 
 -- ==== "with no other call between, one pass that goes on from the bucket told"
@@ -121,7 +118,7 @@ abbrev pub PassPlacesAll : Type 0
 PassPlacesAll =
     (t u : Table) (c n : ℕ) (ls : List (List ℕ)) (r : Refusal) → SoundTable t → Growing t → Pass t 0 ls u c
     → 20 ≤ n → outcome u n (stepFrom c) ≡ refused r
-    → (NoInterim u × (r ≡ InterimEmpty)) ⊎ NoneHasPlace u (InterimItem u)
+    → (NoInterim u × (r ≡ InterimEmpty)) ⊎ (NoneHasPlace u (InterimItem u) × ((r ≡ InterimEmpty) ⊎ (r ≡ NoPlace)))
 
 -- what a step looks at: bucket after bucket from its start on, each counted from 0 in the level, until one has an item that has a place
 unfoldable pub placesAny : Table → Header → ℕ → Bool
@@ -132,7 +129,16 @@ upTo p [] = []
 upTo p (i ∷ is) = i ∷ cond (p i) [] (upTo p is)
 
 unfoldable pub lookedAt : Table → ℕ → List ℕ
-lookedAt t b = upTo (placesAny t (headerOf t)) (from b (sizeOf (interimOf (headerOf t .state)) - b))
+lookedAt t b = upTo (placesAny t (headerOf t)) (from b (interimSize t - b))
+
+-- that is, from its start to the bucket that it tells, both counted; and to the level's last where it gives 6 or 11
+abbrev pub LooksUntilFound : Type 0
+LooksUntilFound =
+    (t : Table) (b : ℕ) (l : List ℕ)
+    → ((stores : List Store) → outcome t (length l) (stepFrom b) ≡ listed stores
+    → lookedAt t b ≡ from b (stepFromResult t b l .0 .bucket + 1 - b))
+    × (((outcome t (length l) (stepFrom b) ≡ refused InterimEmpty) ⊎ (outcome t (length l) (stepFrom b) ≡ refused NoPlace))
+    → lookedAt t b ≡ from b (interimSize t - b))
 
 -- the buckets looked at in a pass, with those of the step that ends it; a bucket counts for each step that looks at it
 abbrev pub looks : Table → ℕ → List (List ℕ) → ℕ

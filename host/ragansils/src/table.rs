@@ -29,8 +29,8 @@ use crate::{calls, Creation, Frames, Key, Lookup, Platform, Record, Refusal, Ste
 pub struct Table<W, P> {
     words: W,
     platform: P,
-    /// The interim bucket from which the growth driver goes on. It is a mere hint: any word here leads to the same answers, and a wrong one
-    /// costs time. So it is not kept in the table, and each opened or created one begins at 0.
+    /// The interim bucket from which the growth driver goes on. It is a mere hint: with any word here a part answers as with any other, though
+    /// it may move another item, and a wrong one costs time. So it is not kept in the table, and each opened or created one begins at 0.
     pub(crate) growth_hint: u64,
 }
 
@@ -103,7 +103,7 @@ impl<W: AsRef<[u64]> + AsMut<[u64]>, P: Platform> Table<W, P> {
     /// be handed in; past the level there are no items. Refusals: those of `step`; but `InterimEmpty` and `NoPlace` speak of the items from
     /// there on only.
     ///
-    /// No step gives a place to an item that had none. So where no other call comes between, one pass, from 0 and on from each bucket told,
+    /// On a sound table no step gives a place to an item that had none. So where no other call comes between, one pass, from 0 and on from each bucket told,
     /// moves all items that have a place:
     ///
     /// ```

@@ -7,7 +7,7 @@ use mathlib.Core.Bool.{Bool, true, false}
 use mathlib.Core.List.{List, List·Memᴰ as In}
 use mathlib.Core.Logic.{_⊎_, inl, inr, _↔_, ⊎-elim}
 use mathlib.Core.Option.{Option, none, some}
-use Rattle.rules.specs.Words.{Table, headerOf, interim, InUse, placeOf, keyIn, tokenOf, taken, hide}
+use Rattle.rules.specs.Words.{Table, headerOf, interim, InUse, placeOf, keyIn, recordIn, tokenOf, taken, hide}
 use Rattle.rules.specs.Places.{lookup, placesOf}
 use Rattle.rules.specs.Placing.{placing}
 use Rattle.rules.specs.Stores.{Store, putStores, moveStores, placingStores, stepStores, made}
@@ -106,7 +106,7 @@ stuckStaysStuck t n b stores sound e key stuck =
 record Inserted (t u : Table) : Type 0 where
   pub header : headerOf u ≡ headerOf t
   pub crowds : Crowds t u
-  pub stays : (y : Slot) → InterimItem t y → TakenSlot u y
+  pub stays : (y : Slot) → InterimItem t y → TakenSlot u y × (keyIn u y ≡ keyIn t y) × (recordIn u y ≡ recordIn t y)
   pub stood : (y : Slot) → TakenSlot u y → y .level ≡ interim → TakenSlot t y
 
 module _ (t : Table) (m : PlainMap) (whole : SoundMap t m) (key : ℕ) (r : Record) where
@@ -119,7 +119,7 @@ module _ (t : Table) (m : PlainMap) (whole : SoundMap t m) (key : ℕ) (r : Reco
       record {
         header = put-writes t m whole x used (f .free) key r (f .among) .near .header;
         crowds = λ z a s. let k = stays z a in (k .0, inl (k .1));
-        stays = λ y i. stays y (i .item) .0;
+        stays = λ y i. stays y (i .item);
         stood = λ y a l.
             ⊎-elim (λ (same : y ≡ x). absurd (not-interim y (rw (← same) at (f .level)) l)) (λ (b : TakenSlot t y). b)
             (put-stood t m whole x used (f .free) key r (f .among) y a);
@@ -170,7 +170,10 @@ module _ (t : Table) (m : PlainMap) (whole : SoundMap t m) (key : ℕ) (r : Reco
         record {
           header = put-writes between m (moved .whole) from there (moved .free) key r among .near .header ∙ moved .header;
           crowds = λ z a s. let k = crowded-twice z a (slot-same z from) in (k .0, room-made t key (Move from to) e z (k .1));
-          stays = λ y i. crowded-twice y (i .item) (slot-same y from) .0;
+          stays = λ y i.
+              let first = moved .stays y (i .item) (λ same. not-interim y (rw (← same) at (freed .level)) (i .level)) in
+              let second = put-stays between m (moved .whole) from there (moved .free) key r among y (first .0) in
+              (second .0, second .1 ∙ first .1, second .2 ∙ first .2);
           stood = λ y a l.
               ⊎-elim (λ (same : y ≡ from). absurd (not-interim y (rw (← same) at (freed .level)) l))
               (λ (b : TakenSlot between y).
@@ -194,11 +197,13 @@ insertsGiveNoPlace t n key r stores sound e = told (look (lookup t (headerOf t) 
     look (Absent k) f = let m = mapExists t sound in by-placing t (m .0) (record { sound = sound; map = m .1 }) key r (placing t (headerOf t) key) refl stores f
 
     told : Inserted t (made t stores) → ((x : Slot) → InterimItem (made t stores) x ↔ InterimItem t x)
+        × ((x : Slot) → InterimItem t x → (keyIn (made t stores) x ≡ keyIn t x) × (recordIn (made t stores) x ≡ recordIn t x))
         × ((other : ℕ) → NoPlaceFor t (headerOf t) other → NoPlaceFor (made t stores) (headerOf (made t stores)) other)
     told i = (
       λ x. (
         λ (u : InterimItem (made t stores) x). record { item = i .stood x (u .item) (u .level); level = u .level },
-        λ (u : InterimItem t x). record { item = i .stays x u; level = u .level },
+        λ (u : InterimItem t x). record { item = i .stays x u .0; level = u .level },
       ),
+      λ x u. let k = i .stays x u in (k .1, k .2),
       λ other stuck. still-stuck t (made t stores) (i .header) (i .crowds) other stuck,
     )

@@ -22,8 +22,8 @@ use Rattle.rules.specs.Calls.{outcome}
 use Rattle.rules.specs.Results.{changeResult, stepFromResult}
 use Rattle.rules.specs.NoPlace.{NoPlaceFor}
 use Rattle.rules.specs.Histories.{whole, after, Accepted}
-use Rattle.rules.specs.Demands.{Growing, InterimItem, None, NoInterim, InterimFrom, FirstWithPlace, NoneHasPlace, StepBy}
-use Rattle.rules.specs.StepFromSentences.{Pass, PassEnds, PassPlacesAll, placesAny, upTo, lookedAt, looks, PassLooksAtFew}
+use Rattle.rules.specs.Demands.{Growing, InterimItem, None, NoInterim, interimSize, InterimFrom, FirstWithPlace, NoneHasPlace, StepBy}
+use Rattle.rules.specs.StepFromSentences.{Pass, PassEnds, PassPlacesAll, placesAny, upTo, lookedAt, LooksUntilFound, looks, PassLooksAtFew}
 use Rattle.rules.specs.declared.Header.{Header}
 use Rattle.rules.specs.declared.Slot.{Slot}
 use Rattle.rules.specs.declared.Placing.the-variants.{Move}
@@ -37,8 +37,8 @@ use Rattle.rules.proofs.Tables.Interims.{interim-item, interim-empty, i
 use Rattle.rules.proofs.Tables.Maps.{mapExists}
 use Rattle.rules.proofs.Calls.Checked.{checked-listed}
 use Rattle.rules.proofs.Calls.StoreLists.{listed-one, never-listed}
-use Rattle.rules.proofs.Calls.MadeLists.{storesOf, after-whole, accepted-lists}
-use Rattle.rules.proofs.Calls.StepSentences.{accepted-behind}
+use Rattle.rules.proofs.Calls.MadeLists.{storesOf, after-whole, accepted-lists, lists-accepted}
+use Rattle.rules.proofs.Calls.StepSentences.{accepted-behind, elevenFromExactly, sixFromExactly}
 use Rattle.rules.proofs.Calls.GrowthSteps.{not-interim, taken-steps, stepAnswers}
 use Rattle.rules.proofs.Calls.StuckItems.{stuckStaysStuck}
 use Rattle.rules.proofs.Growth.GrowthCost.{count, count-most, steps-count, step-taken}
@@ -156,6 +156,10 @@ pass-stuck (l ∷ ls) t u b c sound growing stuck p =
     let k = step-onward t b l sound stuck s in
     pass-stuck ls (made t (s .stores)) u (interimBucket (headerOf t .state) (s .slot)) c (k .0) (k .1) (k .2) (rw (s .result, s .told) at (p .1))
 
+-- what a pass that ends with refusal r leaves
+abbrev Left : Table → Refusal → Type 0
+Left u r = (NoInterim u × (r ≡ InterimEmpty)) ⊎ (NoneHasPlace u (InterimItem u) × ((r ≡ InterimEmpty) ⊎ (r ≡ NoPlace)))
+
 pub passPlacesAll : PassPlacesAll
 passPlacesAll t u c n ls r sound growing p room e = go (k .0) (k .1) (k .2)
   where
@@ -175,20 +179,20 @@ passPlacesAll t u c n ls r sound growing p room e = go (k .0) (k .1) (k .2)
     same q = let z = sym e ∙ q in cc
 
     left : StuckBefore u c → (b : Bool) → empty (interimItems u (headerOf u)) ≡ b → None (InterimFrom u c)
-        → outcome u n (stepFrom c) ≡ refused InterimEmpty → (NoInterim u × (r ≡ InterimEmpty)) ⊎ NoneHasPlace u (InterimItem u)
+        → outcome u n (stepFrom c) ≡ refused InterimEmpty → Left u r
     left stuck true q gone a = inl (interim-empty u .0 q, same a)
-    left stuck false q gone a = inr (record { remain = interim-left u q; stuck = all-stuck stuck (λ y f. absurd (gone y f)) })
+    left stuck false q gone a = inr (record { remain = interim-left u q; stuck = all-stuck stuck (λ y f. absurd (gone y f)) }, inl (same a))
 
     by-answer : StuckBefore u c → (None (InterimFrom u c) × (outcome u n (stepFrom c) ≡ refused InterimEmpty))
         ⊎ ((NoneHasPlace u (InterimFrom u c) × (outcome u n (stepFrom c) ≡ refused NoPlace))
         ⊎ ((x : Slot) × FirstWithPlace u (InterimFrom u c) x × StepBy u (mapExists u (k .0) .0) x (outcome u n (stepFrom c))))
-        → (NoInterim u × (r ≡ InterimEmpty)) ⊎ NoneHasPlace u (InterimItem u)
+        → Left u r
     by-answer stuck (inl (gone, a)) = left stuck (empty (interimItems u (headerOf u))) refl gone a
     by-answer stuck (inr (inl (left-over, a))) =
-        inr (record { remain = (left-over .remain .0, left-over .remain .1 .item); stuck = all-stuck stuck (left-over .stuck) })
+        inr (record { remain = (left-over .remain .0, left-over .remain .1 .item); stuck = all-stuck stuck (left-over .stuck) }, inr (same a))
     by-answer stuck (inr (inr (x, f, s))) = never-listed (sym e ∙ s .0 .answer)
 
-    go : SoundTable u → Growing u → StuckBefore u c → (NoInterim u × (r ≡ InterimEmpty)) ⊎ NoneHasPlace u (InterimItem u)
+    go : SoundTable u → Growing u → StuckBefore u c → Left u r
     go w grows stuck =
         let m = mapExists u (k .0) in
         by-answer stuck (stepAnswers u (m .0) n (record { sound = k .0; map = m .1; room = room }) c .1 grows)
@@ -205,7 +209,7 @@ module _ (p : ℕ → Bool) where
       go false k = omega arith
 
   -- none of the first k passes, and the next one does
-  up-to-first : (k b n : ℕ) → k < n → ((i : ℕ) → b ≤ i → i < b + k → p i ≡ false) → p (b + k) ≡ true → length (upTo p (from b n)) ≡ k + 1
+  up-to-first : (k b n : ℕ) → k < n → ((i : ℕ) → b ≤ i → i < b + k → p i ≡ false) → p (b + k) ≡ true → upTo p (from b n) ≡ from b (k + 1)
   up-to-first k b zero l missed found = absurd (omega arith)
   up-to-first zero b (suc n) l missed found =
       let same : b + 0 ≡ b = omega arith in
@@ -214,8 +218,13 @@ module _ (p : ℕ → Bool) where
   up-to-first (suc k) b (suc n) l missed found =
       let miss = missed b (omega arith) (omega arith) in
       let next : b + suc k ≡ suc b + k = omega arith in
-      let rest = up-to-first k (suc b) n (omega arith) (λ i m o. missed i (omega arith) (omega arith)) (rw next at found) in
-      rw miss (omega (arith, rest))
+      let count : suc k + 1 ≡ suc (k + 1) = omega arith in
+      rw (miss, count) (ap (λ is. b ∷ is) (up-to-first k (suc b) n (omega arith) (λ i m o. missed i (omega arith) (omega arith)) (rw next at found)))
+
+  -- none passes
+  up-to-none : (b n : ℕ) → ((i : ℕ) → b ≤ i → p i ≡ false) → upTo p (from b n) ≡ from b n
+  up-to-none b zero missed = refl
+  up-to-none b (suc n) missed = rw (missed b (omega arith)) (ap (λ is. b ∷ is) (up-to-none (suc b) n (λ i l. missed i (omega arith))))
 
 module _ (t : Table) where
   -- a bucket with an item that has a place
@@ -224,6 +233,23 @@ module _ (t : Table) where
       × (hasPlace t (headerOf t) x ≡ true))
   unfolding placesAny
   any-placed i = tells-any (hasPlace t (headerOf t)) (λ x. hasPlace t (headerOf t) x ≡ true) (λ x. (λ e. e, λ e. e)) _
+
+  -- and one where no item from bucket b on has one
+  none-placed : (b i : ℕ) → b ≤ i
+      → ((y : Slot) → InterimFrom t b y → interimBucket (headerOf t .state) y ≡ i → NoPlaceFor t (headerOf t) (keyIn t y))
+      → placesAny t (headerOf t) i ≡ false
+  unfolding hasPlace
+  none-placed b i l stuck = go (placesAny t (headerOf t) i) refl
+    where
+      go : (o : Bool) → placesAny t (headerOf t) i ≡ o → o ≡ false
+      go true e =
+          let r = any-placed i .0 e in
+          let k = select-in (λ (y : Slot). eqb (interimBucket (headerOf t .state) y) i) (interimItems t (headerOf t)) (r .0) (r .1) in
+          let item = interim-item t (r .0) .0 (k .0) in
+          let there = eqb-true (interimBucket (headerOf t .state) (r .0)) i (k .1) in
+          let none-here = stuck (r .0) (from-bucket t b (r .0) item (omega (arith, there))) there in
+          never (r .2) (ap somewhere (no-place t (headerOf t) (keyIn t (r .0)) .1 none-here))
+      go false e = refl
 
   module _ (b : ℕ) (x : Slot) (first : FirstWithPlace t (InterimFrom t b) x) where
     abbrev told : ℕ
@@ -242,34 +268,21 @@ module _ (t : Table) where
     )
 
     bucket-missed : (i : ℕ) → b ≤ i → i < told → placesAny t (headerOf t) i ≡ false
-    unfolding hasPlace
-    bucket-missed i l m = go (placesAny t (headerOf t) i) refl
-      where
-        go : (o : Bool) → placesAny t (headerOf t) i ≡ o → o ≡ false
-        go true e =
-            let r = any-placed i .0 e in
-            let k = select-in (λ (y : Slot). eqb (interimBucket (headerOf t .state) y) i) (interimItems t (headerOf t)) (r .0) (r .1) in
-            let item = interim-item t (r .0) .0 (k .0) in
-            let there = eqb-true (interimBucket (headerOf t .state) (r .0)) i (k .1) in
-            let stuck = first .earlier (r .0) (from-bucket t b (r .0) item (omega (arith, there)))
-            (bucket-before t x (r .0) (first .item .item) item (omega (arith, there))) in
-            never (r .2) (ap somewhere (no-place t (headerOf t) (keyIn t (r .0)) .1 stuck))
-        go false e = refl
+    bucket-missed i l m = none-placed b i l (λ y u e. first .earlier y u (bucket-before t x y (first .item .item) (u .item) (omega (arith, e))))
 
-    looked : length (lookedAt t b) + b ≡ told + 1
-    unfolding lookedAt
+    looked : lookedAt t b ≡ from b (told + 1 - b)
+    unfolding lookedAt interimOf
     looked =
-        let size = sizeOf (interimOf (headerOf t .state)) in
         let r = told-range in
         let on : b + (told - b) ≡ told = omega (arith, r .0) in
-        let k = up-to-first (placesAny t (headerOf t)) (told - b) b (size - b) (omega (arith, r .0, r .1))
-        (λ i l m. bucket-missed i l (omega (arith, on))) (rw on bucket-hit) in
-        omega (arith, k, r .0)
+        let last : told - b + 1 ≡ told + 1 - b = omega (arith, r .0) in
+        up-to-first (placesAny t (headerOf t)) (told - b) b (interimSize t - b) (omega (arith, r .0, r .1))
+        (λ i l m. bucket-missed i l (omega (arith, on))) (rw on bucket-hit) ∙ ap (from b) last
 
 looked-most : (t : Table) (b : ℕ) → length (lookedAt t b) ≤ sizeOf (interimOf (headerOf t .state)) - b
-unfolding lookedAt
+unfolding lookedAt interimOf
 looked-most t b =
-    let n = sizeOf (interimOf (headerOf t .state)) - b in
+    let n = interimSize t - b in
     omega (arith, up-to-most (placesAny t (headerOf t)) (from b n), from-length b n)
 
 -- the buckets from b on once, and one more for each step
@@ -282,8 +295,27 @@ pass-looks (l ∷ ls) t u b c p =
     let rest = pass-looks ls (after t (whole (stepFrom b) l)) u _ c (p .1) in
     let r = told-range t b (s .slot) first in
     let size : sizeOf (interimOf (headerOf (after t (whole (stepFrom b) l)) .state)) ≡ sizeOf (interimOf (headerOf t .state)) = rw (s .result, header) in
-    omega (arith, looked t b (s .slot) first, r .0, r .1, s .told, rest, size)
+    let here : length (lookedAt t b) ≡ interimBucket (headerOf t .state) (s .slot) + 1 - b = ap length (looked t b (s .slot) first) ∙ from-length b _ in
+    omega (arith, here, r .0, r .1, s .told, rest, size)
 
 pub passLooksAtFew : PassLooksAtFew
 unfolding interimOf
 passLooksAtFew t u b c ls p = omega (arith, pass-looks ls t u b c p)
+
+pub looksUntilFound : LooksUntilFound
+unfolding lookedAt
+looksUntilFound t b l = (accepted, none-found)
+  where
+    accepted : (stores : List Store) → outcome t (length l) (stepFrom b) ≡ listed stores
+        → lookedAt t b ≡ from b (stepFromResult t b l .0 .bucket + 1 - b)
+    accepted stores e =
+        let s = one-step t b l (lists-accepted t l (stepFrom b) stores e) in
+        looked t b (s .slot) (step-item t b (s .slot) (s .item)) ∙ ap (λ c. from b (c + 1 - b)) (sym (s .told))
+
+    missed : ((y : Slot) → InterimFrom t b y → NoPlaceFor t (headerOf t) (keyIn t y)) → lookedAt t b ≡ from b (interimSize t - b)
+    missed stuck = up-to-none (placesAny t (headerOf t)) b (interimSize t - b) (λ i m. none-placed t b i m (λ y u e. stuck y u))
+
+    none-found : (outcome t (length l) (stepFrom b) ≡ refused InterimEmpty) ⊎ (outcome t (length l) (stepFrom b) ≡ refused NoPlace)
+        → lookedAt t b ≡ from b (interimSize t - b)
+    none-found (inl e) = missed (λ y u. absurd (elevenFromExactly t (length l) b .0 e .1 y u))
+    none-found (inr e) = missed (sixFromExactly t (length l) b .0 e .1 .stuck)

@@ -1,4 +1,5 @@
-//! The growth driver: it answers as steps from the first bucket on would, whatever its hint is, and goes through the interim level once.
+//! The growth driver: it answers as steps from the first bucket on would, whatever its hint is, and goes through the interim level once,
+//! and once more to see that nothing is left to move.
 
 use std::cell::Cell;
 use std::collections::HashMap;
