@@ -113,7 +113,7 @@ cases =
     -- `op=step` is the step from the first interim bucket on: the fifth of these keys has no room in the top, and moves up in a growth
     ∷ (
       growing "op=insert\nkey=1\nfn=1\nat=1\nop=insert\nkey=2\nfn=2\nat=2\nop=insert\nkey=3\nfn=3\nat=3\n"
-      ++ bytes "op=insert\nkey=4\nfn=4\nat=4\nop=insert\nkey=5\nfn=5\nat=6\nop=begin\nop=step\nop=step\nop=query\nkey=5\n",
+          ++ bytes "op=insert\nkey=4\nfn=4\nat=4\nop=insert\nkey=5\nfn=5\nat=6\nop=begin\nop=step\nop=step\nop=query\nkey=5\n",
       "made=0\nanswer=0\nstores=4\nanswer=0\nstores=4\nanswer=0\nstores=4\nanswer=0\nstores=4\nanswer=0\nstores=4\nanswer=0\nstores=1\nanswer=0\nstores=5\nanswer=11\nstores=0\nanswer=0\nfn=5\nat=6\nprobes=1\nevents=9\n",
     )
     ∷ []
