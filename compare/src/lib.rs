@@ -40,7 +40,7 @@ mod script_text;
 mod scripts;
 mod shrink;
 mod sound_tables;
-mod starts;
+pub mod starts;
 pub mod stuck_items;
 pub mod stuck_tables;
 mod tally;

@@ -5,12 +5,13 @@ use std::collections::BTreeSet;
 use ragansils_compare::damage::damage;
 use ragansils_compare::history::{next_event, Keys, Mood, Setting};
 use ragansils_compare::random::Random;
+use ragansils_compare::starts::{interim_buckets, Start};
 use ragansils_compare::stuck_items::{step_by_inserts, Kind, StepTally};
 use ragansils_compare::stuck_tables::{history_to, kinds_before};
 use ragansils_model::{table_words, Event, SUCCESS};
 use ragansils_twin::{ListingTwin, Proved, Side, Twin};
 
-use crate::starts::{answer_after_pass, interim_items, interim_size, Start, StartTally};
+use crate::starts::{answer_after_pass, interim_items, random_start, StartTally};
 
 /// What a run has met.
 #[derive(Default)]
@@ -137,7 +138,7 @@ impl History {
 
     /// A step from some start on a copy of the table, and one that goes on from the bucket told.
     fn some_start(&mut self, seen: &mut Seen) -> Result<(), String> {
-        let is_growing = interim_size(&self.table).is_some();
+        let is_growing = interim_buckets(&self.table).is_some();
         // At rest there is one answer, and it need not be met often.
         if !is_growing && !self.random.one_in(20) {
             return Ok(());
@@ -145,7 +146,7 @@ impl History {
         if is_growing && self.random.one_in(20) {
             one_pass(seen, &self.table)?;
         }
-        let (start, from) = Start::random(&mut self.random, &self.table);
+        let (start, from) = random_start(&mut self.random, &self.table);
         let (number, bucket, after) = both_step_from(seen, &self.table, start, from)?;
         if number == SUCCESS {
             both_step_from(seen, &after, Start::Told, bucket)?;
@@ -189,7 +190,7 @@ impl History {
         for event in events {
             both_change(seen, &table, event)?;
         }
-        let (start, from) = Start::random(&mut self.random, &table);
+        let (start, from) = random_start(&mut self.random, &table);
         both_step_from(seen, &table, start, from)?;
         both_query(seen, &table, key)
     }

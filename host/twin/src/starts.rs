@@ -1,70 +1,39 @@
 //! Where steps that go on start, and what a run has met of them.
 
 use std::collections::BTreeMap;
-use std::fmt::{self, Display};
 
 use ragansils_compare::random::Random;
+use ragansils_compare::starts::{interim_buckets, Start};
 use ragansils_model::{Refusal, Table};
 
-/// Where in the interim level a step starts.
-#[derive(Clone, Copy, Debug, PartialEq, Eq, PartialOrd, Ord)]
-pub enum Start {
-    /// Its first bucket: this is the step itself.
-    First,
-    /// The bucket that the step before it told.
-    Told,
-    /// Some bucket of it.
-    Within,
-    /// The number of its buckets, where it ends.
-    End,
-    /// Further on.
-    Past,
-    /// The greatest word.
-    Greatest,
-}
-
 /// Those that need no step before them.
-const FRESH: [Start; 5] = [Start::First, Start::Within, Start::End, Start::Past, Start::Greatest];
+const FRESH: [Start; 5] = [Start::First, Start::Within, Start::Size, Start::Past, Start::Last];
 
-impl Start {
-    /// Any but one that a step tells, with its bucket. A table that does not grow is asked as if its level were small.
-    pub fn random(random: &mut Random, table: &[u64]) -> (Start, u64) {
-        let size = interim_size(table).unwrap_or(4);
-        let within = random.below(size);
-        // A part of such a word is a bucket of the level.
-        let high_part = 1 << random.pick(&[32, 56, 60, 63]);
-        // Half of all starts lie in the level, where most is to be met.
-        let start = if random.one_in(2) { Start::Within } else { random.pick(&FRESH) };
-        let bucket = match start {
-            Start::First | Start::Told => 0,
-            Start::Within => within,
-            Start::End => size,
-            Start::Past => random.pick(&[size + 1, 2 * size + within, high_part + within]),
-            Start::Greatest => u64::MAX,
-        };
-        (start, bucket)
-    }
+/// Any but one that a step tells, with its bucket. A table that does not grow is asked as if its level were small.
+pub fn random_start(random: &mut Random, table: &[u64]) -> (Start, u64) {
+    let buckets = interim_buckets(table).unwrap_or(4);
+    // Half of all starts lie in the level, where most is to be met.
+    let start = if random.one_in(2) { Start::Within } else { random.pick(&FRESH) };
+    let word = start.word(random, buckets, 0);
+    word.map_or((Start::First, 0), |word| (start, word))
+}
 
-    /// The answers that a step from there may give where the table grows, its header is good and its flag is clear.
-    fn answers(self) -> &'static [u64] {
-        match self {
-            Start::First | Start::Told | Start::Within => &[0, 6, 11],
-            Start::End | Start::Past | Start::Greatest => &[11],
-        }
+/// The answers that a step from there may give where the table grows, its header is good and its flag is clear.
+fn answers(start: Start) -> &'static [u64] {
+    match start {
+        Start::First | Start::Told | Start::Within => &[0, 6, 11],
+        Start::Size | Start::Past | Start::Last => &[11],
     }
 }
 
-impl Display for Start {
-    fn fmt(&self, out: &mut fmt::Formatter) -> fmt::Result {
-        let name = match self {
-            Start::First => "from 0",
-            Start::Told => "from the bucket told",
-            Start::Within => "from some bucket",
-            Start::End => "from the level's end",
-            Start::Past => "from past the level",
-            Start::Greatest => "from the greatest word",
-        };
-        write!(out, "{name}")
+fn name(start: Start) -> &'static str {
+    match start {
+        Start::First => "from 0",
+        Start::Told => "from the bucket told",
+        Start::Within => "from some bucket",
+        Start::Size => "from the level's end",
+        Start::Past => "from past the level",
+        Start::Last => "from the largest word",
     }
 }
 
@@ -100,7 +69,8 @@ impl StartTally {
     pub fn rare(&self, least: u64) -> Vec<String> {
         let starts = FRESH.into_iter().chain([Start::Told]);
         let after_the_tests = starts.clone().flat_map(|start| {
-            start.answers().iter().map(move |&number| (format!("{start}: {number}"), self.met(start, number)))
+            let told = move |&number: &u64| (format!("{}: {number}", name(start)), self.met(start, number));
+            answers(start).iter().map(told)
         });
         let by_the_tests = FIRST_REFUSALS.into_iter().map(|number| {
             let met = starts.clone().map(|start| self.met(start, number)).sum();
@@ -117,12 +87,6 @@ impl StartTally {
     pub fn steps(&self) -> u64 {
         self.answers.values().sum()
     }
-}
-
-/// The buckets of the interim level; none where the table does not grow.
-pub fn interim_size(words: &[u64]) -> Option<u64> {
-    let interim = Table::read(words).ok()?.interim()?;
-    Some(interim.buckets().len() as u64)
 }
 
 pub fn interim_items(words: &[u64]) -> usize {
