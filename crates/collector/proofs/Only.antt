@@ -20,7 +20,8 @@ module _ (t u v : Table) (r s : ℕ) where
   pub created-one : (c k mul1 mul2 : ℕ) → CreatedBy t c k mul1 mul2 (told r) u → CreatedBy t c k mul1 mul2 (told s) v → (r ≡ s) × (u ≡ v)
   created-one c k mul1 mul2 a b = (numbers-one (a .answer ∙ sym (b .answer)), a .table ∙ sym (b .table))
 
-  pub queried-one : (key : ℕ) (x y : List ℕ) → QueriedBy t key (toldWith r x) u → QueriedBy t key (toldWith s y) v → (r ≡ s) × (x ≡ y) × (u ≡ v)
+  pub queried-one : (key : ℕ) (x y : List ℕ) → QueriedBy t key (toldWith r x) u → QueriedBy t key (toldWith s y) v
+      → (r ≡ s) × (x ≡ y) × (u ≡ v)
   queried-one key x y a b =
       let same = a .answer ∙ sym (b .answer) in
       (numbers-one same, ap (λ (m : Meaning). m .values) same, a .table ∙ sym (b .table))
@@ -31,12 +32,14 @@ module _ (t u v : Table) (r s : ℕ) where
       let same = a .answer ∙ sym (b .answer) in
       (numbers-one same, ap (λ (z : Meaning). getD (z .values) 0 0) same, a .table ∙ sym (b .table), a .records ∙ sym (b .records))
 
-  pub reported-one : (q : Call) (l m n : List ℕ) (i j : ℕ) → Reported q t l r i u m → Reported q t l s j v n → (r ≡ s) × (i ≡ j) × (u ≡ v) × (m ≡ n)
+  pub reported-one : (q : Call) (l m n : List ℕ) (i j : ℕ) → Reported q t l r i u m → Reported q t l s j v n
+      → (r ≡ s) × (i ≡ j) × (u ≡ v) × (m ≡ n)
   reported-one q l m n i j a b =
       let same = a .answer ∙ sym (b .answer) in
       (numbers-one same, ap (λ (z : Meaning). getD (z .values) 0 0) same, a .table ∙ sym (b .table), a .list ∙ sym (b .list))
 
-  pub gone-on-one : (b : ℕ) (l m n x y : List ℕ) → ReportedFrom b t l r x u m → ReportedFrom b t l s y v n → (r ≡ s) × (x ≡ y) × (u ≡ v) × (m ≡ n)
+  pub gone-on-one : (b : ℕ) (l m n x y : List ℕ) → ReportedFrom b t l r x u m → ReportedFrom b t l s y v n
+      → (r ≡ s) × (x ≡ y) × (u ≡ v) × (m ≡ n)
   gone-on-one b l m n x y a c =
       let same = a .answer ∙ sym (c .answer) in
       (numbers-one same, ap (λ (z : Meaning). z .values) same, a .table ∙ sym (c .table), a .list ∙ sym (c .list))

@@ -29,7 +29,8 @@ module _ {t u : Table} {key : ℕ} {q : Query} where
   pub query-known : {r : Record} {n : ℕ} → Queried t key q u → q ≡ Known r n → QueriedBy t key (toldWith 0 (r .function ∷ r .place ∷ n ∷ [])) u
   query-known d e = rw e at d
 
-  pub query-unknown : {r : Refusal} {n k : ℕ} → Queried t key q u → q ≡ Unknown r n → k ≡ numberOf r → QueriedBy t key (toldWith k (0 ∷ 0 ∷ n ∷ [])) u
+  pub query-unknown : {r : Refusal} {n k : ℕ} → Queried t key q u → q ≡ Unknown r n → k ≡ numberOf r
+      → QueriedBy t key (toldWith k (0 ∷ 0 ∷ n ∷ [])) u
   query-unknown d e k = rw k (rw e at d)
 
 module _ {t u : Table} {address depth : ℕ} {l m : List ℕ} {c : Chain} where

@@ -84,7 +84,8 @@ pub record Waits (s : Script) (lines : List Line) (name : Name) (number : ℕ) :
   pub next : nextLine (readAll s lines .0) ≡ number
 
 -- a line that makes a script stop is bad after the lines before it
-bad-after : (s : Script) (lines : List Line) (l : Line) (number : ℕ) → readAll s lines .1 ≡ [] → readingOf (readAll s lines .0) l .asked ≡ askEnd number
+bad-after : (s : Script) (lines : List Line) (l : Line) (number : ℕ) → readAll s lines .1 ≡ []
+    → readingOf (readAll s lines .0) l .asked ≡ askEnd number
     → readingOf (readAll s lines .0) l .script .due ≡ noMore
     → BadAfter s lines l number
 bad-after s lines l number none bad over =
@@ -117,7 +118,8 @@ module _ {s : Script} {lines : List Line} {name : Name} {number : ℕ} (w : Wait
 head-one : {a b : Name} {xs ys : List Name} → a ∷ xs ≡ b ∷ ys → a ≡ b
 head-one {a} e = ap (λ (zs : List Name). getD zs 0 a) e
 
-no-name : (given : List Name) (vs : List ℕ) {name : Name} {later : List Name} → length given ≤ length vs → drop (length vs) given ≡ name ∷ later → ⊥
+no-name : (given : List Name) (vs : List ℕ) {name : Name} {later : List Name} → length given ≤ length vs
+    → drop (length vs) given ≡ name ∷ later → ⊥
 no-name given vs {name} {later} l e =
     let z : _≡_ {A = ℕ} 0 (length (name ∷ later)) = ap length (sym (drop-of-length-le given {i = length vs} l) ∙ e) in omega (arith, z)
 
@@ -190,7 +192,8 @@ module _ (s : Script) (q : ScriptCall) (b : Begins s q) (keyed : eqb (numbersIn 
     unfolding readingOf keyDue
     at-waits f e = op-waits (waits-as _ (Number Key k ∷ Number Fn f ∷ []) e (rw more) (rw more) (rw more (omega arith)))
 
-event-waits : (s : Script) (q : ScriptCall) → Begins s q → (vs : List ℕ) (name : Name) (later : List Name) → drop (length vs) (namesOf q) ≡ name ∷ later
+event-waits : (s : Script) (q : ScriptCall) → Begins s q → (vs : List ℕ) (name : Name) (later : List Name)
+    → drop (length vs) (namesOf q) ≡ name ∷ later
     → Waits s (eventLines (Event q) vs) name (lineFrom s (length vs + 2))
 event-waits s (Insert key r) b [] name later e = key-waits s _ b refl e
 event-waits s (Insert key r) b (k ∷ []) name later e = fn-waits s _ b refl refl k e
@@ -220,7 +223,8 @@ line-waits s d Bad vs name later e = absurd (no-name [] vs (omega arith) e)
 
 -- ---- whole events
 
-asks-by : (s : Script) (q : ScriptCall) → Begins s q → (lines : List Line) {asked : Asked} → let r = eventBegun s q in let later = readAll (r .script) lines in
+asks-by : (s : Script) (q : ScriptCall) → Begins s q → (lines : List Line) {asked : Asked}
+    → let r = eventBegun s q in let later = readAll (r .script) lines in
     (asking (r .asked) (later .1) ≡ asked ∷ []) → EventDue (later .0) → later .0 .lines ≡ lineFrom s (length (Event q ∷ lines))
     → Asks s (Event q ∷ lines) asked
 asks-by s q b lines alone next count =

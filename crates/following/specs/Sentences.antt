@@ -155,7 +155,8 @@ CallsNamed = (s : Script) → EventDue s
 -- "`op=cut` with `after`, which must stand right before a changing event or recover .. and lets only that many of its stores be
 -- made": each of them, with its lines
 abbrev pub CutEventsRead : Type 0
-CutEventsRead = (s : Script) → EventDue s → (n : ℕ) (q : ScriptCall) → Changing q → Asks s (cutLines n ++ callLines q) (askEvent q (cutAfter n (lineFrom s 1)))
+CutEventsRead = (s : Script) → EventDue s → (n : ℕ) (q : ScriptCall) → Changing q
+    → Asks s (cutLines n ++ callLines q) (askEvent q (cutAfter n (lineFrom s 1)))
 
 -- "(else the cut line is the bad line)": before a query, another cut line, any other line, and at the end
 abbrev pub CutLineElseBad : Type 0
@@ -166,12 +167,15 @@ CutLineElseBad = (s : Script) → EventDue s → (n : ℕ)
 -- is not the next number of it
 abbrev pub HeaderInOrder : Type 0
 HeaderInOrder = (vs : List ℕ) (name : Name) (later : List Name) → drop (length vs) headerNames ≡ name ∷ later
-    → ((l : Line) → NotNamed name l → BadAfter start (numbered headerNames vs) l (length vs + 1)) × EndsBad start (numbered headerNames vs) (length vs + 1)
+    → ((l : Line) → NotNamed name l → BadAfter start (numbered headerNames vs) l (length vs + 1))
+    × EndsBad start (numbered headerNames vs) (length vs + 1)
 
 -- in an event, or in a cut line: what is not the next number of it
 abbrev pub NumbersInOrder : Type 0
-NumbersInOrder = (s : Script) → EventDue s → (o : Line) (vs : List ℕ) (name : Name) (later : List Name) → drop (length vs) (namesAfter o) ≡ name ∷ later
-    → ((l : Line) → NotNamed name l → BadAfter s (eventLines o vs) l (lineFrom s (length vs + 2))) × EndsBad s (eventLines o vs) (lineFrom s (length vs + 2))
+NumbersInOrder = (s : Script) → EventDue s → (o : Line) (vs : List ℕ) (name : Name) (later : List Name)
+    → drop (length vs) (namesAfter o) ≡ name ∷ later
+    → ((l : Line) → NotNamed name l → BadAfter s (eventLines o vs) l (lineFrom s (length vs + 2)))
+    × EndsBad s (eventLines o vs) (lineFrom s (length vs + 2))
 
 -- the same of an event under a cut line
 abbrev pub CutNumbersInOrder : Type 0

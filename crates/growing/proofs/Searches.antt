@@ -17,7 +17,8 @@ use lib.Dec.{leb}
 use borrow.Author.Tests.{lt-leb, le-leb}
 use lib.Pow.{pow-mono}
 use Rattle.rules.specs.Choice.{given, orElse, select, firstOf, from}
-use Rattle.rules.specs.Words.{Table, GoodHeader, atRest, sizeOf, topOf, bottomOf, interimOf, levelsInUse, bucketsOf, InLevel, slotAt, slotsIn, placeOf, placeAt}
+use Rattle.rules.specs.Words.{Table, GoodHeader, atRest, sizeOf, topOf, bottomOf, interimOf, levelsInUse, bucketsOf, InLevel, slotAt, slotsIn}
+use Rattle.rules.specs.Words.{placeOf, placeAt}
 use Rattle.rules.specs.Words.{slotsOf, keyIn, tokenOf, isTaken, slots, lowestTaken, taken}
 use Rattle.rules.specs.Placing.{placing, somewhere}
 use Rattle.rules.specs.Calls.{interimSlots, interimItems, interimBucket, itemsFrom, hasPlace, stepItem}

@@ -104,8 +104,9 @@ module _ (t : Table) (h : Header) where
       → DidStep t h item o l s l
   did-step-refuse item l e a = rw (← e) (record { answer = a; list = refl })
 
-  pub did-step : (item : Option Slot) (x : Slot) {key n₁ n₂ w bucket : ℕ} (l : List ℕ) {l₁ l₂ : List ℕ} {p : Placing} {r : Record} → item ≡ some x
-      → key ≡ keyIn t x → r ≡ recordIn t x → p ≡ placing t h (keyIn t x) → w ≡ tokenOf t (x .bucket) → bucket ≡ interimBucket (h .state) x → 20 ≤ length l
+  pub did-step : (item : Option Slot) (x : Slot) {key n₁ n₂ w bucket : ℕ} (l : List ℕ) {l₁ l₂ : List ℕ} {p : Placing} {r : Record}
+      → item ≡ some x → key ≡ keyIn t x → r ≡ recordIn t x → p ≡ placing t h (keyIn t x) → w ≡ tokenOf t (x .bucket)
+      → bucket ≡ interimBucket (h .state) x → 20 ≤ length l
       → Run n₁ l l₁ (placingStores t h p key r) × (n₁ ≤ 9) → (n₂ ≡ n₁ + 1) × (l₂ ≡ listedAt l₁ n₁ (clearStores h w x))
       → DidStep t h item (stepIn t h item) l (record { stepped = record { change = Listed n₂; placing = p }; bucket = bucket }) l₂
   unfolding stepStores clearStores

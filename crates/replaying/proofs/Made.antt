@@ -48,7 +48,8 @@ module _ (q : ScriptCall) (c : Cut) (t : Table) where
   pub after-event : after t (eventOf q c) ≡ makeResult t (changeResult t lent (callOf q) .1) (keptUnder c (reported (changeResult t lent (callOf q) .0))) .1
   after-event = go c
     where
-      go : (d : Cut) → after t (eventOf q d) ≡ makeResult t (changeResult t lent (callOf q) .1) (keptUnder d (reported (changeResult t lent (callOf q) .0))) .1
+      go : (d : Cut)
+          → after t (eventOf q d) ≡ makeResult t (changeResult t lent (callOf q) .1) (keptUnder d (reported (changeResult t lent (callOf q) .0))) .1
       go None = refl
       go (After n line) = refl
 

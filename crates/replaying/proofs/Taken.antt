@@ -67,7 +67,8 @@ module _ (p : Replay) (next : Script) (room : List ℕ) (c k mul1 mul2 : ℕ) wh
       → TurnIs (askedOf room p next (askTable c k mul1 mul2)) r room
   too-large l e = rw (lt-leb c 8 l) (record { replay = e .0; answer = e .1; room = refl })
 
-  module _ {n : ℕ} (lent : n ≡ min (wordsFor c) (length room)) (small : c ≤ 8) (v : Verdict) (u : Table) (made : Created (take n room) c k mul1 mul2 v u) where
+  module _ {n : ℕ} (lent : n ≡ min (wordsFor c) (length room)) (small : c ≤ 8) (v : Verdict) (u : Table)
+      (made : Created (take n room) c k mul1 mul2 v u) where
     result : createResult (take (wordsFor c) room) c k mul1 mul2 ≡ (v, u)
     unfolding Created
     result =

@@ -383,7 +383,8 @@ PlacingWritten t h key r Nowhere xs = ⊥
 abbrev pub UpdateWritten : Table → Header → Slot → ℕ → Record → Option Slot → List Store → Type 0
 UpdateWritten t h x key r (some y) xs = xs ≡ recordStores h (hide h (tokenOf t (x .bucket)) (x .slot)) y key r
 UpdateWritten t h x key r none xs =
-    xs ≡ (6, slotStart x) ∷ (7, r .function) ∷ (8, r .place) ∷ (5, 1) ∷ (slotStart x + 1, r .function) ∷ (slotStart x + 2, r .place) ∷ (5, 0) ∷ []
+    xs ≡ (6, slotStart x) ∷ (7, r .function) ∷ (8, r .place) ∷ (5, 1)
+    ∷ (slotStart x + 1, r .function) ∷ (slotStart x + 2, r .place) ∷ (5, 0) ∷ []
 
 -- "growth step": the placing of the item x, "then its interim token cleared"
 abbrev pub StepWritten : Table → Header → Slot → List Store → Type 0

@@ -128,7 +128,8 @@ ready r =
     row 6 (words (answered r usual (1 ∷ 3 ∷ 5 ∷ 7 ∷ []))) (words (0 ∷ 0 ∷ 0 ∷ 0 ∷ []))
     ∷ row 8 (words (answered r usual (1 ∷ 3 ∷ 5 ∷ 7 ∷ 9 ∷ 11 ∷ 13 ∷ 15 ∷ []))) (words (replicate 8 0))
     ∷ row 9 (words (answered r usual (0 ∷ 2 ∷ 4 ∷ 6 ∷ 8 ∷ []))) (words (replicate 5 0))
-    ∷ row 9 (words (number (halfE9 r) (delete 0) ∷ answered r (madeAll (halfE9 r) (delete 0)) (1 ∷ 3 ∷ 5 ∷ 7 ∷ 9 ∷ 11 ∷ 13 ∷ []))) (words (replicate 8 0))
+    ∷ row 9 (words (number (halfE9 r) (delete 0) ∷ answered r (madeAll (halfE9 r) (delete 0)) (1 ∷ 3 ∷ 5 ∷ 7 ∷ 9 ∷ 11 ∷ 13 ∷ [])))
+    (words (replicate 8 0))
     ∷ row 11 (words (answered r (fresh 4294967297 4294967297) (0 ∷ 4 ∷ 8 ∷ 12 ∷ 16 ∷ 20 ∷ 24 ∷ 28 ∷ []))) (words (replicate 8 0))
     ∷ row 11 (words (number (halfE11 r) begin ∷ answered r (madeAll (halfE11 r) begin) (32 ∷ 36 ∷ 40 ∷ 44 ∷ []))) (words (replicate 5 0))
     ∷ []

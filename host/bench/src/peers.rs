@@ -21,7 +21,7 @@ use level::LevelPeer;
 /// Names of the two sides, which are always the first two peers.
 pub const LIBRARY: &str = "library";
 pub const TWIN: &str = "twin";
-/// What a growth is held to.
+/// The limits of a growth.
 pub const CUCKOO: &str = "libcuckoo";
 /// The twin whose inserts are listed, and made as the library's are.
 pub const LISTING_TWIN: &str = "twin with a list";

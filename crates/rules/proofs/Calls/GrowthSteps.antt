@@ -124,7 +124,8 @@ module _ (t : Table) (m : PlainMap) (whole : SoundMap t m) (x : Slot) (item : In
         λ z a n. stays-twice u _ v w z a n (slot-same z from),
       )
     where
-      stays-twice : (u w : Table) → AfterMove t u m from to → AfterMove u w m x from → (z : Slot) → TakenSlot t z → (z ≡ x → ⊥) → Dec (z ≡ from)
+      stays-twice : (u w : Table) → AfterMove t u m from to → AfterMove u w m x from → (z : Slot) → TakenSlot t z → (z ≡ x → ⊥)
+          → Dec (z ≡ from)
           → TakenSlot w z × ((keyIn w z ≡ keyIn t z) ⊎ ((goal : Slot) × (Move from to ≡ Move z goal)))
       stays-twice u w v k z a n (yes e) = (rw e (k .arrived .0), inr (to, rw e refl))
       stays-twice u w v k z a n (no other) =

@@ -77,7 +77,8 @@ accepted stores = (stores, refl)
 -- ---- tests 1, 2 and 3
 
 module _ (t : Table) where
-  pub good-header-or : (fs : List (Type 0 × Refusal)) (o : Outcome) → ByFirst fs o → ByFirst (badHeader t ∷ fs) (cond (headerGood t) o (refused BadHeader))
+  pub good-header-or : (fs : List (Type 0 × Refusal)) (o : Outcome) → ByFirst fs o
+      → ByFirst (badHeader t ∷ fs) (cond (headerGood t) o (refused BadHeader))
   unfolding headerGood
   good-header-or fs o = unless (headerGood t) BadHeader fs o (HeaderWords t) (Iff·trans (header-tells (length t) (headerOf t)) (header-words t))
 
@@ -168,7 +169,8 @@ module _ (t : Table) where
       go true e = inl (from-empty t b .0 e, refl)
       go false e = let x = from-left t b e in inr (λ n. n (x .0) (x .1), item-refuses b (x .0) (x .1))
 
-  step-refuses : (b : ℕ) → ByFirst ((AtRest t, NotGrowing) ∷ (None (InterimFrom t b), InterimEmpty) ∷ (NoneHasPlace t (InterimFrom t b), NoPlace) ∷ [])
+  step-refuses : (b : ℕ) → ByFirst
+      ((AtRest t, NotGrowing) ∷ (None (InterimFrom t b), InterimEmpty) ∷ (NoneHasPlace t (InterimFrom t b), NoPlace) ∷ [])
       (stepOf t (headerOf t) b)
   unfolding stepOf stepTests
   step-refuses b = when _ NotGrowing _ _ (AtRest t) rest-tells (interim-refuses b)

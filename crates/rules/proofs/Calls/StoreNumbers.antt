@@ -34,7 +34,8 @@ module _ (t : Table) (h : Header) where
   placing-number xs key r (Move from to) e = inr (ap length e)
   placing-number xs key r Nowhere e = absurd e
 
-  update-number : (xs : List Store) (x : Slot) (key : ℕ) (r : Record) (o : Option Slot) → UpdateWritten t h x key r o xs → (length xs ≡ 4) ⊎ (length xs ≡ 7)
+  update-number : (xs : List Store) (x : Slot) (key : ℕ) (r : Record) (o : Option Slot) → UpdateWritten t h x key r o xs
+      → (length xs ≡ 4) ⊎ (length xs ≡ 7)
   update-number xs x key r (some y) e = inl (ap length e)
   update-number xs x key r none e = inr (ap length e)
 
@@ -89,7 +90,8 @@ module _ (t : Table) (n : ℕ) where
   unfolding outcome listLong
   stores-fit q xs e = go (storeNumbers t n q xs e) (list-tested q)
     where
-      go : Number q (length xs) × (length xs ≤ 10) → ((k : ℕ) → Number q k → k ≡ 0) ⊎ In {A = Bool × Refusal} (listLong n, ShortList) (testsOf t n q)
+      go : Number q (length xs) × (length xs ≤ 10)
+          → ((k : ℕ) → Number q k → k ≡ 0) ⊎ In {A = Bool × Refusal} (listLong n, ShortList) (testsOf t n q)
           → 2 * length xs ≤ n
       go s (inl z) = omega (arith, z (length xs) (s .0))
       go s (inr i) = omega (arith, leb-true 20 n (checked-passed _ xs (testsOf t n q) e (listLong n, ShortList) i), s .1)

@@ -177,12 +177,14 @@ module _ (t : Table) (m : PlainMap) (whole : SoundMap t m) (key : ℕ) (r : Reco
           stood = λ y a l.
               ⊎-elim (λ (same : y ≡ from). absurd (not-interim y (rw (← same) at (freed .level)) l))
               (λ (b : TakenSlot between y).
-              ⊎-elim (λ (same : y ≡ to). absurd (not-interim y (rw (← same) at (freed .goal .level)) l)) (λ (c : (y ≡ from → ⊥) × TakenSlot t y). c .1)
+              ⊎-elim (λ (same : y ≡ to). absurd (not-interim y (rw (← same) at (freed .goal .level)) l))
+              (λ (c : (y ≡ from → ⊥) × TakenSlot t y). c .1)
               (moved .stood y b))
               (put-stood between m (moved .whole) from there (moved .free) key r among y a);
         }
 
-  by-placing : (p : Placing) → placing t (headerOf t) key ≡ p → (stores : List Store) → placedBy p (placingStores t (headerOf t) p key r) ≡ listed stores
+  by-placing : (p : Placing) → placing t (headerOf t) key ≡ p → (stores : List Store)
+      → placedBy p (placingStores t (headerOf t) p key r) ≡ listed stores
       → Inserted t (made t stores)
   by-placing (Free x) q stores f = rw (listed-one f) (free-inserted x q)
   by-placing (Move from to) q stores f = rw (listed-one f) (rw (same-table from to q) at (move-inserted from to q))

@@ -28,7 +28,8 @@ pub record AfterMove (t u : Table) (m : PlainMap) (from to : Slot) : Type 0 wher
   pub stood : (y : Slot) → TakenSlot u y → (y ≡ to) ⊎ ((y ≡ from → ⊥) × TakenSlot t y)
 
 module _ (t : Table) (m : PlainMap) (whole : SoundMap t m) (from to : Slot) (item : TakenSlot t from) (here : InUse (headerOf t .state) to)
-    (free : taken t (headerOf t) to ≡ false) (among : In (placeOf to) (placesOf (headerOf t) (keyIn t from))) (apart : from .bucket ≡ to .bucket → ⊥) where
+    (free : taken t (headerOf t) to ≡ false)
+    (among : In (placeOf to) (placesOf (headerOf t) (keyIn t from))) (apart : from .bucket ≡ to .bucket → ⊥) where
   -- the copy at the new slot, and then the old one cleared
   copied : Table
   copied = made t (putStores (headerOf t) (tokenOf t (to .bucket)) to (keyIn t from) (recordIn t from))

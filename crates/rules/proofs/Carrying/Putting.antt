@@ -47,7 +47,8 @@ pub record TwinMap (t : Table) (m : PlainMap) (x y : Slot) : Type 0 where
   pub second : TakenSlot t y
   pub apart : y ≡ x → ⊥
   pub same : keyIn t y ≡ keyIn t x
-  pub only : (a b : Slot) → TakenSlot t a → TakenSlot t b → keyIn t a ≡ keyIn t b → (a ≡ b) ⊎ (((a ≡ x) × (b ≡ y)) ⊎ ((a ≡ y) × (b ≡ x)))
+  pub only : (a b : Slot) → TakenSlot t a → TakenSlot t b → keyIn t a ≡ keyIn t b
+      → (a ≡ b) ⊎ (((a ≡ x) × (b ≡ y)) ⊎ ((a ≡ y) × (b ≡ x)))
 
 -- ---- the kinds on a sound table
 
@@ -128,7 +129,8 @@ module _ (t : Table) (m : PlainMap) (whole : SoundMap t m) where
       carried-twin w z k e = same-slot w z k ∙ whole .sound .alone w y (k .before) there (sym (k .key) ∙ e ∙ put-writes .key ∙ sym same-key)
 
       only-pairs : (a b : Slot) → keyIn put a ≡ keyIn put b
-          → Only x a ⊎ ((w : Slot) × (Nothing w → ⊥) × Carry t put w a) → Only x b ⊎ ((w : Slot) × (Nothing w → ⊥) × Carry t put w b) → Pairs a b
+          → Only x a ⊎ ((w : Slot) × (Nothing w → ⊥) × Carry t put w a)
+          → Only x b ⊎ ((w : Slot) × (Nothing w → ⊥) × Carry t put w b) → Pairs a b
       unfolding Pairs
       only-pairs a b e (inl n) (inl k) = inl (n ∙ sym k)
       only-pairs a b e (inl n) (inr (w, g, k)) = inr (inr (n, carried-twin w b k (sym e ∙ ap (keyIn put) n)))
@@ -212,7 +214,8 @@ twin-turned t m x y w = record {
   only = λ a b p q e. turn a b (w .only a b p q e);
 }
   where
-    turn : (a b : Slot) → (a ≡ b) ⊎ (((a ≡ x) × (b ≡ y)) ⊎ ((a ≡ y) × (b ≡ x))) → (a ≡ b) ⊎ (((a ≡ y) × (b ≡ x)) ⊎ ((a ≡ x) × (b ≡ y)))
+    turn : (a b : Slot) → (a ≡ b) ⊎ (((a ≡ x) × (b ≡ y)) ⊎ ((a ≡ y) × (b ≡ x)))
+        → (a ≡ b) ⊎ (((a ≡ y) × (b ≡ x)) ⊎ ((a ≡ x) × (b ≡ y)))
     turn a b (inl e) = inl e
     turn a b (inr (inl e)) = inr (inr e)
     turn a b (inr (inr e)) = inr (inl e)
@@ -234,7 +237,8 @@ module _ (t : Table) (m : PlainMap) (whole : SoundMap t m) (x : Slot) (there : T
       let good = good-after 0 t u z v (keyIn t x) r o here writes in
       let now = shown-after 0 t u z v (keyIn t x) r o here writes bit in
       let gone : (y : Slot) → TakenSlot t y → Only x y → keyIn t y ≡ keyIn u z = λ y a g. ap (keyIn t) g ∙ sym (writes .key) in
-      let left : (y : Slot) → TakenSlot t y → (Only x y → ⊥) → keyIn t y ≡ keyIn u z → ⊥ = λ y a g e. g (whole .sound .alone y x a there (e ∙ writes .key)) in
+      let left : (y : Slot) → TakenSlot t y → (Only x y → ⊥) → keyIn t y ≡ keyIn u z → ⊥ =
+      λ y a g e. g (whole .sound .alone y x a there (e ∙ writes .key)) in
       record {
         whole = record {
           sound = record {

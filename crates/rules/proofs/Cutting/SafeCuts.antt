@@ -62,7 +62,8 @@ module _ (t : Table) (m : PlainMap) (whole : SoundMap t m) where
       move-whole t m whole from to (record { used = among-used (headerOf t) key from (f .slot) (f .among); shown = f .item })
       (among-used (headerOf t) (keyIn t from) to (g .slot) (g .among)) (g .free) (g .among) (f .apart)
 
-  moving-cuts : (key : ℕ) (from to : Slot) → MoveFor t (headerOf t) key from to → EveryCut (λ (u : Table). Mends u m) t (moveStores t (headerOf t) from to)
+  moving-cuts : (key : ℕ) (from to : Slot) → MoveFor t (headerOf t) key from to
+      → EveryCut (λ (u : Table). Mends u m) t (moveStores t (headerOf t) from to)
   moving-cuts key from to f =
       let g = f .goal in
       move-cuts t m whole from to (record { used = among-used (headerOf t) key from (f .slot) (f .among); shown = f .item })
@@ -194,7 +195,8 @@ module _ (t : Table) (m : PlainMap) (n : ℕ) (given : Given t m n) where
       → SoundMap (made t xs) k → EveryCut (Either m k) t xs
   insert-cuts key r k xs e last = known (m key) refl
     where
-      by-placing : (p : Placing) → placing t (headerOf t) key ≡ p → placedBy p (placingStores t (headerOf t) p key r) ≡ listed xs → EveryCut (Either m k) t xs
+      by-placing : (p : Placing) → placing t (headerOf t) key ≡ p → placedBy p (placingStores t (headerOf t) p key r) ≡ listed xs
+          → EveryCut (Either m k) t xs
       by-placing (Free x) q f = let same = listed-one f in rw same (placing-cuts t m (whole-of t m n given) key r k (Free x) q (rw same at last))
       by-placing (Move from to) q f = let same = listed-one f in rw same (placing-cuts t m (whole-of t m n given) key r k (Move from to) q (rw same at last))
       by-placing Nowhere q f = never-listed f

@@ -62,7 +62,8 @@ module _ (t : Table) (n : ℕ) (growing : Growing t) where
       good : GoodHeader (length t) (headerOf t)
       good = accepted-header t n (insert key r) xs e
 
-      by-placing : (p : Placing) → placing t (headerOf t) key ≡ p → placedBy p (placingStores t (headerOf t) p key r) ≡ listed xs → Shrinks t (made t xs)
+      by-placing : (p : Placing) → placing t (headerOf t) key ≡ p → placedBy p (placingStores t (headerOf t) p key r) ≡ listed xs
+          → Shrinks t (made t xs)
       by-placing (Free x) q f = rw (listed-one f) (keeps-shrinks t _ (placing-keeps t good growing key r (Free x) q))
       by-placing (Move from to) q f = rw (listed-one f) (keeps-shrinks t _ (placing-keeps t good growing key r (Move from to) q))
       by-placing Nowhere q f = never-listed f

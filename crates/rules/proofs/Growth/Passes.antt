@@ -209,7 +209,8 @@ module _ (p : ℕ → Bool) where
       go false k = omega arith
 
   -- none of the first k passes, and the next one does
-  up-to-first : (k b n : ℕ) → k < n → ((i : ℕ) → b ≤ i → i < b + k → p i ≡ false) → p (b + k) ≡ true → upTo p (from b n) ≡ from b (k + 1)
+  up-to-first : (k b n : ℕ) → k < n → ((i : ℕ) → b ≤ i → i < b + k → p i ≡ false) → p (b + k) ≡ true
+      → upTo p (from b n) ≡ from b (k + 1)
   up-to-first k b zero l missed found = absurd (omega arith)
   up-to-first zero b (suc n) l missed found =
       let same : b + 0 ≡ b = omega arith in

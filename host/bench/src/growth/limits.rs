@@ -5,7 +5,7 @@ use crate::rounds::Measured;
 
 use super::Growths;
 
-/// The capacity at which a growth is held to other tables.
+/// The capacity at which a growth is measured beside other tables.
 const LIMITED_C: u64 = 20;
 /// The library's time there, as a multiple of libcuckoo's and of the twin's.
 const MOST_TO_CUCKOO: f64 = 1.5;
