@@ -1,16 +1,15 @@
--- Bit s of a token word, as the code sets and clears it, and the number of its taken slots.
+-- Bit s of a token word, as the code sets and clears it, and what a table tells of its four bits.
 -- Assumes nothing.
 use Prim.Native.Nat.{ℕ, zero, suc, _+_, _-_, _*_, _/_, _%_, _^_, _≤_, _<_}
 use mathlib.Core.Path.{_≡_, refl, _∙_}
-use mathlib.Core.Bool.{true, false}
+use mathlib.Core.Bool.{Bool, true, false}
 use native.Mathlib.Omega.{arith}
 use lib.Dec.{eqb}
-use lib.ListN.{length}
 use borrow.Author.Tests.{eqb-true}
-use Rattle.rules.specs.Choice.{select}
-use Rattle.rules.specs.Words.{slots, tokenNumber, isTaken, show, hide, takenOf}
+use Rattle.rules.specs.Words.{tokenNumber, isTaken, show, hide}
 use Rattle.rules.specs.declared.Header.{Header}
-use Rattle.rules.proofs.Words.Tokens.{taken-number, number-tested}
+use Rattle.rules.proofs.Words.Tokens.{below, taken-number, number-tested}
+use Rattle.reading.specs.Tokens.{entryOf}
 
 -- one, s places up
 pub shifted : (s : ℕ) → s < 4 → (1 * 2 ^ s % 18446744073709551616 ≡ 2 ^ s) × (2 ^ s ≤ 8)
@@ -48,17 +47,12 @@ module _ (h : Header) (w s : ℕ) where
   unfolding hide
   hide-free e = rw e
 
--- how many slots each of the sixteen token numbers says are taken, as the hexadecimal digits of one number
-abbrev counts : ℕ
-counts = 4841987667533046032
+-- ---- tables over the sixteen token numbers
 
-module _ (h : Header) (word : ℕ) where
-  -- a word has as many taken slots as its token number
-  taken-numbered : takenOf h (tokenNumber word) ≡ takenOf h word
-  unfolding takenOf
-  taken-numbered = λ i. length (select (λ (z : ℕ). taken-number h word z i) slots)
+module _ (h : Header) (table : ℕ) (tell : (ℕ → Bool) → ℕ) where
+  abbrev pub right : ℕ → Bool
+  right n = eqb (entryOf table n) (tell (isTaken h n))
 
-  -- by a computed test of all sixteen
-  pub taken-counted : {w : ℕ} → w ≡ tokenNumber word → counts / 2 ^ (4 * w) % 16 ≡ takenOf h word
-  unfolding takenOf isTaken tokenNumber
-  taken-counted e = rw e (eqb-true _ _ (number-tested (λ v. eqb (counts / 2 ^ (4 * v) % 16) (takenOf h v)) refl word) ∙ taken-numbered)
+  -- a table that tells the right thing of each token number's bits, by a computed test of all sixteen, tells it of every word's
+  pub told : below 16 right ≡ true → {r : ℕ} (word : ℕ) → r ≡ entryOf table (tokenNumber word) → r ≡ tell (isTaken h word)
+  told test word e = e ∙ eqb-true _ _ (number-tested right test word) ∙ (λ i. tell (λ (s : ℕ). taken-number h word s i))

@@ -1,3 +1,4 @@
 pub mod Within
 pub mod Gates
 pub mod Levels
+pub mod Tokens

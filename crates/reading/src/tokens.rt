@@ -4,6 +4,7 @@ ghost use mathlib.Core.Path.{_≡_};
 ghost use Prim.Native.Nat.{_≤_, _<_};
 ghost use Rattle.rules.specs.Words.{keysOf, tokenNumber, isTaken, show as shown, hide as hidden, takenOf, lowestFree, lowestTaken, meant as meantWord};
 ghost use Rattle.reading.specs.Within.{BucketWithin};
+ghost use Rattle.reading.specs.Tokens.{entryOf};
 
 // "Calls read token words modulo 16": the four bits.
 fn token_number(word: u64) -> u64
@@ -52,42 +53,36 @@ pub fn meant(t: &[u64], h: Header, j: usize, word: u64) -> u64
     token_number(word)
 }
 
-// How many slots each of the sixteen token numbers says are taken: number 0 in the lowest digit, number 15 in the highest.
+// Three tables over the sixteen token numbers, each as the hexadecimal digits of one number: the entry of token number 0 is the lowest
+// digit, that of 15 the highest.
 const TAKEN_COUNTS: u64 = 0x4332_3221_3221_2110;
+const LOWEST_FREE: u64 = 0x4010_2010_3010_2010;
+const LOWEST_TAKEN: u64 = 0x0102_0103_0102_0104;
+
+// A token word's entry in a table.
+fn entry(table: u64, word: u64) -> u64
+    ensures { λ r. ⌜ r ≡ entryOf table (tokenNumber word) ⌝ }
+{
+    (table >> (4 * token_number(word))) % 16
+}
 
 // How many slots a token word says are taken.
 pub fn taken_count(h: Header, word: u64) -> u64
     ensures { λ r. ⌜ r ≡ takenOf h word ⌝ }
 {
-    (TAKEN_COUNTS >> (4 * token_number(word))) % 16
+    entry(TAKEN_COUNTS, word)
 }
 
-// The "lowest free slot", or 4 where there is none. Every bit is asked, from the highest down, and none ends the loop: the processor
-// cannot predict which slot is free first.
+// The "lowest free slot", or 4 where there is none.
 pub fn lowest_free(h: Header, word: u64) -> usize
     ensures { λ r. ⌜ (r ≡ lowestFree h word) × (r ≤ 4) ⌝ }
 {
-    let mut lowest = 4;
-    for i in 0..4 {
-        let s = 3 - i;
-        if !is_taken(h, word, s) {
-            lowest = s;
-        }
-    }
-    lowest
+    entry(LOWEST_FREE, word) as usize
 }
 
-// The lowest taken slot, or 4 where there is none, which one test tells: late in a growth most interim buckets are empty.
+// The lowest taken slot, or 4 where there is none.
 pub fn lowest_taken(h: Header, word: u64) -> usize
     ensures { λ r. ⌜ r ≡ lowestTaken h word ⌝ }
 {
-    if token_number(word) == 0 {
-        return 4;
-    }
-    for s in 0..4 {
-        if is_taken(h, word, s) {
-            return s;
-        }
-    }
-    4
+    entry(LOWEST_TAKEN, word) as usize
 }

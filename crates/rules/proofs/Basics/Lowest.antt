@@ -1,47 +1,24 @@
--- The lowest of the slots 0 to 3 that passes a test, as a number: 4 where none does. For a loop that is left at the first.
+-- The lowest of the slots 0 to 3 that passes a test, as a number: 4 where none does.
 -- Assumes nothing.
-use Prim.Native.Nat.{ℕ, _+_, _≤_, _<_}
+use Prim.Native.Nat.{ℕ, _≤_, _<_}
 use mathlib.Core.Path.{_≡_, refl, ap, _∙_, subst}
 use mathlib.Core.Bool.{Bool, true, false}
 use mathlib.Core.List.{_∷_, List·Memᴰ as In}
 use mathlib.Core.Option.{Option, none, some, Option·getD}
-use native.Mathlib.Nat.{zero-add}
 use native.Mathlib.Omega.{arith}
-use lib.ListN.{drop}
 use Rattle.rules.specs.Choice.{given, firstOf}
 use Rattle.rules.specs.Words.{slots, lowest}
 use Rattle.rules.proofs.Basics.Lists.{firstOf-some, firstOf-none, given-some, given-none, from-in, in-from, Ascending, ascending-from, ascending-before}
-use Rattle.rules.proofs.Basics.Walks.{from-next, from-end}
-use Rattle.rules.proofs.Basics.Along.{along, along-all, along-pass, along-hit, along-over}
-
--- slot s of them, and those after it
-slot-next : (s : ℕ) → s < 4 → drop s slots ≡ s ∷ drop (s + 1) slots
-slot-next s l = from-next 0 4 s l ∙ rw zero-add
 
 module _ (p : ℕ → Bool) where
   abbrev pub passing : ℕ → Option ℕ
   passing s = given (p s) s
 
-  -- from slot s on
-  pub lowestFrom : ℕ → ℕ
-  lowestFrom s = Option·getD (along passing slots s) 4
-
-  pub lowest-all : lowest p ≡ lowestFrom 0
-  unfolding lowestFrom
-  lowest-all = ap (λ (o : Option ℕ). Option·getD o 4) (along-all passing slots)
-
-  module _ (s : ℕ) (l : s < 4) where
-    pub lowest-here : p s ≡ true → lowestFrom s ≡ s
-    unfolding lowestFrom
-    lowest-here e = rw (along-hit passing slots s (slot-next s l) (ap (λ (b : Bool). given b s) e))
-
-    pub lowest-next : p s ≡ false → lowestFrom s ≡ lowestFrom (s + 1)
-    unfolding lowestFrom
-    lowest-next e = rw (along-pass passing slots s (slot-next s l) (ap (λ (b : Bool). given b s) e))
-
-  pub lowest-over : (s : ℕ) → 4 ≤ s → lowestFrom s ≡ 4
-  unfolding lowestFrom
-  lowest-over s l = rw (along-over passing slots s (from-end 0 4 s l))
+  -- the first that passes is one of them
+  found-below : (s : ℕ) → firstOf passing slots ≡ some s → s < 4
+  found-below s f =
+      let k = firstOf-some passing slots s f in
+      omega (arith, from-in 0 4 (k .found) (k .inside), given-some (p (k .found)) (k .found) s (k .gives) .1)
 
   -- what the number n means: a slot where it is below 4
   module _ (n : ℕ) where
@@ -52,17 +29,22 @@ module _ (p : ℕ → Bool) where
         go (some s) q = rw q
         go none q = absurd (omega arith)
 
+    -- or 4
+    pub lowest-low : n ≡ lowest p → n ≤ 4
+    lowest-low e = go (firstOf passing slots) refl e
+      where
+        go : (o : Option ℕ) → firstOf passing slots ≡ o → n ≡ Option·getD o 4 → n ≤ 4
+        go none f q = omega arith
+        go (some s) f q = omega (arith, found-below s f, q)
+
     pub lowest-none : n ≡ lowest p → 4 ≤ n → firstOf passing slots ≡ none
     lowest-none e l = go (firstOf passing slots) refl e
       where
         go : (o : Option ℕ) → firstOf passing slots ≡ o → n ≡ Option·getD o 4 → o ≡ none
         go none f q = refl
-        go (some s) f q =
-            let k = firstOf-some passing slots s f in
-            let g = given-some (p (k .found)) (k .found) s (k .gives) in
-            absurd (omega (arith, from-in 0 4 (k .found) (k .inside), g .1, q))
+        go (some s) f q = absurd (omega (arith, found-below s f, q))
 
-    -- no slot below it passes, and it is at most 4
+    -- no slot below it passes
     pub lowest-below : n ≡ lowest p → (s : ℕ) → s < n → (s < 4) × (p s ≡ false)
     lowest-below e s l = go (firstOf passing slots) refl e
       where

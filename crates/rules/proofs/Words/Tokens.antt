@@ -51,7 +51,7 @@ number-again : (w : ℕ) → tokenNumber (tokenNumber w) ≡ tokenNumber w
 number-again w = number-of-low (tokenNumber w) (number-low w)
 
 -- a computed test of all numbers below n, and what one of all sixteen token numbers says of a word's
-abbrev below : ℕ → (ℕ → Bool) → Bool
+abbrev pub below : ℕ → (ℕ → Bool) → Bool
 below n p = all (map p (from 0 n))
 
 below-all : (n : ℕ) (p : ℕ → Bool) → below n p ≡ true → (i : ℕ) → i < n → p i ≡ true
