@@ -32,6 +32,7 @@ ghost use Rattle.rules.specs.Calls.{insertIn, updateIn, deleteIn};
 ghost use Rattle.rules.specs.Calls.{insert as insertCall, update as updateCall, delete as deleteCall};
 ghost use Rattle.rules.specs.declared.Lookup.the-variants.{Absent};
 ghost use Rattle.rules.specs.declared.Placing.the-variants.{Move as move};
+ghost use Rattle.reading.specs.Gates.{Headed};
 ghost use Rattle.reading.specs.Within.{SlotWithin, PlacingWithin};
 ghost use Rattle.listing.specs.Listing.{Room, Run, Takes};
 ghost use Rattle.listing.specs.Promises.{Changed, Did};
@@ -149,7 +150,7 @@ fn insert_stores(
 // that the move frees; "Otherwise there is no place". How many buckets the lookup looked at before it found the key absent plays no
 // part: the promise says 0.
 fn insert_absent(t: &[u64], list: &mut [u64], h: Header, key: u64, x: Hashes, r: Record) -> Change
-    requires { ⌜ (20 ≤ length (now list)) × GoodHeader (length (now t)) h × (x ≡ hashesOf h key) ⌝ }
+    requires { ⌜ (20 ≤ length (now list)) × Headed (now t) h × (x ≡ hashesOf h key) ⌝ }
     ensures { λ a. ⌜ Did (insertIn (now (t .entry)) h (Absent 0) key r) (now (list .entry)) a (now (list .exit)) ⌝ }
 {
     let p = placing(t, h, key, x);
@@ -162,7 +163,7 @@ fn insert_absent(t: &[u64], list: &mut [u64], h: Header, key: u64, x: Hashes, r:
 
 // "for insert 4 before 6"
 fn insert_at(t: &[u64], list: &mut [u64], h: Header, key: u64, r: Record) -> Change
-    requires { ⌜ (20 ≤ length (now list)) × GoodHeader (length (now t)) h ⌝ }
+    requires { ⌜ (20 ≤ length (now list)) × Headed (now t) h ⌝ }
     ensures { λ a. ⌜ Did (insertIn (now (t .entry)) h (lookupOf (now (t .entry)) h key) key r) (now (list .entry)) a (now (list .exit)) ⌝ }
 {
     let x = hashes(h, key);

@@ -19,6 +19,7 @@ ghost use mathlib.Core.List.{head?};
 ghost use lib.ListN.{length};
 ghost use Rattle.rules.specs.Words.{GoodState, GoodHeader, atRest, interimOf, InLevel};
 ghost use Rattle.rules.specs.Calls.{interimBucket, itemsFrom, stepItem};
+ghost use Rattle.reading.specs.Gates.{Headed};
 ghost use Rattle.reading.specs.Within.{BucketWithin};
 ghost use Rattle.growing.specs.Interim.{itemOf, ItemWithin, placeableIn, FoundBy};
 
@@ -64,7 +65,7 @@ pub fn bucket_in_level(state: State, x: Slot) -> usize
 
 // Of one bucket, the first item that has a place. Most buckets of a growth are empty: the search begins at the lowest taken slot.
 fn placed_in(t: &[u64], h: Header, p: Place) -> Found
-    requires { ⌜ GoodHeader (length (now t)) h × BucketWithin (now t) (p .bucket) ⌝ }
+    requires { ⌜ Headed (now t) h × BucketWithin (now t) (p .bucket) ⌝ }
     ensures { λ r. ⌜ FoundBy (now (t .entry)) h (placeableIn (now (t .entry)) h p) r ⌝ }
 {
     let word = token(t, p.bucket);
@@ -97,7 +98,7 @@ fn placed_in(t: &[u64], h: Header, p: Place) -> Found
 
 // "the first interim item, in the same order, that has a place", from bucket b of the level on.
 pub fn first_placed(t: &[u64], h: Header, b: usize) -> Found
-    requires { ⌜ GoodHeader (length (now t)) h × (atRest (h .state) ≡ false) ⌝ }
+    requires { ⌜ Headed (now t) h × (atRest (h .state) ≡ false) ⌝ }
     ensures { λ r. ⌜ FoundBy (now (t .entry)) h (stepItem (now (t .entry)) h b) r ⌝ }
 {
     let level = interim(h.state);

@@ -27,6 +27,7 @@ ghost use lib.ListN.{length};
 ghost use Rattle.rules.specs.Words.{GoodHeader, atRest};
 ghost use Rattle.rules.specs.Calls.{beginOf, stepItem, stepIn, stepOf, endOf};
 ghost use Rattle.rules.specs.Calls.{begin as beginCall, end as endCall};
+ghost use Rattle.reading.specs.Gates.{Headed};
 ghost use Rattle.listing.specs.Promises.{Changed, StepTaken, StepTakenFrom, Did};
 ghost use Rattle.growing.specs.Steps.{RefusedStep, DidStep};
 
@@ -73,7 +74,7 @@ fn unplaced(refusal: Refusal) -> SteppedFrom
 // The first item that has a place, from bucket b of the level on: its placing, "then its interim token cleared". "Refusal 6 is then given
 // exactly when interim items remain and none has one": then the search has found no placing.
 fn step_item(t: &[u64], list: &mut [u64], h: Header, b: usize) -> SteppedFrom
-    requires { ⌜ (20 ≤ length (now list)) × GoodHeader (length (now t)) h × (atRest (h .state) ≡ false) ⌝ }
+    requires { ⌜ (20 ≤ length (now list)) × Headed (now t) h × (atRest (h .state) ≡ false) ⌝ }
     ensures { λ r. ⌜ DidStep (now (t .entry)) h (stepItem (now (t .entry)) h b) (stepIn (now (t .entry)) h (stepItem (now (t .entry)) h b))
         (now (list .entry)) r (now (list .exit)) ⌝ }
 {
@@ -96,7 +97,7 @@ fn step_item(t: &[u64], list: &mut [u64], h: Header, b: usize) -> SteppedFrom
 
 // "for step and end 8 first". The buckets before that of the first item are empty, so the search for a place begins there.
 fn step_at(t: &[u64], list: &mut [u64], h: Header, b: u64) -> SteppedFrom
-    requires { ⌜ (20 ≤ length (now list)) × GoodHeader (length (now t)) h ⌝ }
+    requires { ⌜ (20 ≤ length (now list)) × Headed (now t) h ⌝ }
     ensures { λ r. ⌜ DidStep (now (t .entry)) h (stepItem (now (t .entry)) h b) (stepOf (now (t .entry)) h b) (now (list .entry)) r (now (list .exit)) ⌝ }
 {
     let state = h.state;

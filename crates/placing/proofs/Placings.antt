@@ -1,16 +1,17 @@
 -- A placing that was found, and one that was not: by the cases that a test of it leaves.
 -- Assumes nothing.
 use Prim.Native.Nat.{ℕ}
-use mathlib.Core.Path.{_≡_, refl, sym, ap, _∙_}
+use mathlib.Core.Path.{_≡_, refl, sym, ap, _∙_, subst, subst⁻¹}
 use mathlib.Core.List.{[], _∷_}
 use mathlib.Core.Logic.{⊎-elim}
 use mathlib.Core.Option.{Option, none, some, Option·map, Option·getD}
 use native.Mathlib.Omega.{arith}
 use denote.Enum.Declared.{tagOf}
 use types.Run.{OneOf}
+use lib.ListN.{length}
 use Rattle.rules.proofs.Placing.{the-type}
 use Rattle.rules.specs.Choice.{firstOf}
-use Rattle.rules.specs.Words.{Table, topOf, bottomOf}
+use Rattle.rules.specs.Words.{Table, GoodHeader, headerOf, topOf, bottomOf}
 use Rattle.rules.specs.Places.{hashesOf}
 use Rattle.rules.specs.Placing.{freeSlot, roomIn, Candidate, moveOf, candidates, placing}
 use Rattle.rules.specs.declared.Header.{Header}
@@ -20,6 +21,7 @@ use Rattle.rules.specs.declared.Slot.{Slot}
 use Rattle.rules.specs.declared.Placing.{Placing}
 use Rattle.rules.specs.declared.Placing.the-variants.{Free, Move, Nowhere}
 use Rattle.rules.proofs.Basics.Lists.{firstOf-some}
+use Rattle.reading.specs.Gates.{Headed}
 use Rattle.placing.specs.Search.{optional}
 
 pub nowhere : (p : Placing) → OneOf (2 ∷ []) (tagOf the-type p) → optional p ≡ none
@@ -83,3 +85,13 @@ module _ (t : Table) (h : Header) (key : ℕ) {x : Hashes} (d : x ≡ hashesOf h
     pub by-move : roomIn t h x lower ≡ none → (p : Placing) → optional p ≡ firstOf (moveOf t h) (candidates t h x) → p ≡ placing t h key
     unfolding placing
     by-move m p e = rw (← d, ← u, n, ← v, m, ← e) (sym (optional-back p))
+
+-- ---- the table's own header, read again
+
+module _ {t : Table} {h : Header} (headed : Headed t h) where
+  pub own-good : GoodHeader (length t) (headerOf t)
+  own-good = subst (GoodHeader (length t)) (headed .own) (headed .good)
+
+  pub own-move : (x : Hashes) (r : Placing) → optional r ≡ firstOf (moveOf t (headerOf t)) (candidates t (headerOf t) x)
+      → optional r ≡ firstOf (moveOf t h) (candidates t h x)
+  own-move x r e = subst⁻¹ (λ (g : Header). optional r ≡ firstOf (moveOf t g) (candidates t g x)) (headed .own) e

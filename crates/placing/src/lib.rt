@@ -11,22 +11,21 @@ use rules::Hashes;
 use rules::Header;
 use rules::Placing;
 ghost use mathlib.Core.Path.{_≡_};
-ghost use lib.ListN.{length};
 ghost use Rattle.rules.specs.Choice.{firstOf};
-ghost use Rattle.rules.specs.Words.{GoodHeader};
 ghost use Rattle.rules.specs.Places.{hashesOf};
 ghost use Rattle.rules.specs.Placing.{moveOf, candidates, placing as placingOf};
 ghost use Rattle.rules.specs.Answers.{PlacingTells};
+ghost use Rattle.reading.specs.Gates.{Headed};
 ghost use Rattle.reading.specs.Within.{PlacingWithin};
 ghost use Rattle.placing.specs.Search.{optional};
 
 // "If all are full, one move." "Otherwise there is no place." It stands between `placing` and the search so that header and hashes
 // are handed through memory here alone.
 fn one_move(t: &[u64], h: Header, x: Hashes) -> Placing
-    requires { ⌜ GoodHeader (length (now t)) h ⌝ }
+    requires { ⌜ Headed (now t) h ⌝ }
     ensures { λ r. ⌜ (optional r ≡ firstOf (moveOf (now (t .entry)) h) (candidates (now (t .entry)) h x)) × PlacingWithin (now (t .entry)) r ⌝ }
 {
-    let found = moving(t, h, x);
+    let found = moving(t, x);
     if let Placing::Move(from, to) = found {
         return Placing::Move(from, to);
     }
@@ -37,7 +36,7 @@ fn one_move(t: &[u64], h: Header, x: Hashes) -> Placing
 // If all are full, one move." The key's hashes x are handed in: whoever asks has them already. A free slot is written out as the
 // answer, and no enum copied: so an insert keeps it in registers.
 pub fn placing(t: &[u64], h: Header, key: u64, x: Hashes) -> Placing
-    requires { ⌜ GoodHeader (length (now t)) h × (x ≡ hashesOf h key) ⌝ }
+    requires { ⌜ Headed (now t) h × (x ≡ hashesOf h key) ⌝ }
     ensures { λ r. ⌜ PlacingTells r (placingOf (now (t .entry)) h key) × PlacingWithin (now (t .entry)) r ⌝ }
 {
     let in_top = room(t, h, x, top(h.state));
@@ -54,7 +53,7 @@ pub fn placing(t: &[u64], h: Header, key: u64, x: Hashes) -> Placing
 // The same for an item that stands in the interim level. A text of its own, for speed: what is asked for in one place alone becomes
 // part of the call that asks, and so an insert hands its placing through no memory.
 pub fn interim_placing(t: &[u64], h: Header, key: u64, x: Hashes) -> Placing
-    requires { ⌜ GoodHeader (length (now t)) h × (x ≡ hashesOf h key) ⌝ }
+    requires { ⌜ Headed (now t) h × (x ≡ hashesOf h key) ⌝ }
     ensures { λ r. ⌜ PlacingTells r (placingOf (now (t .entry)) h key) × PlacingWithin (now (t .entry)) r ⌝ }
 {
     let above = room(t, h, x, top(h.state));
@@ -65,5 +64,5 @@ pub fn interim_placing(t: &[u64], h: Header, key: u64, x: Hashes) -> Placing
     let Placing::Nowhere = below else {
         return below;
     };
-    moving(t, h, x)
+    moving(t, x)
 }

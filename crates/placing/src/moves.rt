@@ -2,6 +2,7 @@
 use super::buckets::bucket;
 use super::buckets::slot_of;
 use super::room::free_slot;
+use reading::header::decode;
 use reading::levels::bottom;
 use reading::levels::top;
 use reading::places::Places;
@@ -20,7 +21,7 @@ ghost use mathlib.Core.Path.{_≡_};
 ghost use Prim.Native.Nat.{_≤_};
 ghost use lib.ListN.{length, take};
 ghost use Rattle.rules.specs.Choice.{firstOf};
-ghost use Rattle.rules.specs.Words.{GoodHeader};
+ghost use Rattle.rules.specs.Words.{GoodHeader, headerOf};
 ghost use Rattle.rules.specs.Places.{hashesOf, placesIn};
 ghost use Rattle.rules.specs.Placing.{moveOf, candidates};
 ghost use Rattle.reading.specs.Levels.{listHeld};
@@ -121,7 +122,7 @@ fn moves_of_level(t: &[u64], h: Header, x: Hashes, l: Level, way: Way) -> Placin
 
 // "those of the key's top places, to the item's other top place; those of its bottom places, to the item's other bottom
 // place; those of its bottom places again, to the item's first top place, else its second"
-pub fn moving(t: &[u64], h: Header, x: Hashes) -> Placing
+fn first_move(t: &[u64], h: Header, x: Hashes) -> Placing
     requires { ⌜ GoodHeader (length (now t)) h ⌝ }
     ensures { λ r. ⌜ (optional r ≡ firstOf (moveOf (now (t .entry)) h) (candidates (now (t .entry)) h x)) × PlacingWithin (now (t .entry)) r ⌝ }
 {
@@ -148,4 +149,14 @@ pub fn moving(t: &[u64], h: Header, x: Hashes) -> Placing
         return in_bottom;
     };
     moves_of_level(t, h, x, lower, upward)
+}
+
+// "If all are full, one move." The header is read from the table again: what is asked for so seldom is not to keep the header in registers
+// all through an insert.
+pub fn moving(t: &[u64], x: Hashes) -> Placing
+    requires { ⌜ GoodHeader (length (now t)) (headerOf (now t)) ⌝ }
+    ensures { λ r. ⌜ (optional r ≡ firstOf (moveOf (now (t .entry)) (headerOf (now (t .entry)))) (candidates (now (t .entry)) (headerOf (now (t .entry))) x))
+        × PlacingWithin (now (t .entry)) r ⌝ }
+{
+    first_move(t, decode(t), x)
 }

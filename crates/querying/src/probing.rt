@@ -1,8 +1,8 @@
 // The places of a key one after the other, without a list of them: place i is the first or the second place, by turns, of
 // level i / 2.
 use reading::levels::level_count;
-use reading::levels::nth_level;
-use reading::places::place;
+use reading::levels::nth_first;
+use reading::places::place_from;
 use rules::Hashes;
 use rules::Place;
 use rules::State;
@@ -23,11 +23,12 @@ pub fn nth_place(s: State, x: Hashes, i: usize) -> Place
     requires { ⌜ GoodState 20 s × (i < 2 * length (levelsInUse s)) ⌝ }
     ensures { λ p. ⌜ p ≡ nthPlace s x i ⌝ }
 {
-    let level = nth_level(s, i / 2);
+    let n = i / 2;
+    let first = nth_first(s, n);
     if i % 2 == 0 {
-        return place(x.first, level);
+        return place_from(n as u64, first, x.first);
     }
-    place(x.second, level)
+    place_from(n as u64, first, x.second)
 }
 
 // "first place, then second if different": whether place i, a bucket, is not the place before it again.

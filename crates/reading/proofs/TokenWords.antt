@@ -2,13 +2,14 @@
 -- Assumes nothing.
 use Prim.Native.Nat.{ℕ, zero, suc, _+_, _-_, _*_, _/_, _%_, _^_, _≤_, _<_}
 use mathlib.Core.Path.{_≡_, refl, _∙_}
-use mathlib.Core.Bool.{Bool, true, false}
+use mathlib.Core.Bool.{Bool, true, cond}
 use native.Mathlib.Omega.{arith}
+use lib.Bits.{bitAnd, bitOr}
 use lib.Dec.{eqb}
 use borrow.Author.Tests.{eqb-true}
 use Rattle.rules.specs.Words.{tokenNumber, isTaken, show, hide}
 use Rattle.rules.specs.declared.Header.{Header}
-use Rattle.rules.proofs.Words.Tokens.{below, taken-number, number-tested}
+use Rattle.rules.proofs.Words.Tokens.{below, below-all, taken-number, number-tested}
 use Rattle.reading.specs.Tokens.{entryOf}
 
 -- one, s places up
@@ -19,33 +20,24 @@ shifted (suc (suc zero)) h = (refl, omega arith)
 shifted (suc (suc (suc zero))) h = (refl, omega arith)
 shifted (suc (suc (suc (suc s)))) h = absurd (omega arith)
 
-set-bit : (w s : ℕ) → s < 4 → w / 2 ^ s % 2 ≡ 1 → 2 ^ s ≤ w
-set-bit w zero h e = omega arith
-set-bit w (suc zero) h e = omega arith
-set-bit w (suc (suc zero)) h e = omega arith
-set-bit w (suc (suc (suc zero))) h e = omega arith
-set-bit w (suc (suc (suc (suc s)))) h e = absurd (omega arith)
+-- setting a bit shows its slot and clearing it hides it, by computed tests of all token numbers and slots
+setsBit : ℕ → ℕ → Bool
+setsBit v z = eqb (bitOr v (2 ^ z)) (cond (eqb (v / 2 ^ z % 2) 1) v (v + 2 ^ z))
 
-module _ (h : Header) (w s : ℕ) where
-  pub taken-bit : s < 4 → isTaken h w s ≡ true → 2 ^ s ≤ tokenNumber w
-  unfolding isTaken
-  taken-bit l e = set-bit (tokenNumber w) s l (eqb-true _ _ e)
+clearsBit : ℕ → ℕ → Bool
+clearsBit v z = eqb (bitAnd v (15 - 2 ^ z)) (cond (eqb (v / 2 ^ z % 2) 1) (v - 2 ^ z) v)
 
-  pub show-taken : (key : ℕ) → isTaken h w s ≡ true → tokenNumber w ≡ show h w s key
-  unfolding show
-  show-taken key e = rw e
+of-slots : (test : ℕ → ℕ → Bool) → below 16 (λ v. below 4 (test v)) ≡ true → (w s : ℕ) → s < 4 → test (tokenNumber w) s ≡ true
+of-slots test e w s l = below-all 4 (test (tokenNumber w)) (number-tested (λ v. below 4 (test v)) e w) s l
 
-  pub show-free : (key : ℕ) → isTaken h w s ≡ false → tokenNumber w + 2 ^ s ≡ show h w s key
-  unfolding show
-  show-free key e = rw e
+module _ (h : Header) (w s : ℕ) (l : s < 4) where
+  pub show-set : (key : ℕ) → bitOr (tokenNumber w) (2 ^ s) ≡ show h w s key
+  unfolding show isTaken setsBit
+  show-set key = eqb-true _ _ (of-slots setsBit refl w s l)
 
-  pub hide-taken : isTaken h w s ≡ true → tokenNumber w - 2 ^ s ≡ hide h w s
-  unfolding hide
-  hide-taken e = rw e
-
-  pub hide-free : isTaken h w s ≡ false → tokenNumber w ≡ hide h w s
-  unfolding hide
-  hide-free e = rw e
+  pub hide-clear : bitAnd (tokenNumber w) (15 - 2 ^ s) ≡ hide h w s
+  unfolding hide isTaken clearsBit
+  hide-clear = eqb-true _ _ (of-slots clearsBit refl w s l)
 
 -- ---- tables over the sixteen token numbers
 

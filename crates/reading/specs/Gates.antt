@@ -6,6 +6,7 @@ use mathlib.Core.List.{List, [], _∷_}
 use lib.ListN.{length}
 use Rattle.rules.specs.Words.{Table, headerOf, GoodHeader}
 use Rattle.rules.specs.Calls.{headerGood, checked}
+use Rattle.rules.specs.declared.Header.{Header}
 use Rattle.rules.specs.declared.Refusal.{Refusal}
 use Rattle.rules.specs.declared.Refusal.the-variants.{BadHeader}
 use Rattle.reading.specs.declared.gate.Gate.{Gate}
@@ -23,6 +24,11 @@ also b x (Shut r) = Shut r
 -- test 1 alone
 unfoldable pub headerTest : Table → List (Bool × Refusal)
 headerTest t = (headerGood t, BadHeader) ∷ []
+
+-- the table's own header, which is good
+pub record Headed (t : Table) (h : Header) : Type 0 where
+  pub own : h ≡ headerOf t
+  pub good : GoodHeader (length t) h
 
 -- what an open gate is open with: the table's own header, and it is good
 abbrev pub Ready : Table → Gate → Type 0

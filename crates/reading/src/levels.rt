@@ -1,12 +1,13 @@
 // The levels in use, "top, bottom, interim": here alone code knows which levels a state has, and how large each is.
 use rules::Level;
 use rules::State;
+use words::power;
 ghost use mathlib.Core.Path.{_≡_};
 ghost use mathlib.Core.Bool.{false};
-ghost use Prim.Native.Nat.{_≤_, _<_};
+ghost use Prim.Native.Nat.{_^_, _≤_, _<_};
 ghost use lib.ListN.{length};
 ghost use Rattle.rules.specs.Words.{GoodState, atRest, topOf, bottomOf, interimOf, levelsInUse};
-ghost use Rattle.reading.specs.Levels.{NthLevel};
+ghost use Rattle.reading.specs.Levels.{NthLevel, NthFirst};
 
 // "The top has 2^k buckets"
 pub fn top(s: State) -> Level
@@ -64,4 +65,15 @@ pub fn nth_level(s: State, n: usize) -> Level
         name,
         exponent: s.k - name,
     }
+}
+
+// The first bucket of the n-th: "buckets M − 1 to 2M − 2". Top and bottom share a power of two, since a lookup asks for both.
+pub fn nth_first(s: State, n: usize) -> usize
+    requires { ⌜ GoodState 20 s × (n < length (levelsInUse s)) ⌝ }
+    ensures { λ r. ⌜ NthFirst s n r × (r < 2 ^ 20) ⌝ }
+{
+    if n == 2 {
+        return power(interim(s).exponent) - 1;
+    }
+    (power(s.k) - 1) >> n
 }

@@ -4,14 +4,13 @@ use rules::Header;
 use rules::Level;
 use rules::Place;
 use words::hash;
-use words::low_bits;
 use words::power;
 ghost use mathlib.Core.Path.{_≡_};
 ghost use mathlib.Core.List.{[], _∷_};
-ghost use Prim.Native.Nat.{_+_, _*_, _≤_, _<_};
+ghost use Prim.Native.Nat.{_+_, _*_, _^_, _≤_, _<_};
 ghost use Rattle.rules.specs.Words.{sizeOf};
 ghost use Rattle.rules.specs.Places.{hashesOf, placesIn};
-ghost use Rattle.reading.specs.Levels.{placeIn, listHeld};
+ghost use Rattle.reading.specs.Levels.{placeFrom, placeIn, listHeld};
 
 // At most two places: the first n of the list.
 pub struct Places {
@@ -28,15 +27,24 @@ pub fn hashes(h: Header, key: u64) -> Hashes
     }
 }
 
+// The place of a hash in the level of that name and first bucket, which is M − 1: M is a power of two, so the bits of "hash modulo M"
+// are those that M − 1 has.
+pub fn place_from(name: u64, first: usize, hash: u64) -> Place
+    requires { ⌜ first < 2 ^ 20 ⌝ }
+    ensures { λ r. ⌜ r ≡ placeFrom name first hash ⌝ }
+{
+    Place {
+        level: name,
+        bucket: first + (hash as usize & first),
+    }
+}
+
 // The place of a hash in a level.
 pub fn place(hash: u64, l: Level) -> Place
     requires { ⌜ l .exponent ≤ 20 ⌝ }
     ensures { λ r. ⌜ (r ≡ placeIn l hash) × (r .bucket + 1 < 2 * sizeOf l) ⌝ }
 {
-    Place {
-        level: l.name,
-        bucket: power(l.exponent) - 1 + low_bits(hash, l.exponent),
-    }
+    place_from(l.name, power(l.exponent) - 1, hash)
 }
 
 pub fn no_place() -> Places

@@ -26,11 +26,7 @@ pub fn show(h: Header, word: u64, s: usize, key: u64) -> u64
     requires { ⌜ s < 4 ⌝ }
     ensures { λ r. ⌜ r ≡ shown h word s key ⌝ }
 {
-    let number = token_number(word);
-    if is_taken(h, word, s) {
-        return number;
-    }
-    number + (1u64 << s)
+    token_number(word) | (1u64 << s)
 }
 
 // The token word with slot s free.
@@ -38,11 +34,7 @@ pub fn hide(h: Header, word: u64, s: usize) -> u64
     requires { ⌜ s < 4 ⌝ }
     ensures { λ r. ⌜ r ≡ hidden h word s ⌝ }
 {
-    let number = token_number(word);
-    if is_taken(h, word, s) {
-        return number - (1u64 << s);
-    }
-    number
+    token_number(word) & (15 - (1u64 << s))
 }
 
 // The word that should stand in bucket j, by the slots that its token word calls taken and by their keys, which play no part in form 1.
@@ -56,7 +48,9 @@ pub fn meant(t: &[u64], h: Header, j: usize, word: u64) -> u64
 // Three tables over the sixteen token numbers, each as the hexadecimal digits of one number: the entry of token number 0 is the lowest
 // digit, that of 15 the highest.
 const TAKEN_COUNTS: u64 = 0x4332_3221_3221_2110;
+
 const LOWEST_FREE: u64 = 0x4010_2010_3010_2010;
+
 const LOWEST_TAKEN: u64 = 0x0102_0103_0102_0104;
 
 // A token word's entry in a table.

@@ -1,7 +1,7 @@
-// Arithmetic on words that the rules lean on: the product, the hash, powers of two and low bits.
+// Arithmetic on words that the rules lean on: the product, the hash and powers of two.
 // Each function is promised equal to a definition of specs/ that a reader of document 01 recognises.
 ghost use mathlib.Core.Path.{_≡_};
-ghost use Prim.Native.Nat.{_%_, _^_, _<_};
+ghost use Prim.Native.Nat.{_^_, _<_};
 ghost use Rattle.words.specs.Product.{productOf, hashOf};
 
 // a · b modulo 2^64, from half words: of the four partial products the highest vanishes modulo 2^64,
@@ -32,12 +32,4 @@ pub fn power(e: u64) -> usize
     ensures { λ r. ⌜ (r ≡ 2 ^ e) × (0 < r) ⌝ }
 {
     1usize << e
-}
-
-// The low e bits of a word, by a mask and not by a division.
-pub fn low_bits(word: u64, e: u64) -> usize
-    requires { ⌜ e < 64 ⌝ }
-    ensures { λ r. ⌜ (r ≡ word % 2 ^ e) × (r < 2 ^ e) ⌝ }
-{
-    (word as usize) & (power(e) - 1)
 }

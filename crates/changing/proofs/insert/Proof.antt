@@ -20,7 +20,7 @@ insert-at-requires c κs =
     let g = c .before .before in
     let q = g .before .before .change-gate .ensures in
     let y = rw (g .gate2 .given .1) at (q .1) in
-    (change-long _ _ (q .0) (g .gate2 .given .1), y .1)
+    (change-long _ _ (q .0) (g .gate2 .given .1), record { own = y .0; good = y .1 })
 
 returns : tie.Need-returns
 returns c =

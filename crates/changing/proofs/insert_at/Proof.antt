@@ -10,7 +10,7 @@ hashes-requires : tie.Need-hashes-requires
 hashes-requires c κs = search needs
 
 lookup-by-requires : tie.Need-lookup-by-requires
-lookup-by-requires c κs = (c .before .before .before .pre .1, c .hashes .ensures)
+lookup-by-requires c κs = (c .before .before .before .pre .1 .good, c .hashes .ensures)
 
 enum-told : tie.Need-enum-told
 enum-told c = search needs

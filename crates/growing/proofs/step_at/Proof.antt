@@ -29,7 +29,7 @@ growing : (c : tie.Else1) → atRest (c .before .before .before .before .before 
 growing c = sym (c .before .at-rest .ensures) ∙ c .if1 .left
 
 first-item-requires : tie.Need-first-item-requires
-first-item-requires c κs = (c .before .before .before .before .before .pre .1, growing c)
+first-item-requires c κs = (c .before .before .before .before .before .pre .1 .good, growing c)
 
 enum-known-item : tie.Need-enum-known-item
 enum-known-item c = search needs
@@ -59,7 +59,7 @@ bucket-in-level-requires : tie.Need-bucket-in-level-requires
 bucket-in-level-requires c κs =
     let i = c .before .before in
     let f = i .before .before in
-    (header-state _ _ (f .before .before .before .before .before .before .pre .1), growing (f .before), first-in-level _ _ _ _ (first i))
+    (header-state _ _ (f .before .before .before .before .before .before .pre .1 .good), growing (f .before), first-in-level _ _ _ _ (first i))
 
 step-item-requires : tie.Need-step-item-requires
 step-item-requires c κs =

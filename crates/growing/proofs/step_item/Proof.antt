@@ -65,7 +65,7 @@ list-placing-requires : tie.Need-list-placing-requires
 list-placing-requires c κs =
     let m = c .before .before .before .before in
     let s = m .before .before .before .before in
-    (omega (arith, s .pre .0), table-small _ _ (s .pre .1), taken m .1)
+    (omega (arith, s .pre .0), table-small _ _ (s .pre .1 .good), taken m .1)
 
 token-requires : tie.Need-token-requires
 token-requires c κs = found (c .before .before .before .before .before .before .before .before) .2 .0
@@ -76,13 +76,13 @@ clear-requires c κs =
     let m = d .before .before .before .before .before in
     let s = m .before .before .before .before in
     let x = found m .2 in
-    omega (arith, s .pre .0, table-small _ _ (s .pre .1), x .0, x .1, d .list-placing .ensures .1)
+    omega (arith, s .pre .0, table-small _ _ (s .pre .1 .good), x .0, x .1, d .list-placing .ensures .1)
 
 bucket-in-level-requires : tie.Need-bucket-in-level-requires
 bucket-in-level-requires c κs =
     let m = c .before .before .before .before .before .before .before .before .before .before .before .before in
     let s = m .before .before .before .before in
-    (header-state _ _ (s .pre .1), s .pre .2, step-in-level _ _ _ _ (found m .0))
+    (header-state _ _ (s .pre .1 .good), s .pre .2, step-in-level _ _ _ _ (found m .0))
 
 same-length : tie.Need-same-length
 same-length c = search needs

@@ -11,10 +11,10 @@ use Rattle.placing.proofs.placing.Statement.{statement}
 use Rattle.placing.proofs.placing.Tie as tie
 
 top-requires : tie.Need-top-requires
-top-requires c κs = header-state _ _ (c .before .pre .0)
+top-requires c κs = header-state _ _ (c .before .pre .0 .good)
 
 room-requires : tie.Need-room-requires
-room-requires c κs = let s = c .before .before in top-within (now (s .args .t)) _ (s .pre .0) (c .top .ensures .0)
+room-requires c κs = let s = c .before .before in top-within (now (s .args .t)) _ (s .pre .0 .good) (c .top .ensures .0)
 
 enum-known-in-top : tie.Need-enum-known-in-top
 enum-known-in-top c = search needs
@@ -30,10 +30,10 @@ returns c =
     )
 
 bottom-requires : tie.Need-bottom-requires
-bottom-requires c κs = header-state _ _ (c .before .before .before .before .pre .0)
+bottom-requires c κs = header-state _ _ (c .before .before .before .before .pre .0 .good)
 
 room-requires-2 : tie.Need-room-requires-2
-room-requires-2 c κs = let s = c .before .before .before .before .before in bottom-within (now (s .args .t)) _ (s .pre .0) (c .bottom .ensures .0)
+room-requires-2 c κs = let s = c .before .before .before .before .before in bottom-within (now (s .args .t)) _ (s .pre .0 .good) (c .bottom .ensures .0)
 
 enum-known-in-bottom : tie.Need-enum-known-in-bottom
 enum-known-in-bottom c = search needs

@@ -54,7 +54,7 @@ number-again w = number-of-low (tokenNumber w) (number-low w)
 abbrev pub below : ℕ → (ℕ → Bool) → Bool
 below n p = all (map p (from 0 n))
 
-below-all : (n : ℕ) (p : ℕ → Bool) → below n p ≡ true → (i : ℕ) → i < n → p i ≡ true
+pub below-all : (n : ℕ) (p : ℕ → Bool) → below n p ≡ true → (i : ℕ) → i < n → p i ≡ true
 below-all n p e i l = tells-all p _ (λ x. Iff·rfl) (from 0 n) .0 e i (in-from 0 n i (omega arith) (omega arith))
 
 pub number-tested : (p : ℕ → Bool) → below 16 p ≡ true → (w : ℕ) → p (tokenNumber w) ≡ true

@@ -20,7 +20,7 @@ abbrev μ-loop : tie.MeasureT-loop
 μ-loop t h b level m i₀ i = m - i
 
 interim-requires : tie.Need-interim-requires Inv-loop μ-loop
-interim-requires c κs = (header-state _ _ (c .before .pre .0), c .before .pre .1)
+interim-requires c κs = (header-state _ _ (c .before .pre .0 .good), c .before .pre .1)
 
 power-requires : tie.Need-power-requires Inv-loop μ-loop
 power-requires c κs = omega (arith, c .interim .ensures .1)
@@ -41,7 +41,7 @@ placed-in-requires : tie.Need-placed-in-requires Inv-loop μ-loop
 placed-in-requires c κs =
     let p = c .before .before in
     let s = p .before .before .before in
-    (s .pre .0, bucket-within _ _ (s .pre .0) (s .pre .1) (p .before .interim .ensures .0) (p .power .ensures .0) (c .loop-test .taken))
+    (s .pre .0, bucket-within _ _ (s .pre .0 .good) (s .pre .1) (p .before .interim .ensures .0) (p .power .ensures .0) (c .loop-test .taken))
 
 enum-told : tie.Need-enum-told Inv-loop μ-loop
 enum-told c = search needs
