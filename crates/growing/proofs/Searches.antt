@@ -13,13 +13,13 @@ use denote.Enum.Declared.{tagOf}
 use types.Run.{OneOf}
 use lib.ListN.{drop}
 use lib.Seq.{drop-drop}
-use lib.Dec.{leb}
-use borrow.Author.Tests.{lt-leb, le-leb}
+use lib.Dec.{ltb, leb}
+use borrow.Author.Tests.{ltb-true, ltb-false, lt-leb, le-leb}
 use lib.Pow.{pow-mono}
 use Rattle.rules.specs.Choice.{given, orElse, select, firstOf, from}
 use Rattle.rules.specs.Words.{Table, GoodHeader, atRest, sizeOf, topOf, bottomOf, interimOf, levelsInUse, bucketsOf, InLevel, slotAt, slotsIn}
 use Rattle.rules.specs.Words.{placeOf, placeAt}
-use Rattle.rules.specs.Words.{slotsOf, keyIn, tokenOf, isTaken, slots, lowestTaken, taken}
+use Rattle.rules.specs.Words.{slotsOf, keyIn, tokenOf, isTaken, slots, lowest, lowestTaken, taken}
 use Rattle.rules.specs.Placing.{placing, somewhere}
 use Rattle.rules.specs.Calls.{interimSlots, interimItems, interimBucket, itemsFrom, hasPlace, stepItem}
 use Rattle.rules.specs.declared.State.{State}
@@ -38,7 +38,7 @@ use Rattle.rules.proofs.Words.Headers.{next-bucket-fits}
 use Rattle.rules.proofs.Words.Levels.{interim-used, exponent-fits}
 use Rattle.rules.proofs.Words.FreeSlots.{slot-place}
 use Rattle.rules.proofs.Tables.Interims.{slot-range}
-use Rattle.rules.proofs.Basics.Lowest.{passing, lowest-some, lowest-none, lowest-below}
+use Rattle.rules.proofs.Basics.Lowest.{passing, lowest-some, lowest-none}
 use Rattle.reading.specs.Within.{SlotWithin, PlacingWithin}
 use Rattle.growing.specs.Interim.{placeable, placeableIn, FoundBy}
 use Rattle.growing.specs.declared.interim.Found.{Found}
@@ -215,21 +215,26 @@ module _ (t : Table) (h : Header) where
       on x true k = rw k
       on x false k = refl
 
-  -- one bucket: the lowest taken slot of its token word
-  module _ (j : ℕ) {w s : ℕ} (u : w ≡ tokenOf t j) (v : s ≡ lowestTaken h w) where
+  -- one bucket, by its token word: whether a slot is taken, and the lowest taken one
+  module _ (j : ℕ) {w : ℕ} {b : Bool} (u : w ≡ tokenOf t j) (v : b ≡ ltb (lowestTaken h w) 4) where
     bucket-item : foundIn h itemAt j ≡ Option·map (slotAt (placeAt (interimOf (h .state)) j)) (firstOf (passing (isTaken h w)) slots)
     unfolding foundIn itemAt slotsIn slotAt placeAt taken
     bucket-item =
         rw (firstOf-map itemAt (slotAt (placeAt (interimOf (h .state)) j)) slots, u)
         (firstOf-given (isTaken h (tokenOf t j)) (slotAt (placeAt (interimOf (h .state)) j)) slots)
 
-    pub item-here : {l : Level} → l ≡ interimOf (h .state) → s < 4 → foundIn h itemAt j ≡ some (slotAt (placeAt l j) s)
+    pub item-none : b ≡ false → foundIn h itemAt j ≡ none
     unfolding lowestTaken
-    item-here e l = rw e (bucket-item ∙ ap (Option·map (slotAt (placeAt (interimOf (h .state)) j))) (lowest-some (isTaken h w) s v l))
+    item-none k =
+        let high = ltb-false (lowest (isTaken h w)) 4 (sym v ∙ k) in
+        bucket-item ∙ ap (Option·map (slotAt (placeAt (interimOf (h .state)) j))) (lowest-none (isTaken h w) _ refl high)
 
-    pub item-none : 4 ≤ s → foundIn h itemAt j ≡ none
+    pub item-low : {s : ℕ} → b ≡ true → s ≡ lowestTaken h w → s < 4
+    item-low k e = rw e (ltb-true (lowestTaken h w) 4 (sym v ∙ k))
+
+    pub item-here : {s : ℕ} {l : Level} → l ≡ interimOf (h .state) → b ≡ true → s ≡ lowestTaken h w → foundIn h itemAt j ≡ some (slotAt (placeAt l j) s)
     unfolding lowestTaken
-    item-none l = bucket-item ∙ ap (Option·map (slotAt (placeAt (interimOf (h .state)) j))) (lowest-none (isTaken h w) s v l)
+    item-here e k z = rw e (bucket-item ∙ ap (Option·map (slotAt (placeAt (interimOf (h .state)) j))) (lowest-some (isTaken h w) _ z (item-low k z)))
 
   -- ---- the first that is taken by an item that has a place
 
@@ -278,20 +283,6 @@ module _ (t : Table) (h : Header) where
           rw (i ∙ along-hit (placeable t h) (slotsIn p) s (slots-next p s low) (slot-placeable g))
           (refl, f ∙ ap (placing t h) k, g, near, far)
 
-  -- no slot below the lowest taken one counts
-  module _ (p : Place) {w n : ℕ} (u : w ≡ tokenOf t (p .bucket)) (v : n ≡ lowestTaken h w) where
-    pub slots-skipped : placeableIn t h p ≡ along (placeable t h) (slotsIn p) n
-    unfolding lowestTaken placeableIn
-    slots-skipped = go n (λ s l. lowest-below (isTaken h w) n v s l)
-      where
-        go : (m : ℕ) → ((s : ℕ) → s < m → (s < 4) × (isTaken h w s ≡ false))
-            → firstOf (placeable t h) (slotsIn p) ≡ along (placeable t h) (slotsIn p) m
-        go zero k = along-all (placeable t h) (slotsIn p)
-        go (suc m) k =
-            let f = k m (omega arith) in
-            let next : m + 1 ≡ suc m = omega arith in
-            go m (λ s l. k s (omega arith)) ∙ slot-free p m (f .0) u refl (f .1) ∙ ap (along (placeable t h) (slotsIn p)) next
-
   -- one bucket of the level, by what its own search found
   module _ (m i : ℕ) {l : Level} (e : l ≡ interimOf (h .state)) (q : m ≡ sizeOf l) (r : i < m) (p : Place) (z : p ≡ placeAt l (m - 1 + i)) (f : Found)
       (k : FoundBy t h (placeableIn t h p) f) where
@@ -312,6 +303,10 @@ module _ (t : Table) (h : Header) where
   unfolding foundIn itemAt placeable
   nothing-placeable j e = none-firstOf (placeable t h) (slotsIn (placeAt (interimOf (h .state)) j))
       (λ x i. let k = given-none (taken t h x) x (firstOf-none itemAt (slotsIn (placeAt (interimOf (h .state)) j)) e x i) in rw k)
+
+  pub bucket-empty : (m i : ℕ) {l : Level} → l ≡ interimOf (h .state) → m ≡ sizeOf l → i < m → foundIn h itemAt (m - 1 + i) ≡ none
+      → foundFrom h (placeable t h) i ≡ foundFrom h (placeable t h) (i + 1)
+  bucket-empty m i e q r k = found-pass h (placeable t h) m i e q r (nothing-placeable (m - 1 + i) k)
 
   item-bucket : (j : ℕ) (x : Slot) → foundIn h itemAt j ≡ some x → x .bucket ≡ j
   unfolding foundIn itemAt placeOf placeAt

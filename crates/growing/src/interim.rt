@@ -5,6 +5,7 @@ use reading::levels::interim;
 use reading::places::hashes;
 use reading::slots::key_at;
 use reading::slots::token;
+use reading::tokens::any_taken;
 use reading::tokens::is_taken;
 use reading::tokens::lowest_taken;
 use rules::Header;
@@ -43,12 +44,12 @@ pub fn first_item(t: &[u64], h: Header, b: u64) -> Item
     let m = power(level.exponent);
     for i in b as usize..m {
         let j = m - 1 + i;
-        let s = lowest_taken(h, token(t, j));
-        if s < 4 {
+        let word = token(t, j);
+        if any_taken(h, word) {
             return Item::At(Slot {
                 level: level.name,
                 bucket: j,
-                slot: s,
+                slot: lowest_taken(h, word),
             });
         }
     }
@@ -63,13 +64,13 @@ pub fn bucket_in_level(state: State, x: Slot) -> usize
     x.bucket - (power(interim(state).exponent) - 1)
 }
 
-// Of one bucket, the first item that has a place. Most buckets of a growth are empty: the search begins at the lowest taken slot.
+// Of one bucket, the first item that has a place.
 fn placed_in(t: &[u64], h: Header, p: Place) -> Found
     requires { ⌜ Headed (now t) h × BucketWithin (now t) (p .bucket) ⌝ }
     ensures { λ r. ⌜ FoundBy (now (t .entry)) h (placeableIn (now (t .entry)) h p) r ⌝ }
 {
     let word = token(t, p.bucket);
-    for s in lowest_taken(h, word)..4 {
+    for s in 0..4 {
         let x = Slot {
             level: p.level,
             bucket: p.bucket,
@@ -96,7 +97,8 @@ fn placed_in(t: &[u64], h: Header, p: Place) -> Found
     }
 }
 
-// "the first interim item, in the same order, that has a place", from bucket b of the level on.
+// "the first interim item, in the same order, that has a place", from bucket b of the level on. Most buckets of a growth are empty, and
+// passed over by one test.
 pub fn first_placed(t: &[u64], h: Header, b: usize) -> Found
     requires { ⌜ Headed (now t) h × (atRest (h .state) ≡ false) ⌝ }
     ensures { λ r. ⌜ FoundBy (now (t .entry)) h (stepItem (now (t .entry)) h b) r ⌝ }
@@ -108,11 +110,13 @@ pub fn first_placed(t: &[u64], h: Header, b: usize) -> Found
             level: level.name,
             bucket: m - 1 + i,
         };
-        let found = placed_in(t, h, place);
-        let p = found.placing;
-        let Placing::Nowhere = p else {
-            return found;
-        };
+        if any_taken(h, token(t, place.bucket)) {
+            let found = placed_in(t, h, place);
+            let p = found.placing;
+            let Placing::Nowhere = p else {
+                return found;
+            };
+        }
     }
     Found {
         item: Slot {

@@ -1,13 +1,13 @@
 -- Bit s of a token word, as the code sets and clears it, and what a table tells of its four bits.
 -- Assumes nothing.
 use Prim.Native.Nat.{ℕ, zero, suc, _+_, _-_, _*_, _/_, _%_, _^_, _≤_, _<_}
-use mathlib.Core.Path.{_≡_, refl, _∙_}
-use mathlib.Core.Bool.{Bool, true, cond}
+use mathlib.Core.Path.{_≡_, refl, sym, _∙_}
+use mathlib.Core.Bool.{Bool, true, false, not, cond}
 use native.Mathlib.Omega.{arith}
 use lib.Bits.{bitAnd, bitOr}
-use lib.Dec.{eqb}
+use lib.Dec.{eqb, ltb}
 use borrow.Author.Tests.{eqb-true}
-use Rattle.rules.specs.Words.{tokenNumber, isTaken, show, hide}
+use Rattle.rules.specs.Words.{tokenNumber, isTaken, show, hide, lowest, lowestTaken}
 use Rattle.rules.specs.declared.Header.{Header}
 use Rattle.rules.proofs.Words.Tokens.{below, below-all, taken-number, number-tested}
 use Rattle.reading.specs.Tokens.{entryOf}
@@ -48,3 +48,19 @@ module _ (h : Header) (table : ℕ) (tell : (ℕ → Bool) → ℕ) where
   -- a table that tells the right thing of each token number's bits, by a computed test of all sixteen, tells it of every word's
   pub told : below 16 right ≡ true → {r : ℕ} (word : ℕ) → r ≡ entryOf table (tokenNumber word) → r ≡ tell (isTaken h word)
   told test word e = e ∙ eqb-true _ _ (number-tested right test word) ∙ (λ i. tell (λ (s : ℕ). taken-number h word s i))
+
+-- the token number 0 has no taken slot, and no other has none
+alike : Bool → Bool → Bool
+alike a b = cond a b (not b)
+
+alike-same : (a b : Bool) → alike a b ≡ true → a ≡ b
+unfolding alike
+alike-same true b e = sym e
+alike-same false false e = refl
+alike-same false true e = e
+
+pub some-taken : (h : Header) (word : ℕ) → not (eqb (tokenNumber word) 0) ≡ ltb (lowestTaken h word) 4
+unfolding lowestTaken isTaken tokenNumber alike
+some-taken h word =
+    alike-same _ _ (number-tested (λ n. alike (not (eqb n 0)) (ltb (lowest (isTaken h n)) 4)) refl word)
+    ∙ (λ i. ltb (lowest (λ (s : ℕ). taken-number h word s i)) 4)

@@ -2,6 +2,7 @@
 use rules::Header;
 ghost use mathlib.Core.Path.{_≡_};
 ghost use Prim.Native.Nat.{_≤_, _<_};
+ghost use lib.Dec.{ltb};
 ghost use Rattle.rules.specs.Words.{keysOf, tokenNumber, isTaken, show as shown, hide as hidden, takenOf, lowestFree, lowestTaken, meant as meantWord};
 ghost use Rattle.reading.specs.Within.{BucketWithin};
 ghost use Rattle.reading.specs.Tokens.{entryOf};
@@ -72,6 +73,13 @@ pub fn lowest_free(h: Header, word: u64) -> usize
     ensures { λ r. ⌜ (r ≡ lowestFree h word) × (r ≤ 4) ⌝ }
 {
     entry(LOWEST_FREE, word) as usize
+}
+
+// Whether a slot is taken, which one test tells: late in a growth most interim buckets are empty.
+pub fn any_taken(h: Header, word: u64) -> bool
+    ensures { λ r. ⌜ r ≡ ltb (lowestTaken h word) 4 ⌝ }
+{
+    token_number(word) != 0
 }
 
 // The lowest taken slot, or 4 where there is none.

@@ -1,14 +1,13 @@
 -- The lowest of the slots 0 to 3 that passes a test, as a number: 4 where none does.
 -- Assumes nothing.
 use Prim.Native.Nat.{ℕ, _≤_, _<_}
-use mathlib.Core.Path.{_≡_, refl, ap, _∙_, subst}
-use mathlib.Core.Bool.{Bool, true, false}
-use mathlib.Core.List.{_∷_, List·Memᴰ as In}
+use mathlib.Core.Path.{_≡_, refl}
+use mathlib.Core.Bool.{Bool}
 use mathlib.Core.Option.{Option, none, some, Option·getD}
 use native.Mathlib.Omega.{arith}
 use Rattle.rules.specs.Choice.{given, firstOf}
 use Rattle.rules.specs.Words.{slots, lowest}
-use Rattle.rules.proofs.Basics.Lists.{firstOf-some, firstOf-none, given-some, given-none, from-in, in-from, Ascending, ascending-from, ascending-before}
+use Rattle.rules.proofs.Basics.Lists.{firstOf-some, given-some, from-in}
 
 module _ (p : ℕ → Bool) where
   abbrev pub passing : ℕ → Option ℕ
@@ -43,20 +42,3 @@ module _ (p : ℕ → Bool) where
         go : (o : Option ℕ) → firstOf passing slots ≡ o → n ≡ Option·getD o 4 → o ≡ none
         go none f q = refl
         go (some s) f q = absurd (omega (arith, found-below s f, q))
-
-    -- no slot below it passes
-    pub lowest-below : n ≡ lowest p → (s : ℕ) → s < n → (s < 4) × (p s ≡ false)
-    lowest-below e s l = go (firstOf passing slots) refl e
-      where
-        go : (o : Option ℕ) → firstOf passing slots ≡ o → n ≡ Option·getD o 4 → (s < 4) × (p s ≡ false)
-        go none f q =
-            let low : s < 4 = omega (arith, q) in
-            (low, given-none (p s) s (firstOf-none passing slots f s (in-from 0 4 s (omega arith) low)))
-        go (some m) f q =
-            let k = firstOf-some passing slots m f in
-            let found : k .found ≡ m = given-some (p (k .found)) (k .found) m (k .gives) .1 in
-            let low : s < 4 = omega (arith, from-in 0 4 (k .found) (k .inside), found, q) in
-            let order = subst (Ascending _<_) (k .split) (ascending-from 0 4) in
-            let earlier = ascending-before _<_ (λ a b c d. omega arith) (k .earlier) (k .found) (k .later) order s
-            (subst (In s) (k .split) (in-from 0 4 s (omega arith) low)) (omega (arith, found, q)) in
-            (low, given-none (p s) s (k .before s earlier))

@@ -9,7 +9,7 @@ use Rattle.rules.specs.Words.{slotAt, placeAt}
 use Rattle.rules.proofs.Words.Headers.{header-state}
 use Rattle.reading.specs.Within.{BucketWithin}
 use Rattle.growing.specs.Interim.{itemOf}
-use Rattle.growing.proofs.Searches.{few-buckets, bucket-within, foundFrom, found-hit, found-pass, found-over, itemAt, items-from, item-here, item-none}
+use Rattle.growing.proofs.Searches.{few-buckets, bucket-within, foundFrom, found-hit, found-pass, found-over, itemAt, items-from, item-here, item-low, item-none}
 use Rattle.growing.proofs.interim.first_item.Statement.{statement}
 use Rattle.growing.proofs.interim.first_item.Tie as tie
 
@@ -48,19 +48,27 @@ add-j c =
 token-requires : tie.Need-token-requires Inv-loop μ-loop
 token-requires c κs = within c
 
+any-taken-requires : tie.Need-any-taken-requires Inv-loop μ-loop
+any-taken-requires c κs = search needs
+
 lowest-taken-requires : tie.Need-lowest-taken-requires Inv-loop μ-loop
 lowest-taken-requires c κs = search needs
 
 returns : tie.Need-returns Inv-loop μ-loop
 unfolding slotAt placeAt
 returns c =
-    let d = c .before .before .before in
+    let e = c .before .before in
+    let w = e .before .token .ensures in
+    let v = e .any-taken .ensures in
+    let some = c .before .if1 .taken in
+    let z = c .lowest-taken .ensures in
+    let d = e .before .before in
     let p = d .before .before in
     let s = p .before .before .before in (
       sym (ap itemOf (items-from _ _ _ (s .pre .1) ∙ d .before .loop .inv
           ∙ found-hit _ _ _ _ (p .before .interim .ensures .0) (p .power .ensures .0) (d .loop-test .taken)
-          (item-here _ _ _ (c .before .before .token .ensures) (c .before .lowest-taken .ensures) (p .before .interim .ensures .0) (c .if1 .taken)))),
-      (within d, c .if1 .taken),
+          (item-here _ _ _ w v (p .before .interim .ensures .0) some z))),
+      (within d, item-low _ _ _ w v some z),
     )
 
 add-i : tie.Need-add-i Inv-loop μ-loop
@@ -74,7 +82,7 @@ loop-again c =
     let d = c .before .before .before in
     let p = d .before .before in
     d .before .loop .inv ∙ found-pass _ _ _ _ (p .before .interim .ensures .0) (p .power .ensures .0) (d .loop-test .taken)
-    (item-none _ _ _ (c .before .before .token .ensures) (c .before .lowest-taken .ensures) (c .if1 .left))
+    (item-none _ _ _ (c .before .before .token .ensures) (c .before .any-taken .ensures) (c .if1 .left))
 
 returns-2 : tie.Need-returns-2 Inv-loop μ-loop
 returns-2 c =
@@ -96,6 +104,7 @@ first-item-spec =
     sub-j
     add-j
     token-requires
+    any-taken-requires
     lowest-taken-requires
     returns
     add-i

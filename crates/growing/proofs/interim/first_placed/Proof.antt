@@ -1,15 +1,18 @@
 -- `growing::interim::first_placed` meets its contract: the item that the step takes is the first that has a place from bucket i on.
 -- Assumes nothing.
 use borrow.Author.Needs.{needs}
-use Prim.Native.Nat.{_-_}
+use Prim.Native.Nat.{_+_, _-_}
 use mathlib.Core.Path.{_≡_, refl, _∙_}
+use mathlib.Core.Logic.{⊎-elim}
+use denote.Ref.{now}
 use native.Mathlib.Omega.{arith}
 use Rattle.rules.specs.Words.{placeAt}
 use Rattle.rules.specs.Calls.{stepItem}
 use Rattle.rules.proofs.Words.Headers.{header-state}
+use Rattle.reading.specs.Within.{BucketWithin}
 use Rattle.growing.specs.Interim.{placeable}
 use Rattle.growing.proofs.Searches.{few-buckets, bucket-within, is-nowhere, is-somewhere, none-placed, foundFrom, found-over, bucket-stuck}
-use Rattle.growing.proofs.Searches.{bucket-placed, placeable-all}
+use Rattle.growing.proofs.Searches.{bucket-placed, bucket-empty, item-none, placeable-all}
 use Rattle.growing.proofs.interim.first_placed.Statement.{statement}
 use Rattle.growing.proofs.interim.first_placed.Tie as tie
 
@@ -37,11 +40,25 @@ add-t12 c =
     let l = few-buckets _ _ (p .power .ensures .0) (p .before .interim .ensures .1) in
     omega arith
 
-placed-in-requires : tie.Need-placed-in-requires Inv-loop μ-loop
-placed-in-requires c κs =
+-- its buckets lie in the table
+within : (c : tie.In-loop Inv-loop μ-loop) →
+    let p = c .before .before in BucketWithin (now (p .before .before .before .args .t)) (p .power .result - 1 + c .before .loop .i)
+within c =
     let p = c .before .before in
     let s = p .before .before .before in
-    (s .pre .0, bucket-within _ _ (s .pre .0 .good) (s .pre .1) (p .before .interim .ensures .0) (p .power .ensures .0) (c .loop-test .taken))
+    bucket-within _ _ (s .pre .0 .good) (s .pre .1) (p .before .interim .ensures .0) (p .power .ensures .0) (c .loop-test .taken)
+
+token-requires : tie.Need-token-requires Inv-loop μ-loop
+token-requires c κs = within c
+
+any-taken-requires : tie.Need-any-taken-requires Inv-loop μ-loop
+any-taken-requires c κs = search needs
+
+placed-in-requires : tie.Need-placed-in-requires Inv-loop μ-loop
+placed-in-requires c κs =
+    let d = c .before .before .before in
+    let p = d .before .before in
+    (p .before .before .before .pre .0, within d)
 
 enum-told : tie.Need-enum-told Inv-loop μ-loop
 enum-told c = search needs
@@ -50,7 +67,7 @@ returns : tie.Need-returns Inv-loop μ-loop
 unfolding placeAt
 returns c =
     let f = c .before in
-    let d = f .before in
+    let d = f .before .before .before .before in
     let p = d .before .before in
     bucket-placed _ _ _ _ (p .before .interim .ensures .0) (p .power .ensures .0) (d .loop-test .taken) _ refl (f .placed-in .result)
     (f .placed-in .ensures) (is-somewhere (f .placed-in .result .placing) (c .match .keys2)) (d .before .loop .inv)
@@ -64,11 +81,14 @@ loop-less c = omega arith
 loop-again : tie.Need-loop-again Inv-loop μ-loop
 unfolding placeAt
 loop-again c =
-    let f = c .before .before in
-    let d = f .before in
+    let d = c .before .before .before in
     let p = d .before .before in
-    d .before .loop .inv ∙ bucket-stuck _ _ _ _ (p .before .interim .ensures .0) (p .power .ensures .0) (d .loop-test .taken) _ refl (f .placed-in .result)
-    (f .placed-in .ensures) (is-nowhere (f .placed-in .result .placing) (c .before .match .keys1))
+    let l = p .before .interim .ensures .0 in
+    let m = p .power .ensures .0 in
+    d .before .loop .inv ∙ ⊎-elim
+    (λ u. bucket-stuck _ _ _ _ l m (d .loop-test .taken) _ refl (u .1 .result) (u .1 .ensures) (is-nowhere (u .1 .result .placing) (u .2 .keys1)))
+    (λ u. bucket-empty _ _ _ _ l m (d .loop-test .taken) (item-none _ _ _ (c .before .before .token .ensures) (c .before .any-taken .ensures) (u .left)))
+    (c .if1 .came)
 
 returns-2 : tie.Need-returns-2 Inv-loop μ-loop
 returns-2 c =
@@ -86,6 +106,8 @@ first-placed-spec =
     loop-holds
     sub-t11
     add-t12
+    token-requires
+    any-taken-requires
     placed-in-requires
     enum-told
     returns

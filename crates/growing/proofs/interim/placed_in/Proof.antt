@@ -7,10 +7,10 @@ use mathlib.Core.Logic.{⊎-elim}
 use native.Mathlib.Omega.{arith}
 use Rattle.rules.specs.Words.{slotAt, slotsIn}
 use Rattle.rules.proofs.Basics.Walks.{slots-end}
-use Rattle.rules.proofs.Basics.Along.{along, along-over}
+use Rattle.rules.proofs.Basics.Along.{along, along-all, along-over}
 use Rattle.rules.proofs.Calls.Meanings.{placing-told-by}
 use Rattle.growing.specs.Interim.{placeable, placeableIn}
-use Rattle.growing.proofs.Searches.{is-nowhere, is-somewhere, none-placed, slot-free, slot-stuck, slot-placed, slots-skipped}
+use Rattle.growing.proofs.Searches.{is-nowhere, is-somewhere, none-placed, slot-free, slot-stuck, slot-placed}
 use Rattle.growing.proofs.interim.placed_in.Statement.{statement}
 use Rattle.growing.proofs.interim.placed_in.Tie as tie
 
@@ -23,11 +23,9 @@ abbrev μ-loop : tie.MeasureT-loop
 token-requires : tie.Need-token-requires Inv-loop μ-loop
 token-requires c κs = search needs
 
-lowest-taken-requires : tie.Need-lowest-taken-requires Inv-loop μ-loop
-lowest-taken-requires c κs = search needs
-
 loop-holds : tie.Need-loop-holds Inv-loop μ-loop
-loop-holds c = slots-skipped _ _ _ (c .before .token .ensures) (c .lowest-taken .ensures)
+unfolding placeableIn
+loop-holds c = along-all _ _
 
 is-taken-requires : tie.Need-is-taken-requires Inv-loop μ-loop
 is-taken-requires c κs = search needs
@@ -39,7 +37,7 @@ hashes-requires : tie.Need-hashes-requires Inv-loop μ-loop
 hashes-requires c κs = search needs
 
 interim-placing-requires : tie.Need-interim-placing-requires Inv-loop μ-loop
-interim-placing-requires c κs = (c .before .before .before .before .before .before .before .before .before .pre .0, c .hashes .ensures)
+interim-placing-requires c κs = (c .before .before .before .before .before .before .before .before .pre .0, c .hashes .ensures)
 
 enum-told : tie.Need-enum-told Inv-loop μ-loop
 enum-told c = search needs
@@ -51,7 +49,7 @@ returns c =
     let k = f .before .before in
     let n = k .before in
     let d = n .before .before in
-    let w = d .before .before .before in
+    let w = d .before .before in
     slot-placed _ _ _ _ (d .loop-test .taken) (w .token .ensures) (n .before .is-taken .ensures) (n .if1 .taken) (k .key-at .ensures)
     (f .interim-placing .result) (placing-told-by (f .interim-placing .ensures .0)) (is-somewhere (f .interim-placing .result) (c .match .keys2))
     (w .before .before .pre .1, d .loop-test .taken) (f .interim-placing .ensures .1) (d .before .loop .inv)
@@ -66,7 +64,7 @@ loop-again : tie.Need-loop-again Inv-loop μ-loop
 unfolding slotAt
 loop-again c =
     let d = c .before .before in
-    let w = d .before .before .before in
+    let w = d .before .before in
     let i = c .before .is-taken .ensures in
     d .before .loop .inv ∙ ⊎-elim
     (λ u. slot-stuck _ _ _ _ (d .loop-test .taken) (w .token .ensures) i (u .0 .taken) (u .1 .ensures) (u .3 .result) (placing-told-by (u .3 .ensures .0))
@@ -83,7 +81,6 @@ placed-in-spec =
     Inv-loop
     μ-loop
     token-requires
-    lowest-taken-requires
     loop-holds
     is-taken-requires
     key-at-requires
