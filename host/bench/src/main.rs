@@ -14,6 +14,7 @@ mod chart;
 mod clock;
 mod growth;
 mod instructions;
+mod limits;
 mod operations;
 mod peers;
 mod plan;

@@ -11,14 +11,14 @@ use ragansils_twin::TWIN_COMPILER;
 
 use crate::chains::{self, Chains, CHAIN, QUERIES};
 use crate::instructions;
+use crate::limits::{Limit, INSERT_TO_TWIN, TARGET_CAPACITIES};
 use crate::operations::Operation;
 use crate::peers::{LIBRARY, LISTING_TWIN, TWIN};
 use crate::rounds::Measured;
 use crate::run::Results;
 
 /// What the library may take, as a multiple of the twin's time, at these capacities.
-const TARGETS: [(&str, f64); 3] = [("query", 1.10), ("insert", 1.30), ("recovery", 1.20)];
-const TARGET_CAPACITIES: [u64; 2] = [14, 18];
+const TARGETS: [(&str, f64); 3] = [("query", 1.10), ("insert", INSERT_TO_TWIN), ("recovery", 1.20)];
 /// A ratio above this is called slower.
 const SLOWER: f64 = 1.05;
 
@@ -159,6 +159,18 @@ pub fn targets(results: &Results) -> String {
     });
     let title = "### Targets, at c = 14 and c = 18";
     table(title, &heads(&["operation", "at most", "", "measurements within", "worst"]), rows)
+}
+
+fn limit_table(title: &str, limits: Vec<Limit>) -> String {
+    let rows = limits.into_iter().map(|limit| {
+        let (verdict, measured) = match limit.measured {
+            number if number.is_nan() => ("not measured", String::new()),
+            _ if limit.is_met() => ("met", format!("**{}**", limit.measured_text())),
+            _ => ("missed", format!("**{}**", limit.measured_text())),
+        };
+        vec![limit.what, limit.bound.to_string(), verdict.to_string(), measured, limit.of]
+    });
+    table(title, &heads(&["", "limit", "", "measured", "where"]), rows)
 }
 
 fn list_table(results: &Results) -> String {

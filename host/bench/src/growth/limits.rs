@@ -1,5 +1,6 @@
 //! What a whole growth may cost, and whether it costs more.
 
+use crate::limits::{self, Bound, Limit};
 use crate::peers::{CUCKOO, LIBRARY, TWIN};
 use crate::rounds::Measured;
 
@@ -13,22 +14,6 @@ const MOST_TO_TWIN: f64 = 1.3;
 /// A growth from 2N top buckets takes less than so many times one from N, from N = 2^k on with this k.
 const MOST_FACTOR: f64 = 2.6;
 const LEAST_K: u64 = 10;
-
-/// A limit, and what was measured beside it; no number where nothing was.
-pub struct Limit {
-    pub what: String,
-    pub most: f64,
-    pub measured: f64,
-    /// For which table.
-    pub of: String,
-}
-
-impl Limit {
-    /// What is no number is not within a limit.
-    pub fn is_met(&self) -> bool {
-        self.measured <= self.most
-    }
-}
 
 /// By how much a growth of the library takes longer than one from half as many top buckets: k, and the factor.
 pub fn factors(times: &[Measured]) -> Vec<(u64, f64)> {
@@ -51,18 +36,7 @@ impl Growths {
 
     /// Says where a growth costs more than it may.
     pub fn check(&self) -> Result<(), String> {
-        let missed: Vec<String> = self
-            .limits()
-            .into_iter()
-            .filter(|limit| !limit.is_met())
-            .map(|limit| {
-                format!("{}, {}: {:.2}, at most {}", limit.what, limit.of, limit.measured, limit.most)
-            })
-            .collect();
-        match missed.is_empty() {
-            true => Ok(()),
-            false => Err(format!("a growth costs more than it may: {}", missed.join("; "))),
-        }
+        limits::check("a growth", &self.limits())
     }
 
     fn beside(&self, peer: &str, name: &str, most: f64) -> Limit {
@@ -70,7 +44,7 @@ impl Growths {
         let ratio = largest.and_then(|measured| measured.ratio_to(peer));
         Limit {
             what: format!("time as a multiple of {name}"),
-            most,
+            bound: Bound::AtMost(most),
             measured: ratio.map_or(f64::NAN, |middle| middle.median),
             of: format!("to c = {LIMITED_C}"),
         }
@@ -82,7 +56,7 @@ impl Growths {
         let worst = all.max_by(|a, b| a.1.total_cmp(&b.1));
         Limit {
             what: format!("time from 2N top buckets as a multiple of that from N, N = 2^{LEAST_K} and more"),
-            most: MOST_FACTOR,
+            bound: Bound::AtMost(MOST_FACTOR),
             measured: worst.map_or(f64::NAN, |(_, factor)| factor),
             of: worst.map_or(String::new(), |(k, _)| format!("worst from 2^{} to 2^{k}", k - 1)),
         }
@@ -114,13 +88,13 @@ mod tests {
     fn each_limit_is_told_where_it_is_missed() {
         let slow = growths([50.0, 100.0, 131.0]).check().unwrap_err();
         assert!(
-            slow.contains("of the twin's growth by the same driver, to c = 20: 1.31, at most 1.3"),
+            slow.contains("of the twin's growth by the same driver, to c = 20: 1.310, at most 1.3"),
             "{slow}"
         );
         assert!(!slow.contains("libcuckoo"), "{slow}");
         assert!(growths([50.0, 100.0, 151.0]).check().unwrap_err().contains("libcuckoo"));
         let steep = growths([50.0, 131.0, 100.0]).check().unwrap_err();
-        assert!(steep.contains("worst from 2^10 to 2^11: 2.62, at most 2.6"), "{steep}");
+        assert!(steep.contains("worst from 2^10 to 2^11: 2.620, at most 2.6"), "{steep}");
     }
 
     #[test]

@@ -6,27 +6,15 @@ use crate::growth::{factors, Growths, FROM_FIRST};
 use crate::peers::{CUCKOO, LIBRARY, TWIN};
 use crate::rounds::Measured;
 
-use super::{bounds, intro, others, ratio, three_digits, time};
+use super::{bounds, intro, limit_table, others, ratio, three_digits, time};
 
 /// Milliseconds.
 const UNIT: f64 = 1e6;
 
 /// The section of whole growths.
 pub fn growths(growths: &Growths, seed: u64) -> String {
-    [intro(seed), limit_table(growths), time_table(growths), peer_table(growths), instruction_table(growths)]
-        .join("\n")
-}
-
-fn limit_table(growths: &Growths) -> String {
-    let rows = growths.limits().into_iter().map(|limit| {
-        let (verdict, measured) = match limit.measured {
-            number if number.is_nan() => ("not measured", String::new()),
-            number if limit.is_met() => ("met", format!("**{number:.2}**")),
-            number => ("missed", format!("**{number:.2}**")),
-        };
-        vec![limit.what, format!("{:.1}", limit.most), verdict.to_string(), measured, limit.of]
-    });
-    table("### Limits of a growth", &heads(&["", "at most", "", "measured", "where"]), rows)
+    let limits = limit_table("### Limits of a growth", growths.limits());
+    [intro(seed), limits, time_table(growths), peer_table(growths), instruction_table(growths)].join("\n")
 }
 
 /// The library beside the twin, and beside itself: at half the size, and in the old way.
