@@ -9,7 +9,7 @@ use ragansils_model::SUCCESS;
 use ragansils_twin::{Proved, Side};
 
 use crate::clock::timed;
-use crate::instructions::{count_run, counted_calls, Count, SEED};
+use crate::instructions::{count_run, counted_calls, this_program, Count, SEED};
 use crate::rounds::{Measured, Rounds};
 
 /// The depths of a usual chain, and of a long one.
@@ -42,10 +42,11 @@ pub fn about() -> String {
 
 /// Drawn from the seed alone, so that the tables are the same without the rest of a run. Callgrind's files go to a folder.
 pub fn measure(seed: u64, folder: &Path) -> Result<Vec<Chains>, String> {
+    let program = this_program()?;
     let mut random = Random::new(seed);
     let one = |depths: u64| {
         let times = Frames::new(&mut random, depths)?.times()?;
-        let count = |way| count_run(&["counted-frames", way, &depths.to_string()], folder);
+        let count = |way| count_run(&program, &["counted-frames", way, &depths.to_string()], folder);
         Ok(Chains { depths, times, instructions: [count(CHAIN)?, count(QUERIES)?] })
     };
     DEPTHS.into_iter().map(one).collect()
@@ -112,11 +113,12 @@ impl Frames {
                 let (_, look_up) = WAYS[at];
                 let warmed = look_up(self);
                 let (time, answers) = timed(|| look_up(self));
-                ([time / self.sampled.len() as f64], answers.wrapping_add(warmed))
+                Ok(([time / self.sampled.len() as f64], answers.wrapping_add(warmed)))
             })?;
         }
         let operation = format!("chain of {} depths, {}", self.depths, about());
-        Ok(all.finish(C, [operation]).remove(0))
+        let [times] = all.finish(C, [operation]);
+        Ok(times)
     }
 
     fn by_chains(&self) -> u64 {

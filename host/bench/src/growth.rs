@@ -13,7 +13,7 @@ use ragansils_counts::{full_size, items_at, last_growth, Keys, Kind, LevelTable}
 use ragansils_twin::Proved;
 
 use crate::clock::timed;
-use crate::instructions::{count_run, counted_calls, Count, SEED};
+use crate::instructions::{count_run, counted_calls, this_program, Count, SEED};
 use crate::peers::{self, Peer, LIBRARY, TWIN};
 use crate::plan::Plan;
 use crate::rounds::{Measured, Rounds};
@@ -43,7 +43,8 @@ pub struct Growths {
 /// which part comes next.
 pub fn measure(plan: &Plan, seed: u64, folder: &Path, say: impl Fn(&str)) -> Result<Growths, String> {
     say("growth, instructions");
-    let count = |side, c: u64| count_run(&["counted-growth", side, &c.to_string()], folder);
+    let program = this_program()?;
+    let count = |side, c: u64| count_run(&program, &["counted-growth", side, &c.to_string()], folder);
     let both = |c| Ok((c, [count(LIBRARY, c)?, count(TWIN, c)?]));
     let instructions = COUNTED.into_iter().map(both).collect::<Result<_, String>>()?;
     let mut random = Random::new(seed);
@@ -135,43 +136,41 @@ impl Growing {
                 let mut sum = 0.0;
                 let mut ended = 0;
                 for _ in 0..repeats {
-                    let (time, has_ended) = self.grow(at);
+                    let (time, has_ended) = self.grow(at)?;
                     sum += time;
                     ended += u64::from(has_ended);
                 }
-                ([sum / repeats as f64], ended)
+                Ok(([sum / repeats as f64], ended))
             })?;
         }
-        Ok(all.finish(self.c, [format!("one whole growth, load {HIGH_LOAD}")]).remove(0))
+        let [times] = all.finish(self.c, [format!("one whole growth, load {HIGH_LOAD}")]);
+        Ok(times)
     }
 
     /// Nanoseconds of one growth, and whether it came to its end. What has grown is brought back.
-    fn grow(&mut self, at: usize) -> (f64, bool) {
+    fn grow(&mut self, at: usize) -> Result<(f64, bool), String> {
         match self.drivers.get(at) {
             Some(&(_, driver)) => self.drive(driver),
             None => {
                 let peer = &mut self.others[at - self.drivers.len()];
                 let grown = timed(|| peer.grow());
                 peer.after_growth();
-                grown
+                Ok(grown)
             }
         }
     }
 
-    fn drive(&mut self, driver: Driver) -> (f64, bool) {
-        let grown = match self.level.lend() {
-            Ok(table) => driver(table),
-            Err(_) => return (f64::NAN, false),
-        };
+    fn drive(&mut self, driver: Driver) -> Result<(f64, bool), String> {
+        let grown = driver(self.level.lend()?);
         self.level.words = grown.words;
-        (grown.nanoseconds, grown.has_ended)
+        Ok((grown.nanoseconds, grown.has_ended))
     }
 
     /// All drivers leave the same words.
     fn check_words(&mut self) -> Result<(), String> {
         let mut first_words = vec![];
         for (name, driver) in self.drivers.clone() {
-            let (_, has_ended) = self.drive(driver);
+            let (_, has_ended) = self.drive(driver)?;
             if first_words.is_empty() {
                 first_words.clone_from(&self.level.words);
             }

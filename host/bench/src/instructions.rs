@@ -1,7 +1,7 @@
 //! Instructions and mispredicted branches of a call, counted by callgrind: they are the same on every run, where times are not.
 //! The program runs itself under valgrind, one operation of one side at a time.
 
-use std::path::Path;
+use std::path::{Path, PathBuf};
 use std::process::Command;
 
 use ragansils_compare::random::Random;
@@ -9,7 +9,7 @@ use ragansils_counts::{full_size, items_at, Keys, Kind};
 use ragansils_model::table_words;
 
 use crate::operations::{split_by_update, Filled, Operation};
-use crate::peers::{two_sides, Peer, LIBRARY, TWIN};
+use crate::peers::{one_side, Peer, LIBRARY, TWIN};
 
 /// A table that fits no first-level cache, and that valgrind fills in a second.
 const USUAL_C: u64 = 12;
@@ -38,24 +38,28 @@ pub fn about() -> String {
 
 /// Counts every operation of both sides, and recovery in tables of several capacities. Callgrind's files go to a folder.
 pub fn count_all(folder: &Path) -> Result<Vec<Counted>, String> {
+    let program = this_program()?;
     let calls = Operation::ALL.into_iter().filter(|&operation| operation != Operation::Recovery);
     let recoveries = RECOVERED.into_iter().map(|c| (Operation::Recovery, c));
     let all = calls.map(|operation| (operation, USUAL_C)).chain(recoveries);
     all.map(|(operation, c)| {
-        let count = |side| count(operation, side, c, folder);
+        let count = |side| count(&program, operation, side, c, folder);
         Ok(Counted { c, operation, library: count(LIBRARY)?, twin: count(TWIN)? })
     })
     .collect()
 }
 
-fn count(operation: Operation, side: &str, c: u64, folder: &Path) -> Result<Count, String> {
-    count_run(&["counted", operation.name(), side, &c.to_string()], folder)
+fn count(program: &Path, operation: Operation, side: &str, c: u64, folder: &Path) -> Result<Count, String> {
+    count_run(program, &["counted", operation.name(), side, &c.to_string()], folder)
 }
 
-/// What one call costs in a run of this program with these arguments; the run writes how many calls it made.
-pub fn count_run(arguments: &[&str], folder: &Path) -> Result<Count, String> {
+pub fn this_program() -> Result<PathBuf, String> {
+    std::env::current_exe().map_err(|error| format!("no path to this program: {error}"))
+}
+
+/// What one call costs in a run of a build of this program with these arguments; the run writes how many calls it made.
+pub fn count_run(program: &Path, arguments: &[&str], folder: &Path) -> Result<Count, String> {
     let file = folder.join("callgrind.out");
-    let program = std::env::current_exe().map_err(|error| format!("no path to this program: {error}"))?;
     let output = Command::new("valgrind")
         .args(["--tool=callgrind", "--branch-sim=yes", "--toggle-collect=counted_calls"])
         .arg(format!("--callgrind-out-file={}", file.display()))
@@ -116,10 +120,10 @@ pub fn run_counted(name: &str, side: &str, c: u64) -> Result<usize, String> {
     let creation = full_size(&mut random, c);
     let items = items_at(creation, LOAD);
     let keys = Keys::new(&mut random, Kind::Random, items + CALLS / 10, CALLS);
-    let mut filled = Filled { c, peers: two_sides(creation), keys: &keys, items: 0, when: String::new() };
-    filled.peers.retain(|peer| peer.name() == side);
+    let peers = vec![one_side(creation, side)?];
+    let mut filled = Filled { c, peers, keys: &keys, items: 0, when: String::new() };
     filled.fill(items)?;
-    let peer = filled.peers.first_mut().ok_or_else(|| format!("no side {side}"))?;
+    let peer = &mut filled.peers[0];
     let chosen = keys_for(operation, &mut random, &keys, items, peer.words().ok_or("no words")?);
     let mut answers = 0;
     counted_calls(&mut || call_all(operation, peer.as_mut(), &chosen), &mut answers);

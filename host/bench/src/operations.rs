@@ -1,16 +1,23 @@
 //! Queries, inserts, updates and deletes of all peers at a load.
 
+use ragansils::Creation;
 use ragansils_compare::random::Random;
-use ragansils_counts::{draw, record_of, Keys, Kind};
+use ragansils_counts::plan::{HIGH_LOAD, LOADS};
+use ragansils_counts::{draw, full_size, items_at, record_of, slots_of, Keys, Kind};
 use ragansils_model::Event;
 use ragansils_twin::Proved;
 
 use crate::clock::timed;
 use crate::peers::{swap_words, Peer};
+use crate::plan::Plan;
 use crate::rounds::{Measured, Rounds};
 
 /// The stores of an update whose bucket is full.
 const LOGGED_UPDATE_STORES: u64 = 7;
+/// Inserts, and deletes of the same keys, by turns: a share of the slots, small enough that the load stays the same, and
+/// calls enough to be timed.
+const FEW_SHARE: usize = 50;
+const FEW_AT_LEAST: usize = 60;
 
 #[derive(Clone, Copy, PartialEq, Eq)]
 pub enum Operation {
@@ -47,6 +54,33 @@ impl Operation {
             Operation::Recovery => "recovery",
         }
     }
+}
+
+/// How many keys inserts bring in by turns with deletes.
+pub fn few_of(creation: Creation) -> usize {
+    (slots_of(creation) / FEW_SHARE).max(FEW_AT_LEAST)
+}
+
+/// Inserts alone, at each load, by the peers that `peers` makes.
+pub fn inserts(
+    plan: &Plan,
+    random: &mut Random,
+    c: u64,
+    kind: Kind,
+    peers: fn(Creation) -> Vec<Box<dyn Peer>>,
+) -> Result<Vec<Measured>, String> {
+    let creation = full_size(random, c);
+    let (rounds, calls, few) = (plan.rounds_at(c), plan.calls, few_of(creation));
+    let keys = Keys::new(random, kind, items_at(creation, HIGH_LOAD) + 4 * few, 0);
+    let mut filled = Filled { c, peers: peers(creation), keys: &keys, items: 0, when: String::new() };
+    let mut measured = vec![];
+    for load in LOADS {
+        filled.when = format!("load {load}");
+        filled.fill(items_at(creation, load))?;
+        let [inserts, _deletes] = filled.inserts_and_deletes(random, rounds, calls, few)?;
+        measured.push(inserts);
+    }
+    Ok(measured)
 }
 
 /// Peers that hold the first so many keys of a run.
@@ -88,7 +122,7 @@ impl Filled<'_> {
         warming: &[u64],
         operations: [Operation; N],
         mut run: impl FnMut(&mut dyn Peer, usize) -> ([f64; N], u64),
-    ) -> Result<Vec<Measured>, String> {
+    ) -> Result<[Measured; N], String> {
         let mut all = Rounds::<N>::new(&self.peers);
         for number in 0..=rounds {
             all.round(number, &mut self.peers, |peer| {
@@ -107,7 +141,7 @@ impl Filled<'_> {
         random: &mut Random,
         rounds: usize,
         length: usize,
-    ) -> Result<Vec<Measured>, String> {
+    ) -> Result<[Measured; 2], String> {
         let present = self.keys.draw_present(random, self.items, length);
         let absent = self.keys.draw_absent(random, length);
         let both = [Operation::PositiveQuery, Operation::NegativeQuery];
@@ -125,7 +159,7 @@ impl Filled<'_> {
         rounds: usize,
         length: usize,
         few: usize,
-    ) -> Result<Vec<Measured>, String> {
+    ) -> Result<[Measured; 2], String> {
         let warming = self.keys.draw_present(random, self.items, length / 4);
         let batches: Vec<&[u64]> = self.keys.present()[self.items..].chunks_exact(few).collect();
         let repeats = (length / few).max(1);
@@ -149,7 +183,7 @@ impl Filled<'_> {
         random: &mut Random,
         rounds: usize,
         length: usize,
-    ) -> Result<Vec<Measured>, String> {
+    ) -> Result<[Measured; 2], String> {
         let drawn = self.keys.draw_present(random, self.items, length);
         let words = self.peers[0].words().ok_or("the first peer is a level table")?;
         let (full, free) = split_by_update(words, &drawn);

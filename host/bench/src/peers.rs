@@ -85,6 +85,12 @@ pub fn two_sides(creation: Creation) -> Vec<Box<dyn Peer>> {
     ]
 }
 
+/// One of the two, by its name.
+pub fn one_side(creation: Creation, name: &str) -> Result<Box<dyn Peer>, String> {
+    let found = two_sides(creation).into_iter().find(|peer| peer.name() == name);
+    found.ok_or_else(|| format!("no side {name}"))
+}
+
 /// The two sides, and between them a twin with a list.
 pub fn two_sides_and_a_list(creation: Creation) -> Vec<Box<dyn Peer>> {
     let mut peers = two_sides(creation);

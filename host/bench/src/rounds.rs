@@ -21,6 +21,11 @@ impl Series {
     pub fn middle(&self) -> Middle {
         Middle::of(self.rounds.iter().copied())
     }
+
+    /// This time as a multiple of another's, round by round: what slows the machine for a while slows both.
+    pub fn ratio_to(&self, other: &Series) -> Middle {
+        Middle::of(self.rounds.iter().zip(&other.rounds).map(|(ours, theirs)| ours / theirs))
+    }
 }
 
 impl Measured {
@@ -28,10 +33,9 @@ impl Measured {
         self.series.iter().find(|series| series.peer == peer)
     }
 
-    /// One peer's time as a multiple of another's, round by round: what slows the machine for a while slows both.
+    /// One peer's time as a multiple of another's.
     pub fn ratio(&self, one: &str, other: &str) -> Option<Middle> {
-        let (one, other) = (self.of(one)?, self.of(other)?);
-        Some(Middle::of(one.rounds.iter().zip(&other.rounds).map(|(ours, theirs)| ours / theirs)))
+        Some(self.of(one)?.ratio_to(self.of(other)?))
     }
 
     pub fn ratio_to(&self, peer: &str) -> Option<Middle> {
@@ -68,20 +72,20 @@ impl<const N: usize> Rounds<N> {
         peers: &mut [Box<dyn Peer>],
         mut run: impl FnMut(&mut dyn Peer) -> ([f64; N], u64),
     ) -> Result<(), String> {
-        self.turns(number, |at| run(peers[at].as_mut()))
+        self.turns(number, |at| Ok(run(peers[at].as_mut())))
     }
 
     /// One round: each in turn, another one first each time. `run` is told whose turn it is; it gives nanoseconds for one of each
-    /// operation, and a sum of the answers, in which all must agree.
+    /// operation, and a sum of the answers, in which all must agree; or it says what failed.
     pub fn turns(
         &mut self,
         number: usize,
-        mut run: impl FnMut(usize) -> ([f64; N], u64),
+        mut run: impl FnMut(usize) -> Result<([f64; N], u64), String>,
     ) -> Result<(), String> {
         let mut agreed = None;
         for turn in 0..self.names.len() {
             let at = (number + turn) % self.names.len();
-            let (times, answers) = run(at);
+            let (times, answers) = run(at)?;
             if *agreed.get_or_insert(answers) != answers {
                 return Err(format!("{} does not answer as what was measured before it", self.names[at]));
             }
@@ -95,9 +99,13 @@ impl<const N: usize> Rounds<N> {
         Ok(())
     }
 
-    pub fn finish(self, c: u64, operations: [String; N]) -> Vec<Measured> {
-        let pairs = self.series.into_iter().zip(operations);
-        pairs.map(|(series, operation)| Measured { c, operation, series }).collect()
+    pub fn finish(self, c: u64, operations: [String; N]) -> [Measured; N] {
+        let mut series = self.series.into_iter();
+        operations.map(|operation| Measured {
+            c,
+            operation,
+            series: series.next().expect("a series for each operation"),
+        })
     }
 }
 

@@ -6,21 +6,16 @@ use std::time::Instant;
 use ragansils::Creation;
 use ragansils_compare::random::Random;
 use ragansils_counts::plan::{HIGH_LOAD, LOADS};
-use ragansils_counts::{full_size, half_way, items_at, last_growth, slots_of, Counts, Keys, Kind};
+use ragansils_counts::{full_size, half_way, items_at, last_growth, Counts, Keys, Kind};
 
 use crate::chains::{self, Chains};
 use crate::growth::{self, Growths};
 use crate::instructions::{count_all, Counted};
-use crate::operations::Filled;
+use crate::operations::{few_of, inserts, Filled};
 use crate::peers;
 use crate::plan::Plan;
 use crate::recovery::{self, Kinds, SOUND};
 use crate::rounds::Measured;
-
-/// Inserts, and deletes of the same keys, by turns: a share of the slots, small enough that the load stays the same, and
-/// calls enough to be timed.
-const FEW_SHARE: usize = 50;
-const FEW_AT_LEAST: usize = 60;
 
 #[derive(Default)]
 pub struct Results {
@@ -46,10 +41,6 @@ impl Results {
         sorted.sort_by_key(|measured| measured.c);
         sorted
     }
-}
-
-fn few_of(creation: Creation) -> usize {
-    (slots_of(creation) / FEW_SHARE).max(FEW_AT_LEAST)
 }
 
 pub struct Run<'a> {
@@ -114,18 +105,8 @@ impl Run<'_> {
 
     /// What a list costs an insert by itself.
     fn listed_inserts(&mut self, c: u64) -> Result<(), String> {
-        let creation = full_size(&mut self.random, c);
-        let (rounds, calls, few) = (self.plan.rounds_at(c), self.plan.calls, few_of(creation));
-        let keys = Keys::new(&mut self.random, Kind::Random, items_at(creation, HIGH_LOAD) + 4 * few, 0);
-        let peers = peers::two_sides_and_a_list(creation);
-        let mut filled = Filled { c, peers, keys: &keys, items: 0, when: String::new() };
-        for load in LOADS {
-            filled.when = format!("load {load}");
-            filled.fill(items_at(creation, load))?;
-            let mut measured = filled.inserts_and_deletes(&mut self.random, rounds, calls, few)?;
-            measured.truncate(1);
-            self.results.listed_inserts.append(&mut measured);
-        }
+        let measured = inserts(self.plan, &mut self.random, c, Kind::Random, peers::two_sides_and_a_list)?;
+        self.results.listed_inserts.extend(measured);
         Ok(())
     }
 
