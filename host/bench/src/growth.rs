@@ -118,9 +118,8 @@ impl Growing {
         let keys = level.keys.present();
         let mut others = peers::growing(keys.len());
         for peer in &mut others {
-            if peer.insert_all(keys) != keys.len() as u64 {
-                return Err(format!("{} did not take all keys", peer.name()));
-            }
+            let accepted = peer.insert_all(keys);
+            peer.check_accepted(accepted, keys)?;
         }
         Ok(Growing { c, level, drivers, others })
     }

@@ -10,12 +10,14 @@ pub const INSERT_TO_TWIN: f64 = 1.15;
 #[derive(Clone, Copy)]
 pub enum Bound {
     AtMost(f64),
+    Below(f64),
 }
 
 impl Display for Bound {
     fn fmt(&self, formatter: &mut Formatter<'_>) -> std::fmt::Result {
         match self {
             Bound::AtMost(most) => write!(formatter, "at most {most}"),
+            Bound::Below(limit) => write!(formatter, "below {limit}"),
         }
     }
 }
@@ -30,10 +32,19 @@ pub struct Limit {
 }
 
 impl Limit {
+    /// The worst of several measurements, each with what it is of.
+    pub fn of_worst(what: String, bound: Bound, all: impl Iterator<Item = (f64, String)>) -> Limit {
+        let worst = all.max_by(|a, b| a.0.total_cmp(&b.0));
+        let (measured, of) =
+            worst.map_or((f64::NAN, String::new()), |(one, of)| (one, format!("worst {of}")));
+        Limit { what, bound, measured, of }
+    }
+
     /// What is no number is not within a limit.
     pub fn is_met(&self) -> bool {
         match self.bound {
             Bound::AtMost(most) => self.measured <= most,
+            Bound::Below(limit) => self.measured < limit,
         }
     }
 
@@ -66,15 +77,26 @@ mod tests {
 
     #[test]
     fn a_bound_is_met_or_not() {
-        let met = [(Bound::AtMost(2.0), 2.0)];
+        let met = [(Bound::AtMost(2.0), 2.0), (Bound::Below(2.0), 1.999)];
         assert!(met.into_iter().all(|(bound, measured)| limit(bound, measured).is_met()));
-        let missed = [(Bound::AtMost(2.0), 2.001), (Bound::AtMost(2.0), f64::NAN)];
+        let missed = [(Bound::AtMost(2.0), 2.001), (Bound::Below(2.0), 2.0), (Bound::AtMost(2.0), f64::NAN)];
         assert!(missed.into_iter().all(|(bound, measured)| !limit(bound, measured).is_met()));
     }
 
     #[test]
+    fn the_worst_is_held() {
+        let of_worst = |all: &[f64]| {
+            let all = all.iter().map(|&one| (one, format!("in {one}")));
+            Limit::of_worst("time".to_string(), Bound::AtMost(2.0), all)
+        };
+        let worst = of_worst(&[1.0, 3.0, 2.0]);
+        assert_eq!((worst.measured, worst.of.as_str()), (3.0, "worst in 3"));
+        assert!(!of_worst(&[]).is_met());
+    }
+
+    #[test]
     fn what_is_missed_is_told() {
-        let both = [limit(Bound::AtMost(1.02), 1.024), limit(Bound::AtMost(300.0), 299.0)];
+        let both = [limit(Bound::AtMost(1.02), 1.024), limit(Bound::Below(300.0), 299.0)];
         let missed = check("an import", &both).unwrap_err();
         assert_eq!(missed, "an import costs more than it may: time, c = 8: 1.024, at most 1.02");
         assert_eq!(check("an import", &both[1..]), Ok(()));

@@ -3,7 +3,9 @@
 //! From the bottom up:
 //! - `peers`: what is measured;
 //! - `clock`, `rounds`: how it is timed, and what is said of the times;
-//! - `operations`, `recovery`, `growth` with its drivers and limits, `chains`: what is timed; `instructions`: what valgrind counts of it;
+//! - `limits`: what something may cost;
+//! - `operations`, `recovery`, `growth` with its drivers and limits, `import`, `chains`: what is timed; `instructions`: what valgrind
+//!   counts of it;
 //! - `plan`, `run`: how much, and all of it;
 //! - `svg`, `chart`, `plots`, `report`: what is written of it.
 //!
@@ -13,6 +15,7 @@ mod chains;
 mod chart;
 mod clock;
 mod growth;
+mod import;
 mod instructions;
 mod limits;
 mod operations;
@@ -37,7 +40,8 @@ use crate::growth::Growths;
 use crate::run::{Results, Run};
 
 const USAGE: &str =
-    "usage: ragansils-bench quick|full SEED OUT-FOLDER LMDB-FOLDER   or   ragansils-bench chains|growth SEED OUT-FOLDER";
+    "usage: ragansils-bench quick|full SEED OUT-FOLDER LMDB-FOLDER   or   ragansils-bench chains|growth SEED OUT-FOLDER   or   \
+    ragansils-bench import SEED OUT-FOLDER BUILD-WITH-THE-LIBRARY-BEFORE";
 
 fn main() -> ExitCode {
     program::run(command)
@@ -46,7 +50,7 @@ fn main() -> ExitCode {
 fn command(arguments: &[String]) -> Result<(), String> {
     let words: Vec<&str> = arguments.iter().map(String::as_str).collect();
     match words[..] {
-        // These three by the program itself, under valgrind.
+        // These four by the program itself, under valgrind.
         ["counted", operation, side, c] => {
             say!("{}", instructions::run_counted(operation, side, number(c)?)?);
             Ok(())
@@ -59,8 +63,18 @@ fn command(arguments: &[String]) -> Result<(), String> {
             say!("{}", growth::run_counted(side, number(c)?)?);
             Ok(())
         }
+        ["counted-import", side, c] => {
+            say!("{}", import::run_counted(side, number(c)?)?);
+            Ok(())
+        }
+        // By another build, or by the program itself.
+        ["import-round", seed, c] => {
+            say!("{}", import::run_round(number(seed)?, number(c)?)?);
+            Ok(())
+        }
         ["chains", seed, out] => chains_alone(number(seed)?, Path::new(out)),
         ["growth", seed, out] => growth_alone(number(seed)?, Path::new(out)),
+        ["import", seed, out, before] => import_alone(number(seed)?, Path::new(out), Path::new(before)),
         ["quick", seed, out, lmdb] => bench(&plan::QUICK, number(seed)?, Path::new(out), Path::new(lmdb)),
         ["full", seed, out, lmdb] => bench(&plan::FULL, number(seed)?, Path::new(out), Path::new(lmdb)),
         _ => Err(USAGE.to_string()),
@@ -86,6 +100,17 @@ fn growth_alone(seed: u64, out: &Path) -> Result<(), String> {
     write(out, "growth-rounds.txt", &report::rounds_of(growths.times.iter()))?;
     program::say(section);
     growths.check()
+}
+
+/// Writes the section, and then says where an insert or an import costs more than it may.
+fn import_alone(seed: u64, out: &Path, before: &Path) -> Result<(), String> {
+    let begun = Instant::now();
+    let imports = import::measure(&plan::FULL, seed, before, out, |part| note(begun, part))?;
+    let section = report::imports(&imports, seed);
+    write(out, "import.md", &section)?;
+    write(out, "import-rounds.txt", &report::rounds_of(imports.measured()))?;
+    program::say(section);
+    imports.check()
 }
 
 fn write_growths(growths: &Growths, seed: u64, out: &Path) -> Result<String, String> {

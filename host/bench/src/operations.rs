@@ -99,9 +99,7 @@ impl Filled<'_> {
         for peer in &mut self.peers {
             let fresh = &self.keys.present()[self.items..items];
             let accepted = peer.insert_all(fresh);
-            if accepted != fresh.len() as u64 {
-                return Err(format!("{} took {accepted} of {} keys", peer.name(), fresh.len()));
-            }
+            peer.check_accepted(accepted, fresh)?;
         }
         self.items = items;
         Ok(())

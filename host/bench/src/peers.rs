@@ -64,6 +64,14 @@ pub trait Peer {
         sum(keys.iter().map(|&key| self.insert(key, record_of(key)).into()))
     }
 
+    /// Says where not all of some new keys came in.
+    fn check_accepted(&self, accepted: u64, keys: &[u64]) -> Result<(), String> {
+        match accepted == keys.len() as u64 {
+            true => Ok(()),
+            false => Err(format!("{} took {accepted} of {} keys", self.name(), keys.len())),
+        }
+    }
+
     fn update_all(&mut self, keys: &[u64]) -> u64 {
         sum(keys.iter().enumerate().map(|(at, &key)| self.update(key, [at as u64, key]).into()))
     }

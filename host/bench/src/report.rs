@@ -1,8 +1,10 @@
 //! The figures as text, for docs/BENCHMARKS.md.
 
 mod growth;
+mod import;
 
 pub use growth::growths;
+pub use import::imports;
 
 use ragansils_counts::markdown::{heads, table};
 use ragansils_counts::Middle;
@@ -39,7 +41,7 @@ pub fn figures(results: &Results, seed: u64) -> String {
         targets(results),
         list_table(results),
         instruction_table(results),
-        twin_tables(results),
+        twin_tables("Beside the twin", &results.operations),
         peer_tables(results),
         recovery_table(results),
         chain_table(&results.chains),
@@ -232,18 +234,18 @@ fn capacities(all: &[Measured]) -> Vec<u64> {
     found
 }
 
-fn twin_tables(results: &Results) -> String {
+/// The library beside the twin, a table for each capacity.
+fn twin_tables(title: &str, all: &[Measured]) -> String {
     let names = heads(&["operation", "library, ns", "twin, ns", "ratio", "middle half"]);
     let one = |c: u64| {
-        let rows = results.operations.iter().filter(|measured| measured.c == c).filter_map(|measured| {
+        let rows = all.iter().filter(|measured| measured.c == c).filter_map(|measured| {
             let middle = measured.ratio_to_twin()?;
-            let times = [time(measured, LIBRARY, 1.0), time(measured, TWIN, 1.0)];
-            let [library, twin] = times;
+            let [library, twin] = [LIBRARY, TWIN].map(|peer| time(measured, peer, 1.0));
             Some(vec![measured.operation.clone(), library, twin, ratio(middle), bounds(middle)])
         });
-        table(&format!("### Beside the twin, c = {c}"), &names, rows)
+        table(&format!("### {title}, c = {c}"), &names, rows)
     };
-    capacities(&results.operations).into_iter().map(one).collect::<Vec<String>>().join("\n")
+    capacities(all).into_iter().map(one).collect::<Vec<String>>().join("\n")
 }
 
 /// The peers besides library and twin.

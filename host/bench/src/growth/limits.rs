@@ -53,13 +53,11 @@ impl Growths {
     fn worst_factor(&self) -> Limit {
         // The factor at k is that from k - 1 on.
         let all = factors(&self.times).into_iter().filter(|&(k, _)| k > LEAST_K);
-        let worst = all.max_by(|a, b| a.1.total_cmp(&b.1));
-        Limit {
-            what: format!("time from 2N top buckets as a multiple of that from N, N = 2^{LEAST_K} and more"),
-            bound: Bound::AtMost(MOST_FACTOR),
-            measured: worst.map_or(f64::NAN, |(_, factor)| factor),
-            of: worst.map_or(String::new(), |(k, _)| format!("worst from 2^{} to 2^{k}", k - 1)),
-        }
+        Limit::of_worst(
+            format!("time from 2N top buckets as a multiple of that from N, N = 2^{LEAST_K} and more"),
+            Bound::AtMost(MOST_FACTOR),
+            all.map(|(k, factor)| (factor, format!("from 2^{} to 2^{k}", k - 1))),
+        )
     }
 }
 

@@ -1,0 +1,131 @@
+//! An import, which fills a table from nothing, each list made: by the library before a change and by the library after it. This program
+//! is linked with the later one, and another build of it, from the same sources, with the earlier one.
+
+mod limits;
+mod round;
+
+use std::path::{Path, PathBuf};
+
+use ragansils_compare::random::Random;
+use ragansils_counts::plan::HIGH_LOAD;
+use ragansils_counts::{full_size, items_at, Keys, Kind};
+
+use crate::instructions::{count_insert, count_run, counted_calls, this_program, Count, SEED};
+use crate::limits::TARGET_CAPACITIES;
+use crate::operations::inserts;
+use crate::peers::{one_side, two_sides, LIBRARY, TWIN};
+use crate::plan::Plan;
+use crate::rounds::{Measured, Rounds};
+
+pub use round::run_round;
+
+pub const BEFORE: &str = "library before";
+pub const AFTER: &str = "library after";
+
+/// The capacities of the tables that are filled.
+const IMPORTED: [u64; 3] = [8, 14, 18];
+/// The one at which instructions are counted.
+const COUNTED_C: u64 = 8;
+/// More than of other operations, each by processes of its own: where a process finds its memory tells in hundredths.
+const ROUNDS: usize = 41;
+
+/// What was measured of imports, and of the inserts that they are made of.
+pub struct Imports {
+    pub times: Vec<ImportTimes>,
+    /// At each load, by the later library and by the twin.
+    pub inserts: Vec<Measured>,
+    /// Of an insert at the high load, and of one in a whole import.
+    pub insert_counts: BuildCounts,
+    pub import_counts: BuildCounts,
+}
+
+/// Nanoseconds for an insert in a whole import, in both builds.
+pub struct ImportTimes {
+    pub library: Measured,
+    /// It is the same in both builds, so its two times tell how well they can be compared.
+    pub twin: Measured,
+}
+
+impl Imports {
+    /// All that has rounds.
+    pub fn measured(&self) -> impl Iterator<Item = &Measured> {
+        self.times.iter().flat_map(|times| [&times.library, &times.twin]).chain(&self.inserts)
+    }
+}
+
+pub struct BuildCounts {
+    pub before: Count,
+    pub after: Count,
+    pub twin: Count,
+}
+
+pub fn about() -> String {
+    format!("load {HIGH_LOAD}, random keys, {ROUNDS} rounds")
+}
+
+pub fn about_counted() -> String {
+    format!("c = {COUNTED_C}, to load {HIGH_LOAD}")
+}
+
+/// Drawn from the seed alone. `before` is the build with the earlier library; callgrind's files go to a folder; `say` hears which part
+/// comes next.
+pub fn measure(
+    plan: &Plan,
+    seed: u64,
+    before: &Path,
+    folder: &Path,
+    say: impl Fn(&str),
+) -> Result<Imports, String> {
+    let builds = [before.to_path_buf(), this_program()?];
+    say("instructions");
+    let insert_counts = counts(&builds, |program, side| count_insert(program, side, folder))?;
+    let c = COUNTED_C.to_string();
+    let import_counts =
+        counts(&builds, |program, side| count_run(program, &["counted-import", side, &c], folder))?;
+    let mut random = Random::new(seed);
+    let mut times = vec![];
+    for c in IMPORTED {
+        say(&format!("imports, c = {c}"));
+        times.push(times_of(&builds, &mut random, c).map_err(|error| format!("imports, c = {c}: {error}"))?);
+    }
+    let mut beside_the_twin = vec![];
+    for (c, kind) in TARGET_CAPACITIES.into_iter().flat_map(|c| [(c, Kind::Random), (c, Kind::Collector)]) {
+        say(&format!("inserts, c = {c}, {}", kind.name()));
+        beside_the_twin.extend(inserts(plan, &mut random, c, kind, two_sides)?);
+    }
+    Ok(Imports { times, inserts: beside_the_twin, insert_counts, import_counts })
+}
+
+fn counts(
+    [before, after]: &[PathBuf; 2],
+    count: impl Fn(&Path, &str) -> Result<Count, String>,
+) -> Result<BuildCounts, String> {
+    Ok(BuildCounts {
+        before: count(before, LIBRARY)?,
+        after: count(after, LIBRARY)?,
+        twin: count(after, TWIN)?,
+    })
+}
+
+/// Rounds of both builds by turns, with other keys in each round.
+fn times_of(builds: &[PathBuf; 2], random: &mut Random, c: u64) -> Result<ImportTimes, String> {
+    let mut all = Rounds::<2>::named(vec![BEFORE, AFTER]);
+    for number in 0..=ROUNDS {
+        let seed = random.word();
+        all.turns(number, |at| round::round_by(&builds[at], seed, c))?;
+    }
+    let [library, twin] = all.finish(c, [LIBRARY, TWIN].map(|side| format!("import by the {side}")));
+    Ok(ImportTimes { library, twin })
+}
+
+/// Fills one table by one side, under valgrind, and answers how many keys came in.
+pub fn run_counted(side: &str, c: u64) -> Result<usize, String> {
+    let mut random = Random::new(SEED);
+    let creation = full_size(&mut random, c);
+    let keys = Keys::new(&mut random, Kind::Random, items_at(creation, HIGH_LOAD), 0);
+    let mut peer = one_side(creation, side)?;
+    let mut accepted = 0;
+    counted_calls(&mut || peer.insert_all(keys.present()), &mut accepted);
+    peer.check_accepted(accepted, keys.present())?;
+    Ok(keys.present().len())
+}
