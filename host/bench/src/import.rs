@@ -60,7 +60,7 @@ pub struct BuildCounts {
 }
 
 pub fn about() -> String {
-    format!("load {HIGH_LOAD}, random keys, {ROUNDS} rounds")
+    format!("to load {HIGH_LOAD}; random keys, {ROUNDS} rounds")
 }
 
 pub fn about_counted() -> String {

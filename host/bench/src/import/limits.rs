@@ -18,7 +18,7 @@ impl Imports {
 
     /// Says where an insert or an import costs more than it may.
     pub fn check(&self) -> Result<(), String> {
-        limits::check("an insert", &self.limits())
+        limits::check("an insert or an import", &self.limits())
     }
 
     fn insert_to_twin(&self) -> Limit {
@@ -99,7 +99,7 @@ mod tests {
         let missed = |imports: Imports| imports.check().unwrap_err();
         let slow = missed(imports([90.0, 116.0], 299.0, [100.0, 100.0]));
         assert!(slow.contains("worst insert, c = 18: 1.160, at most 1.15"), "{slow}");
-        assert!(!slow.contains("instructions") && !slow.contains("import"), "{slow}");
+        assert!(!slow.contains("instructions") && !slow.contains("of an import"), "{slow}");
         let long = missed(imports([90.0, 90.0], 300.0, [100.0, 100.0]));
         assert!(long.contains("instructions of an insert, c = 12, load 0.8: 300.000, below 300"), "{long}");
         let later = missed(imports([90.0, 90.0], 299.0, [103.0, 100.0]));

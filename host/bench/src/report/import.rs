@@ -46,7 +46,7 @@ fn time_table(imports: &Imports) -> String {
         "middle half",
         "the twin's after / before",
     ];
-    let title = format!("### An import, for an insert\n\nA table filled from nothing; {}.", import::about());
+    let title = format!("### An import, for an insert\n\nA table filled from nothing {}.", import::about());
     table(&title, &heads(&names), rows)
 }
 
