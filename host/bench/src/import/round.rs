@@ -12,8 +12,10 @@ use crate::clock::timed;
 use crate::peers::{swap_words, two_sides, Peer, LIBRARY, TWIN};
 use crate::rounds::Rounds;
 
-/// Keys that a round imports at least, into several small tables: no branch predictor learns them.
+/// Keys that a round imports at least, into many small tables: no branch predictor learns them.
 const KEYS_IN_A_ROUND: usize = 400_000;
+/// Large tables too are several, so that the median leaves out one that the machine slowed.
+const LEAST_TABLES: usize = 3;
 
 /// What a build answers: nanoseconds for an insert, by the library and by the twin, and a sum of the words of all tables.
 #[derive(Debug, PartialEq)]
@@ -63,7 +65,7 @@ pub fn run_round(seed: u64, c: u64) -> Result<Answer, String> {
     let creation = full_size(&mut random, c);
     let items = items_at(creation, HIGH_LOAD);
     // The first table warms up.
-    let tables = 1 + (KEYS_IN_A_ROUND / items).max(1);
+    let tables = 1 + (KEYS_IN_A_ROUND / items).max(LEAST_TABLES);
     let keys = Keys::new(&mut random, Kind::Random, tables * items, 0);
     let mut peers = two_sides(creation);
     let empty = peers[0].words().ok_or("the library's table has words")?.clone();
