@@ -22,11 +22,12 @@ pub use round::run_round;
 pub const BEFORE: &str = "library before";
 pub const AFTER: &str = "library after";
 
-/// The capacities of the tables that are filled.
-const IMPORTED: [u64; 3] = [8, 14, 18];
+/// The capacities of the tables that are filled, and how many rounds each has by turns with the others. Small tables take little time, and
+/// at c = 14, where a table just fits a cache, it tells most where a process finds its memory.
+const IMPORTED: [(u64, usize); 3] = [(8, 5), (14, 5), (18, 1)];
 /// The one at which instructions are counted.
 const COUNTED_C: u64 = 8;
-/// More than of other operations, each by processes of its own: where a process finds its memory tells in hundredths.
+/// The rounds of the largest table.
 const ROUNDS: usize = 31;
 
 /// What was measured of imports, and of the inserts that they are made of.
@@ -60,7 +61,7 @@ pub struct BuildCounts {
 }
 
 pub fn about() -> String {
-    format!("to load {HIGH_LOAD}; random keys, {ROUNDS} rounds")
+    format!("to load {HIGH_LOAD}; random keys")
 }
 
 pub fn about_counted() -> String {
@@ -85,11 +86,8 @@ pub fn measure(
     let mut random = Random::new(seed);
     say("inserts");
     let inserts = inserts_beside_the_twin(plan, &mut random)?;
-    let mut times = vec![];
-    for c in IMPORTED {
-        say(&format!("imports, c = {c}"));
-        times.push(times_of(&builds, &mut random, c).map_err(|error| format!("imports, c = {c}: {error}"))?);
-    }
+    say("imports");
+    let times = import_times(&builds, &mut random)?;
     Ok(Imports { times, inserts, insert_counts, import_counts })
 }
 
@@ -114,15 +112,24 @@ fn counts(
     })
 }
 
-/// Rounds of both builds by turns, with other keys in each round.
-fn times_of(builds: &[PathBuf; 2], random: &mut Random, c: u64) -> Result<ImportTimes, String> {
-    let mut all = Rounds::<2>::named(vec![BEFORE, AFTER]);
-    for number in 0..=ROUNDS {
-        let seed = random.word();
-        all.turns(number, |at| round::round_by(&builds[at], seed, c))?;
+/// Rounds of both builds by turns, with other keys in each round. The capacities come by turns too: what slows the machine for some
+/// seconds would slow all rounds of a small table.
+fn import_times(builds: &[PathBuf; 2], random: &mut Random) -> Result<Vec<ImportTimes>, String> {
+    let mut all = IMPORTED.map(|(c, share)| (c, share, Rounds::<2>::named(vec![BEFORE, AFTER])));
+    for turn in 0..=ROUNDS {
+        for (c, share, rounds) in &mut all {
+            for number in turn * *share..(turn + 1) * *share {
+                let seed = random.word();
+                let round = rounds.turns(number, |at| round::round_by(&builds[at], seed, *c));
+                round.map_err(|error| format!("imports, c = {c}: {error}"))?;
+            }
+        }
     }
-    let [library, twin] = all.finish(c, [LIBRARY, TWIN].map(|side| format!("import by the {side}")));
-    Ok(ImportTimes { library, twin })
+    let finish = |(c, _, rounds): (u64, usize, Rounds<2>)| {
+        let [library, twin] = rounds.finish(c, [LIBRARY, TWIN].map(|side| format!("import by the {side}")));
+        ImportTimes { library, twin }
+    };
+    Ok(all.into_iter().map(finish).collect())
 }
 
 /// Fills one table by one side, under valgrind, and answers how many keys came in.

@@ -25,6 +25,7 @@ fn time_table(imports: &Imports) -> String {
         let to_twin = library.of(AFTER)?.ratio_to(twin.of(AFTER)?);
         Some(vec![
             library.c.to_string(),
+            library.of(AFTER)?.rounds.len().to_string(),
             time(library, BEFORE, 1.0),
             time(library, AFTER, 1.0),
             ratio(to_before),
@@ -37,6 +38,7 @@ fn time_table(imports: &Imports) -> String {
     });
     let names = [
         "c",
+        "rounds",
         "before, ns",
         "after, ns",
         "after / before",
