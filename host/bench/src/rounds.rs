@@ -127,6 +127,15 @@ mod tests {
     }
 
     #[test]
+    fn those_that_disagree_or_fail_are_told() {
+        let mut rounds = Rounds::<1>::named(vec!["one", "other"]);
+        assert_eq!(rounds.turns(0, |_| Ok(([1.0], 7))), Ok(()));
+        let told = rounds.turns(1, |at| Ok(([1.0], at as u64)));
+        assert_eq!(told, Err("one does not answer as what was measured before it".to_string()));
+        assert_eq!(rounds.turns(2, |_| Err("no memory".to_string())), Err("no memory".to_string()));
+    }
+
+    #[test]
     fn no_ratio_without_a_twin() {
         assert!(measured(&[1.0], &[1.0]).ratio_to("another").is_none());
     }
