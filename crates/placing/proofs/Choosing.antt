@@ -2,11 +2,13 @@
 -- Assumes nothing.
 use Prim.Native.Nat.{ℕ, _≤_, _<_}
 use mathlib.Core.Path.{_≡_, refl, sym, ap, _∙_}
-use mathlib.Core.Bool.{Bool, true, false, not, cond}
+use mathlib.Core.Bool.{Bool, true, false, not, cond, _&&_}
 use mathlib.Core.List.{List, [], _∷_}
+use mathlib.Core.Logic.{Iff·rfl}
 use mathlib.Core.Option.{Option, none, some, Option·map, Option·getD}
 use native.Mathlib.Omega.{arith}
-use borrow.Author.Tests.{lt-ltb, le-ltb}
+use borrow.Author.Tests.{eqb-true, lt-ltb, le-ltb}
+use lib.Dec.{eqb}
 use lib.ListN.{length}
 use Rattle.rules.specs.Choice.{given, orElse, firstOf}
 use Rattle.rules.specs.Words.{Table, slotAt, slotsIn, tokenOf, isTaken, slots, takenOf, lowestFree, taken}
@@ -18,6 +20,7 @@ use Rattle.rules.specs.declared.Hashes.{Hashes}
 use Rattle.rules.specs.declared.Place.{Place}
 use Rattle.rules.specs.declared.Slot.{Slot}
 use Rattle.rules.specs.declared.Placing.the-variants.{Free}
+use Rattle.rules.proofs.Basics.Tests.{tells-and}
 use Rattle.rules.proofs.Basics.Lists.{firstOf-map, firstOf-given}
 use Rattle.reading.specs.Levels.{placeIn}
 use Rattle.rules.proofs.Basics.Lowest.{lowest-some, lowest-none}
@@ -104,7 +107,24 @@ module _ (t : Table) (h : Header) (f s : Place) {v w m n : ℕ} (a : v ≡ token
   unfolding emptier fewer
   first-emptier g = rw (counted s c d, counted f a b, le-ltb _ _ g)
 
-pub room-chosen : (t : Table) (h : Header) (x : Hashes) (l : Level) {f s r : Place} → f ≡ placeIn l (x .first) → s ≡ placeIn l (x .second)
-    → r ≡ emptier t h f s → freeSlot t h r ≡ roomIn t h x l
-unfolding roomIn firstPlace secondPlace
-room-chosen t h x l p q e = rw (e, p, q)
+-- a full place, by its token word
+full-none : (t : Table) (h : Header) (p : Place) {w : ℕ} → w ≡ tokenOf t (p .bucket) → eqb (lowestFree h w) 4 ≡ true → freeSlot t h p ≡ none
+full-none t h p {w} e k = rw (free-in t h p, ← e, no-free h w refl (eqb-true _ _ k))
+
+module _ (t : Table) (h : Header) (x : Hashes) (l : Level) {f s : Place} (p : f ≡ placeIn l (x .first)) (q : s ≡ placeIn l (x .second)) where
+  pub room-chosen : {r : Place} → r ≡ emptier t h f s → freeSlot t h r ≡ roomIn t h x l
+  unfolding roomIn firstPlace secondPlace
+  room-chosen e = rw (e, p, q)
+
+  -- "If both are full": whichever is chosen
+  pub both-full : {v w : ℕ} {b : Bool} → v ≡ tokenOf t (f .bucket) → w ≡ tokenOf t (s .bucket)
+      → b ≡ eqb (lowestFree h v) 4 && eqb (lowestFree h w) 4 → b ≡ true → none ≡ Option·map Free (roomIn t h x l)
+  unfolding emptier
+  both-full c d e k =
+      let full = tells-and (eqb (lowestFree h _) 4) (eqb (lowestFree h _) 4) Iff·rfl Iff·rfl .0 (sym e ∙ k) in
+      let none-there = either (fewer t h s f) (full-none t h f c (full .0)) (full-none t h s d (full .1)) in
+      sym (ap (Option·map Free) (sym (room-chosen refl) ∙ none-there))
+    where
+      either : (b : Bool) → freeSlot t h f ≡ none → freeSlot t h s ≡ none → freeSlot t h (cond b s f) ≡ none
+      either true m n = n
+      either false m n = m

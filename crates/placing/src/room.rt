@@ -4,6 +4,7 @@ use super::buckets::lowest_free;
 use super::buckets::slot_of;
 use reading::places::place;
 use reading::slots::token;
+use reading::tokens::both_full;
 use reading::tokens::taken_count;
 use rules::Hashes;
 use rules::Header;
@@ -45,12 +46,15 @@ fn emptier(t: &[u64], h: Header, first: Place, second: Place) -> Place
     first
 }
 
-// The same of the emptier of a key's two places in a level.
+// The same of the emptier of a key's two places in a level. That both are full is tested first: in a loaded table the top mostly is.
 pub fn room(t: &[u64], h: Header, x: Hashes, l: Level) -> Placing
     requires { ⌜ LevelWithin (now t) l ⌝ }
     ensures { λ r. ⌜ (optional r ≡ Option·map free (roomIn (now (t .entry)) h x l)) × PlacingWithin (now (t .entry)) r ⌝ }
 {
     let first = place(x.first, l);
     let second = place(x.second, l);
+    if both_full(h, token(t, first.bucket), token(t, second.bucket)) {
+        return Placing::Nowhere;
+    }
     free_slot(t, h, emptier(t, h, first, second))
 }

@@ -1,13 +1,13 @@
 -- Bit s of a token word, as the code sets and clears it, and what a table tells of its four bits.
 -- Assumes nothing.
 use Prim.Native.Nat.{ℕ, zero, suc, _+_, _-_, _*_, _/_, _%_, _^_, _≤_, _<_}
-use mathlib.Core.Path.{_≡_, refl, sym, _∙_}
-use mathlib.Core.Bool.{Bool, true, false, not, cond}
+use mathlib.Core.Path.{_≡_, refl, sym, ap, _∙_}
+use mathlib.Core.Bool.{Bool, true, false, not, cond, _&&_}
 use native.Mathlib.Omega.{arith}
-use lib.Bits.{bitAnd, bitOr}
+use lib.Bits.{bitAnd, bitOr, and-mod}
 use lib.Dec.{eqb, ltb}
 use borrow.Author.Tests.{eqb-true}
-use Rattle.rules.specs.Words.{tokenNumber, isTaken, show, hide, lowest, lowestTaken}
+use Rattle.rules.specs.Words.{tokenNumber, isTaken, show, hide, lowest, lowestFree, lowestTaken}
 use Rattle.rules.specs.declared.Header.{Header}
 use Rattle.rules.proofs.Words.Tokens.{below, below-all, taken-number, number-tested}
 use Rattle.reading.specs.Tokens.{entryOf}
@@ -64,3 +64,17 @@ unfolding lowestTaken isTaken tokenNumber alike
 some-taken h word =
     alike-same _ _ (number-tested (λ n. alike (not (eqb n 0)) (ltb (lowest (isTaken h n)) 4)) refl word)
     ∙ (λ i. ltb (lowest (λ (s : ℕ). taken-number h word s i)) 4)
+
+-- two words have no free slot where their common bits are all four, by a computed test of all pairs of token numbers
+pub none-free : (h : Header) (v w : ℕ) → eqb (tokenNumber (bitAnd v w)) 15 ≡ eqb (lowestFree h v) 4 && eqb (lowestFree h w) 4
+unfolding lowestFree isTaken tokenNumber alike
+none-free h v w =
+    ap (λ (n : ℕ). eqb n 15) (and-mod v w 4)
+    ∙ alike-same _ _ (number-tested (λ n. right (tokenNumber v) n) (number-tested (λ m. below 16 (right m)) refl v) w)
+    ∙ (λ i. full (λ (s : ℕ). taken-number h v s i) && full (λ (s : ℕ). taken-number h w s i))
+  where
+    full : (ℕ → Bool) → Bool
+    full p = eqb (lowest (λ (s : ℕ). not (p s))) 4
+
+    right : ℕ → ℕ → Bool
+    right m n = alike (eqb (bitAnd m n) 15) (full (isTaken h m) && full (isTaken h n))

@@ -2,7 +2,8 @@
 use rules::Header;
 ghost use mathlib.Core.Path.{_≡_};
 ghost use Prim.Native.Nat.{_≤_, _<_};
-ghost use lib.Dec.{ltb};
+ghost use mathlib.Core.Bool.{_&&_};
+ghost use lib.Dec.{eqb, ltb};
 ghost use Rattle.rules.specs.Words.{keysOf, tokenNumber, isTaken, show as shown, hide as hidden, takenOf, lowestFree, lowestTaken, meant as meantWord};
 ghost use Rattle.reading.specs.Within.{BucketWithin};
 ghost use Rattle.reading.specs.Tokens.{entryOf};
@@ -73,6 +74,13 @@ pub fn lowest_free(h: Header, word: u64) -> usize
     ensures { λ r. ⌜ (r ≡ lowestFree h word) × (r ≤ 4) ⌝ }
 {
     entry(LOWEST_FREE, word) as usize
+}
+
+// "If both are full": whether neither of two token words has a free slot, by one test.
+pub fn both_full(h: Header, v: u64, w: u64) -> bool
+    ensures { λ r. ⌜ r ≡ eqb (lowestFree h v) 4 && eqb (lowestFree h w) 4 ⌝ }
+{
+    token_number(v & w) == 15
 }
 
 // Whether a slot is taken, which one test tells: late in a growth most interim buckets are empty.

@@ -1,10 +1,10 @@
--- `placing::room::room` meets its contract: the free slot of the emptier place.
+-- `placing::room::room` meets its contract: nothing where both places are full, else the free slot of the emptier one.
 -- Assumes nothing.
 use mathlib.Core.Path.{ap, _∙_}
 use mathlib.Core.Option.{Option·map}
 use borrow.Author.Needs.{needs}
 use Rattle.rules.specs.declared.Placing.the-variants.{Free}
-use Rattle.placing.proofs.Choosing.{room-chosen}
+use Rattle.placing.proofs.Choosing.{room-chosen, both-full}
 use Rattle.placing.proofs.room.room.Statement.{statement}
 use Rattle.placing.proofs.room.room.Tie as tie
 
@@ -14,20 +14,46 @@ place-requires c κs = search needs
 place-requires-2 : tie.Need-place-requires-2
 place-requires-2 c κs = search needs
 
+token-requires : tie.Need-token-requires
+token-requires c κs = search needs
+
+token-requires-2 : tie.Need-token-requires-2
+token-requires-2 c κs = search needs
+
+both-full-requires : tie.Need-both-full-requires
+both-full-requires c κs = search needs
+
+returns : tie.Need-returns
+returns c =
+    let f = c .before in
+    let w = f .before in
+    let v = w .before in
+    let p = v .before in
+    (both-full _ _ _ _ (p .before .place .ensures .0) (p .place2 .ensures .0) (v .token .ensures) (w .token2 .ensures) (f .both-full .ensures) (c .if1 .taken), tt)
+
 emptier-requires : tie.Need-emptier-requires
 emptier-requires c κs = search needs
 
 free-slot-requires : tie.Need-free-slot-requires
 free-slot-requires c κs = search needs
 
-returns : tie.Need-returns
-returns c =
+returns-2 : tie.Need-returns-2
+returns-2 c =
     let d = c .before in
-    let p = d .before in
+    let p = d .before .before .before .before .before in
     let e = c .free-slot .ensures in
     (e .0 ∙ ap (Option·map Free) (room-chosen _ _ _ _ (p .before .place .ensures .0) (p .place2 .ensures .0) (d .emptier .ensures .0)), e .1)
 
 pub room-spec : {M : Type 1} → statement M
 room-spec =
     tie.close
-    (tie.spec place-requires place-requires-2 emptier-requires free-slot-requires returns)
+    (tie.spec
+    place-requires
+    place-requires-2
+    token-requires
+    token-requires-2
+    both-full-requires
+    returns
+    emptier-requires
+    free-slot-requires
+    returns-2)
