@@ -1,6 +1,6 @@
 -- The places tried for an item: which they are, and that they lie in the table.
 -- Assumes nothing.
-use Prim.Native.Nat.{ℕ, zero, suc, _-_, _*_}
+use Prim.Native.Nat.{ℕ, zero, suc, _-_, _*_, _≤_, _<_}
 use mathlib.Core.Path.{_≡_}
 use mathlib.Core.Bool.{Bool, true, false, not, cond}
 use mathlib.Core.List.{List, [], _∷_, List·Memᴰ as In, List·Memᴰ·head as here, List·Memᴰ·tail as there, List·Memᴰ·not-nil, List·Memᴰ·cases-cons}
@@ -9,7 +9,7 @@ use native.Mathlib.Omega.{arith}
 use lib.ListN.{length, take}
 use lib.Pow.{pow-pos}
 use lib.Dec.{eqb}
-use Rattle.rules.specs.Words.{Table, GoodHeader, sizeOf, topOf, bottomOf, levelsInUse}
+use Rattle.rules.specs.Words.{Table, GoodState, GoodHeader, atRest, sizeOf, topOf, bottomOf, levelsInUse}
 use Rattle.rules.specs.Places.{firstPlace, secondPlace, placesIn}
 use Rattle.rules.specs.Placing.{otherPlace}
 use Rattle.rules.specs.declared.Header.{Header}
@@ -18,12 +18,14 @@ use Rattle.rules.specs.declared.Hashes.{Hashes}
 use Rattle.rules.specs.declared.Place.{Place}
 use Rattle.rules.specs.declared.Slot.{Slot}
 use Rattle.rules.proofs.Basics.Lists.{select-in}
-use Rattle.rules.proofs.Words.Headers.{bucket-fits}
-use Rattle.rules.proofs.Words.Levels.{top-used, bottom-used, exponent-fits}
+use Rattle.rules.proofs.Basics.Walks.{getD-in}
+use Rattle.rules.proofs.Words.Headers.{header-state, bucket-fits}
+use Rattle.rules.proofs.Words.Levels.{levels-counted, top-used, bottom-used, exponent-fits}
 use Rattle.rules.proofs.Places.MoveOrder.{other-first, other-second, other-none}
 use Rattle.rules.proofs.Places.PlacesWithin.{place-in-level}
+use Rattle.reading.specs.Gates.{Headed}
 use Rattle.reading.specs.Within.{BucketWithin, AllWithin}
-use Rattle.reading.specs.Levels.{placeIn}
+use Rattle.reading.specs.Levels.{nthLevel, placeIn}
 use Rattle.placing.specs.Within.{LevelWithin}
 use Rattle.placing.specs.Search.{goalsOf}
 use Rattle.placing.specs.declared.moves.Way.{Way}
@@ -72,6 +74,18 @@ top-within t h g e = rw e (level-within t h g (topOf (h .state)) (top-used (h .s
 
 pub bottom-within : (t : Table) (h : Header) → GoodHeader (length t) h → {l : Level} → l ≡ bottomOf (h .state) → LevelWithin t l
 bottom-within t h g e = rw e (level-within t h g (bottomOf (h .state)) (bottom-used (h .state)))
+
+-- what the search for room asks of the n-th level in use
+pub room-asked : {t : Table} {h : Header} → Headed t h → (n : ℕ) → n ≤ 1
+    → GoodState 20 (h .state) × (n < length (levelsInUse (h .state))) × LevelWithin t (nthLevel (h .state) n)
+room-asked {t} {h} headed n l =
+    let g = headed .good in
+    let used : n < length (levelsInUse (h .state)) = omega (arith, two (atRest (h .state)), levels-counted (h .state)) in
+    (header-state (length t) h g, used, level-within t h g (nthLevel (h .state) n) (getD-in (topOf (h .state)) (levelsInUse (h .state)) n used))
+  where
+    two : (b : Bool) → 2 ≤ cond b 2 3
+    two true = omega arith
+    two false = omega arith
 
 module _ (t : Table) (l : Level) (w : LevelWithin t l) (y : Hashes) where
   pub level-places : AllWithin t (placesIn y l)

@@ -11,17 +11,17 @@ use types.Run.{OneOf}
 use lib.ListN.{length}
 use Rattle.rules.proofs.Placing.{the-type}
 use Rattle.rules.specs.Choice.{firstOf}
-use Rattle.rules.specs.Words.{Table, GoodHeader, headerOf, topOf, bottomOf}
+use Rattle.rules.specs.Words.{Table, GoodHeader, headerOf, levelsInUse}
 use Rattle.rules.specs.Places.{hashesOf}
 use Rattle.rules.specs.Placing.{freeSlot, roomIn, Candidate, moveOf, candidates, placing}
 use Rattle.rules.specs.declared.Header.{Header}
-use Rattle.rules.specs.declared.Level.{Level}
 use Rattle.rules.specs.declared.Hashes.{Hashes}
 use Rattle.rules.specs.declared.Slot.{Slot}
 use Rattle.rules.specs.declared.Placing.{Placing}
 use Rattle.rules.specs.declared.Placing.the-variants.{Free, Move, Nowhere}
 use Rattle.rules.proofs.Basics.Lists.{firstOf-some}
 use Rattle.reading.specs.Gates.{Headed}
+use Rattle.reading.specs.Levels.{nthLevel}
 use Rattle.placing.specs.Search.{optional}
 
 pub nowhere : (p : Placing) → OneOf (2 ∷ []) (tagOf the-type p) → optional p ≡ none
@@ -72,19 +72,21 @@ module _ (t : Table) (h : Header) where
   no-move x (Move a b) k e = absurd (⊎-elim (λ e. omega arith) (λ e. omega arith) k)
   no-move x Nowhere k e = e
 
-module _ (t : Table) (h : Header) (key : ℕ) {x : Hashes} (d : x ≡ hashesOf h key) {upper : Level} (u : upper ≡ topOf (h .state)) where
-  pub by-top : (p : Placing) → optional p ≡ Option·map Free (roomIn t h x upper) → optional p ≡ some p → p ≡ placing t h key
-  unfolding placing
-  by-top p e s = rw (← d, ← u, ← e, s)
+module _ (t : Table) (h : Header) (key : ℕ) {x : Hashes} (d : x ≡ hashesOf h key) where
+  -- the first two levels in use are top and bottom
+  pub by-top : (p : Placing) → optional p ≡ Option·map Free (roomIn t h x (nthLevel (h .state) 0)) → optional p ≡ some p → p ≡ placing t h key
+  unfolding placing levelsInUse
+  by-top p e s = rw (← d, ← e, s)
 
-  module _ (n : roomIn t h x upper ≡ none) {lower : Level} (v : lower ≡ bottomOf (h .state)) where
-    pub by-bottom : (p : Placing) → optional p ≡ Option·map Free (roomIn t h x lower) → optional p ≡ some p → p ≡ placing t h key
-    unfolding placing
-    by-bottom p e s = rw (← d, ← u, n, ← v, ← e, s)
+  module _ (n : roomIn t h x (nthLevel (h .state) 0) ≡ none) where
+    pub by-bottom : (p : Placing) → optional p ≡ Option·map Free (roomIn t h x (nthLevel (h .state) 1)) → optional p ≡ some p → p ≡ placing t h key
+    unfolding placing levelsInUse
+    by-bottom p e s = rw (← d, n, ← e, s)
 
-    pub by-move : roomIn t h x lower ≡ none → (p : Placing) → optional p ≡ firstOf (moveOf t h) (candidates t h x) → p ≡ placing t h key
-    unfolding placing
-    by-move m p e = rw (← d, ← u, n, ← v, m, ← e) (sym (optional-back p))
+    pub by-move : roomIn t h x (nthLevel (h .state) 1) ≡ none → (p : Placing) → optional p ≡ firstOf (moveOf t h) (candidates t h x)
+        → p ≡ placing t h key
+    unfolding placing levelsInUse
+    by-move m p e = rw (← d, n, m, ← e) (sym (optional-back p))
 
 -- ---- the table's own header, read again
 

@@ -4,8 +4,6 @@ mod moves;
 pub mod room;
 
 use moves::moving;
-use reading::levels::bottom;
-use reading::levels::top;
 use room::room;
 use rules::Hashes;
 use rules::Header;
@@ -39,11 +37,11 @@ pub fn placing(t: &[u64], h: Header, key: u64, x: Hashes) -> Placing
     requires { ⌜ Headed (now t) h × (x ≡ hashesOf h key) ⌝ }
     ensures { λ r. ⌜ PlacingTells r (placingOf (now (t .entry)) h key) × PlacingWithin (now (t .entry)) r ⌝ }
 {
-    let in_top = room(t, h, x, top(h.state));
+    let in_top = room(t, h, x, 0);
     if let Placing::Free(y) = in_top {
         return Placing::Free(y);
     }
-    let in_bottom = room(t, h, x, bottom(h.state));
+    let in_bottom = room(t, h, x, 1);
     if let Placing::Free(y) = in_bottom {
         return Placing::Free(y);
     }
@@ -56,11 +54,11 @@ pub fn interim_placing(t: &[u64], h: Header, key: u64, x: Hashes) -> Placing
     requires { ⌜ Headed (now t) h × (x ≡ hashesOf h key) ⌝ }
     ensures { λ r. ⌜ PlacingTells r (placingOf (now (t .entry)) h key) × PlacingWithin (now (t .entry)) r ⌝ }
 {
-    let above = room(t, h, x, top(h.state));
+    let above = room(t, h, x, 0);
     let Placing::Nowhere = above else {
         return above;
     };
-    let below = room(t, h, x, bottom(h.state));
+    let below = room(t, h, x, 1);
     let Placing::Nowhere = below else {
         return below;
     };

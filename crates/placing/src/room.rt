@@ -2,19 +2,22 @@
 use super::buckets::bucket;
 use super::buckets::lowest_free;
 use super::buckets::slot_of;
-use reading::places::place;
+use reading::places::place_in_use;
 use reading::slots::token;
 use reading::tokens::both_full;
 use reading::tokens::taken_count;
 use rules::Hashes;
 use rules::Header;
-use rules::Level;
 use rules::Place;
 use rules::Placing;
 ghost use mathlib.Core.Path.{_≡_};
 ghost use mathlib.Core.Option.{Option·map};
+ghost use Prim.Native.Nat.{_<_};
+ghost use lib.ListN.{length};
+ghost use Rattle.rules.specs.Words.{GoodState, levelsInUse};
 ghost use Rattle.rules.specs.Placing.{freeSlot, emptier as emptierOf, roomIn};
 ghost use Rattle.rules.specs.declared.Placing.the-variants.{Free as free};
+ghost use Rattle.reading.specs.Levels.{nthLevel};
 ghost use Rattle.reading.specs.Within.{BucketWithin, PlacingWithin};
 ghost use Rattle.placing.specs.Within.{LevelWithin};
 ghost use Rattle.placing.specs.Search.{optional};
@@ -46,13 +49,13 @@ fn emptier(t: &[u64], h: Header, first: Place, second: Place) -> Place
     first
 }
 
-// The same of the emptier of a key's two places in a level. That both are full is tested first: in a loaded table the top mostly is.
-pub fn room(t: &[u64], h: Header, x: Hashes, l: Level) -> Placing
-    requires { ⌜ LevelWithin (now t) l ⌝ }
-    ensures { λ r. ⌜ (optional r ≡ Option·map free (roomIn (now (t .entry)) h x l)) × PlacingWithin (now (t .entry)) r ⌝ }
+// The same of the emptier of a key's two places in the n-th level in use. That both are full is tested first: in a loaded table the top mostly is.
+pub fn room(t: &[u64], h: Header, x: Hashes, n: usize) -> Placing
+    requires { ⌜ GoodState 20 (h .state) × (n < length (levelsInUse (h .state))) × LevelWithin (now t) (nthLevel (h .state) n) ⌝ }
+    ensures { λ r. ⌜ (optional r ≡ Option·map free (roomIn (now (t .entry)) h x (nthLevel (h .state) n))) × PlacingWithin (now (t .entry)) r ⌝ }
 {
-    let first = place(x.first, l);
-    let second = place(x.second, l);
+    let first = place_in_use(x.first, h.state, n);
+    let second = place_in_use(x.second, h.state, n);
     if both_full(h, token(t, first.bucket), token(t, second.bucket)) {
         return Placing::Nowhere;
     }

@@ -22,11 +22,10 @@ use Rattle.rules.specs.declared.Place.{Place}
 use Rattle.rules.specs.declared.Slot.{Slot}
 use Rattle.rules.specs.declared.Lookup.{Lookup}
 use Rattle.rules.specs.declared.Lookup.the-variants.{Stands, Absent}
-use Rattle.rules.proofs.Basics.Walks.{getD-in, stands-at}
+use Rattle.rules.proofs.Basics.Walks.{getD-in}
 use Rattle.rules.proofs.Words.Headers.{bucket-fits}
 use Rattle.rules.proofs.Words.Levels.{exponent-fits}
-use Rattle.reading.specs.Levels.{NthFirst, placeFrom, placeIn}
-use Rattle.reading.proofs.Placed.{placed-from}
+use Rattle.reading.specs.Levels.{nthLevel, placeIn}
 use Rattle.querying.specs.Turns.{placeOfTurn, nthPlace, fresh}
 
 -- a place, and whether it is looked at
@@ -122,18 +121,15 @@ module _ (t : Table) (h : Header) (key : ℕ) (s : State) (x : Hashes) where
     unfolding inTurns
     turn-hit e f = rw (turn, e, f)
 
--- the place of a turn, from its level's first bucket
-module _ (s : State) (x : Hashes) (i : ℕ) {first : ℕ} (at : NthFirst s (i / 2) first) {p : Place} where
-  in-level : (hash : ℕ) → p ≡ placeFrom (i / 2) first hash → p ≡ placeIn (getD (levelsInUse s) (i / 2) (topOf s)) hash
-  in-level hash q = rw (stands-at (topOf s) (levelsInUse s) (i / 2) (at .1)) (rw (← (at .2)) at q ∙ placed-from (at .0) hash (at .3))
-
-  pub first-turn : i % 2 ≡ 0 → p ≡ placeFrom (i / 2) first (x .first) → p ≡ nthPlace s x i
+-- the place of a turn, from its level
+module _ (s : State) (x : Hashes) (i : ℕ) {p : Place} where
+  pub first-turn : i % 2 ≡ 0 → p ≡ placeIn (nthLevel s (i / 2)) (x .first) → p ≡ nthPlace s x i
   unfolding nthPlace placeOfTurn
-  first-turn e q = rw (eq-eqb _ _ e) (in-level (x .first) q)
+  first-turn e q = rw (eq-eqb _ _ e) q
 
-  pub second-turn : (i % 2 ≡ 0 → ⊥) → p ≡ placeFrom (i / 2) first (x .second) → p ≡ nthPlace s x i
+  pub second-turn : (i % 2 ≡ 0 → ⊥) → p ≡ placeIn (nthLevel s (i / 2)) (x .second) → p ≡ nthPlace s x i
   unfolding nthPlace placeOfTurn
-  second-turn e q = rw (ne-eqb _ _ e) (in-level (x .second) q)
+  second-turn e q = rw (ne-eqb _ _ e) q
 
 -- the place of a turn is the one before the next
 pub last-next : (s : State) (x : Hashes) (i : ℕ) {p : Place} → p ≡ nthPlace s x i → (i + 1 ≡ 0 → ⊥) → p .bucket ≡ nthPlace s x (i + 1 - 1) .bucket

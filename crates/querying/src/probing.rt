@@ -1,8 +1,7 @@
 // The places of a key one after the other, without a list of them: place i is the first or the second place, by turns, of
 // level i / 2.
 use reading::levels::level_count;
-use reading::levels::nth_first;
-use reading::places::place_from;
+use reading::places::place_in_use;
 use rules::Hashes;
 use rules::Place;
 use rules::State;
@@ -23,12 +22,10 @@ pub fn nth_place(s: State, x: Hashes, i: usize) -> Place
     requires { ⌜ GoodState 20 s × (i < 2 * length (levelsInUse s)) ⌝ }
     ensures { λ p. ⌜ p ≡ nthPlace s x i ⌝ }
 {
-    let n = i / 2;
-    let first = nth_first(s, n);
     if i % 2 == 0 {
-        return place_from(n as u64, first, x.first);
+        return place_in_use(x.first, s, i / 2);
     }
-    place_from(n as u64, first, x.second)
+    place_in_use(x.second, s, i / 2)
 }
 
 // "first place, then second if different": whether place i, a bucket, is not the place before it again.

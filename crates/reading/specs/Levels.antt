@@ -4,8 +4,8 @@ use Prim.Native.Nat.{ℕ, _+_, _-_, _%_}
 use mathlib.Core.Path.{_≡_}
 use mathlib.Core.List.{List, _∷_}
 use lib.Bits.{bitAnd}
-use lib.ListN.{take, drop}
-use Rattle.rules.specs.Words.{sizeOf, levelsInUse, placeAt}
+use lib.ListN.{getD, take, drop}
+use Rattle.rules.specs.Words.{sizeOf, topOf, levelsInUse, placeAt}
 use Rattle.rules.specs.declared.State.{State}
 use Rattle.rules.specs.declared.Level.{Level}
 use Rattle.rules.specs.declared.Place.{Place}
@@ -15,9 +15,9 @@ use Rattle.reading.specs.declared.places.Places.{Places}
 abbrev pub NthLevel : State → ℕ → Level → Type 0
 NthLevel s n l = drop n (levelsInUse s) ≡ l ∷ drop (n + 1) (levelsInUse s)
 
--- its first bucket, where the level has the name n
-abbrev pub NthFirst : State → ℕ → ℕ → Type 0
-NthFirst s n first = (l : Level) × NthLevel s n l × (l .name ≡ n) × (first ≡ sizeOf l - 1)
+-- the same level, and past their end the top
+abbrev pub nthLevel : State → ℕ → Level
+nthLevel s n = getD (levelsInUse s) n (topOf s)
 
 -- the place of a hash in the level of that name and first bucket
 abbrev pub placeFrom : ℕ → ℕ → ℕ → Place

@@ -4,10 +4,10 @@ use rules::State;
 use words::power;
 ghost use mathlib.Core.Path.{_≡_};
 ghost use mathlib.Core.Bool.{false};
-ghost use Prim.Native.Nat.{_^_, _≤_, _<_};
+ghost use Prim.Native.Nat.{_-_, _^_, _≤_, _<_};
 ghost use lib.ListN.{length};
-ghost use Rattle.rules.specs.Words.{GoodState, atRest, topOf, bottomOf, interimOf, levelsInUse};
-ghost use Rattle.reading.specs.Levels.{NthLevel, NthFirst};
+ghost use Rattle.rules.specs.Words.{GoodState, atRest, sizeOf, topOf, bottomOf, interimOf, levelsInUse};
+ghost use Rattle.reading.specs.Levels.{NthLevel, nthLevel};
 
 // "The top has 2^k buckets"
 pub fn top(s: State) -> Level
@@ -67,13 +67,10 @@ pub fn nth_level(s: State, n: usize) -> Level
     }
 }
 
-// The first bucket of the n-th: "buckets M − 1 to 2M − 2". Top and bottom share a power of two, since a lookup asks for both.
+// The first bucket of the n-th: "buckets M − 1 to 2M − 2". M halves from level to level, so all come from one power of two by a shift.
 pub fn nth_first(s: State, n: usize) -> usize
     requires { ⌜ GoodState 20 s × (n < length (levelsInUse s)) ⌝ }
-    ensures { λ r. ⌜ NthFirst s n r × (r < 2 ^ 20) ⌝ }
+    ensures { λ r. ⌜ (r ≡ sizeOf (nthLevel s n) - 1) × (r < 2 ^ 20) ⌝ }
 {
-    if n == 2 {
-        return power(interim(s).exponent) - 1;
-    }
     (power(s.k) - 1) >> n
 }

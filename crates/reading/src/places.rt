@@ -1,16 +1,19 @@
 // The places of a key: its two hashes, and in a level its first place and, if different, its second.
+use super::levels::nth_first;
 use rules::Hashes;
 use rules::Header;
 use rules::Level;
 use rules::Place;
+use rules::State;
 use words::hash;
 use words::power;
 ghost use mathlib.Core.Path.{_≡_};
 ghost use mathlib.Core.List.{[], _∷_};
 ghost use Prim.Native.Nat.{_+_, _*_, _^_, _≤_, _<_};
-ghost use Rattle.rules.specs.Words.{sizeOf};
+ghost use lib.ListN.{length};
+ghost use Rattle.rules.specs.Words.{GoodState, sizeOf, levelsInUse};
 ghost use Rattle.rules.specs.Places.{hashesOf, placesIn};
-ghost use Rattle.reading.specs.Levels.{placeFrom, placeIn, listHeld};
+ghost use Rattle.reading.specs.Levels.{nthLevel, placeFrom, placeIn, listHeld};
 
 // At most two places: the first n of the list.
 pub struct Places {
@@ -29,7 +32,7 @@ pub fn hashes(h: Header, key: u64) -> Hashes
 
 // The place of a hash in the level of that name and first bucket, which is M − 1: M is a power of two, so the bits of "hash modulo M"
 // are those that M − 1 has.
-pub fn place_from(name: u64, first: usize, hash: u64) -> Place
+fn place_from(name: u64, first: usize, hash: u64) -> Place
     requires { ⌜ first < 2 ^ 20 ⌝ }
     ensures { λ r. ⌜ r ≡ placeFrom name first hash ⌝ }
 {
@@ -45,6 +48,14 @@ pub fn place(hash: u64, l: Level) -> Place
     ensures { λ r. ⌜ (r ≡ placeIn l hash) × (r .bucket + 1 < 2 * sizeOf l) ⌝ }
 {
     place_from(l.name, power(l.exponent) - 1, hash)
+}
+
+// The place of a hash in the n-th level in use.
+pub fn place_in_use(hash: u64, s: State, n: usize) -> Place
+    requires { ⌜ GoodState 20 s × (n < length (levelsInUse s)) ⌝ }
+    ensures { λ r. ⌜ (r ≡ placeIn (nthLevel s n) hash) × (r .bucket + 1 < 2 * sizeOf (nthLevel s n)) ⌝ }
+{
+    place_from(n as u64, nth_first(s, n), hash)
 }
 
 pub fn no_place() -> Places

@@ -8,11 +8,11 @@ use Rattle.placing.proofs.Choosing.{room-chosen, both-full}
 use Rattle.placing.proofs.room.room.Statement.{statement}
 use Rattle.placing.proofs.room.room.Tie as tie
 
-place-requires : tie.Need-place-requires
-place-requires c κs = search needs
+place-in-use-requires : tie.Need-place-in-use-requires
+place-in-use-requires c κs = search needs
 
-place-requires-2 : tie.Need-place-requires-2
-place-requires-2 c κs = search needs
+place-in-use-requires-2 : tie.Need-place-in-use-requires-2
+place-in-use-requires-2 c κs = search needs
 
 token-requires : tie.Need-token-requires
 token-requires c κs = search needs
@@ -29,7 +29,7 @@ returns c =
     let w = f .before in
     let v = w .before in
     let p = v .before in
-    (both-full _ _ _ _ (p .before .place .ensures .0) (p .place2 .ensures .0) (v .token .ensures) (w .token2 .ensures) (f .both-full .ensures) (c .if1 .taken), tt)
+    (both-full _ _ _ _ (p .before .place-in-use .ensures .0) (p .place-in-use2 .ensures .0) (v .token .ensures) (w .token2 .ensures) (f .both-full .ensures) (c .if1 .taken), tt)
 
 emptier-requires : tie.Need-emptier-requires
 emptier-requires c κs = search needs
@@ -42,14 +42,14 @@ returns-2 c =
     let d = c .before in
     let p = d .before .before .before .before .before in
     let e = c .free-slot .ensures in
-    (e .0 ∙ ap (Option·map Free) (room-chosen _ _ _ _ (p .before .place .ensures .0) (p .place2 .ensures .0) (d .emptier .ensures .0)), e .1)
+    (e .0 ∙ ap (Option·map Free) (room-chosen _ _ _ _ (p .before .place-in-use .ensures .0) (p .place-in-use2 .ensures .0) (d .emptier .ensures .0)), e .1)
 
 pub room-spec : {M : Type 1} → statement M
 room-spec =
     tie.close
     (tie.spec
-    place-requires
-    place-requires-2
+    place-in-use-requires
+    place-in-use-requires-2
     token-requires
     token-requires-2
     both-full-requires

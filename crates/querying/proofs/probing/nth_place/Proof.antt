@@ -1,26 +1,23 @@
 -- `querying::probing::nth_place` meets its contract.
 -- Assumes nothing.
-use borrow.Author.Needs.{needs}
+use native.Mathlib.Omega.{arith}
 use Rattle.querying.proofs.Turning.{first-turn, second-turn}
 use Rattle.querying.proofs.probing.nth_place.Statement.{statement}
 use Rattle.querying.proofs.probing.nth_place.Tie as tie
 
-nth-first-requires : tie.Need-nth-first-requires
-nth-first-requires c κs = search needs
-
-place-from-requires : tie.Need-place-from-requires
-place-from-requires c κs = search needs
+place-in-use-requires : tie.Need-place-in-use-requires
+place-in-use-requires c κs = (c .before .pre .0, omega (arith, c .before .pre .1))
 
 returns : tie.Need-returns
-returns c = first-turn _ _ _ (c .before .before .nth-first .ensures .0) (c .before .if1 .taken) (c .place-from .ensures)
+returns c = first-turn _ _ _ (c .before .if1 .taken) (c .place-in-use .ensures .0)
 
-place-from-requires-2 : tie.Need-place-from-requires-2
-place-from-requires-2 c κs = search needs
+place-in-use-requires-2 : tie.Need-place-in-use-requires-2
+place-in-use-requires-2 c κs = (c .before .pre .0, omega (arith, c .before .pre .1))
 
 returns-2 : tie.Need-returns-2
-returns-2 c = second-turn _ _ _ (c .before .before .nth-first .ensures .0) (c .before .if1 .left) (c .place-from2 .ensures)
+returns-2 c = second-turn _ _ _ (c .before .if1 .left) (c .place-in-use2 .ensures .0)
 
 pub nth-place-spec : {M : Type 1} → statement M
 nth-place-spec =
     tie.close
-    (tie.spec nth-first-requires place-from-requires returns place-from-requires-2 returns-2)
+    (tie.spec place-in-use-requires returns place-in-use-requires-2 returns-2)

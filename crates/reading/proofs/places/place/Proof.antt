@@ -1,13 +1,11 @@
 -- `reading::places::place` meets its contract.
 -- Assumes nothing.
 use Prim.Native.Nat.{ℕ, _-_, _^_, _≤_}
-use mathlib.Core.Path.{ap, _∙_}
+use mathlib.Core.Path.{ap}
 use native.Mathlib.Omega.{arith}
-use native.Mathlib.Nat.{mod-lt}
-use lib.Pow.{pow-pos, pow-mono}
+use lib.Pow.{pow-mono}
 use borrow.Author.Needs.{needs}
-use Rattle.rules.specs.Words.{placeAt}
-use Rattle.reading.proofs.Placed.{placed-from}
+use Rattle.reading.proofs.Placed.{placed}
 use Rattle.reading.proofs.places.place.Statement.{statement}
 use Rattle.reading.proofs.places.place.Tie as tie
 
@@ -23,11 +21,7 @@ place-from-requires c κs =
     omega (arith, c .power .ensures .0, c .power .ensures .1)
 
 returns : tie.Need-returns
-unfolding placeAt
-returns c =
-    let a = c .before .before .args in
-    let e = c .place-from .ensures ∙ placed-from (a .l) (a .hash) (ap (λ (n : ℕ). n - 1) (c .before .power .ensures .0)) in
-    (e, rw e (omega (arith, pow-pos (a .l .exponent), mod-lt (a .hash) (pow-pos (a .l .exponent)))))
+returns c = placed (c .before .before .args .l) _ (ap (λ (n : ℕ). n - 1) (c .before .power .ensures .0)) (c .place-from .ensures)
 
 pub place-spec : {M : Type 1} → statement M
 place-spec = tie.close (tie.spec power-requires sub-place-from place-from-requires returns)
