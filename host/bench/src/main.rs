@@ -105,7 +105,7 @@ fn growth_alone(seed: u64, out: &Path) -> Result<(), String> {
 /// Writes the section, and then says where an insert or an import costs more than it may.
 fn import_alone(seed: u64, out: &Path, before: &Path) -> Result<(), String> {
     let begun = Instant::now();
-    let imports = import::measure(&plan::FULL, seed, before, out, |part| note(begun, part))?;
+    let imports = import::measure(&plan::HELD, seed, before, out, |part| note(begun, part))?;
     let section = report::imports(&imports, seed);
     write(out, "import.md", &section)?;
     write(out, "import-rounds.txt", &report::rounds_of(imports.measured()))?;

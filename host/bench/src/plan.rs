@@ -22,6 +22,9 @@ pub const FULL: Plan =
 pub const QUICK: Plan =
     Plan { counts: plan::QUICK, rounds: 9, calls: 10_000, recovered: 6..=14, grown: 5..=14 };
 
+/// For the inserts beside imports, which a limit holds one by one: more rounds, since the worst of them counts.
+pub const HELD: Plan = Plan { rounds: 101, ..FULL };
+
 /// From this capacity on a round takes long, and fewer do.
 const LARGE: u64 = 19;
 const SOME_ROUNDS: usize = 15;
