@@ -1,8 +1,8 @@
 // What token words hold and mean: known only here, since another form of table may keep more in them.
 use rules::Header;
 ghost use mathlib.Core.Path.{_≡_};
-ghost use Prim.Native.Nat.{_≤_, _<_};
 ghost use mathlib.Core.Bool.{_&&_};
+ghost use Prim.Native.Nat.{_≤_, _<_};
 ghost use lib.Dec.{eqb, ltb};
 ghost use Rattle.rules.specs.Words.{keysOf, tokenNumber, isTaken, show as shown, hide as hidden, takenOf, lowestFree, lowestTaken, meant as meantWord};
 ghost use Rattle.reading.specs.Within.{BucketWithin};
@@ -48,7 +48,7 @@ pub fn meant(t: &[u64], h: Header, j: usize, word: u64) -> u64
 }
 
 // Three tables over the sixteen token numbers, each as the hexadecimal digits of one number: the entry of token number 0 is the lowest
-// digit, that of 15 the highest.
+// digit, that of 15 the highest. So an entry is found in registers; an array would be built in memory at each use.
 const TAKEN_COUNTS: u64 = 0x4332_3221_3221_2110;
 
 const LOWEST_FREE: u64 = 0x4010_2010_3010_2010;
@@ -83,16 +83,16 @@ pub fn both_full(h: Header, v: u64, w: u64) -> bool
     token_number(v & w) == 15
 }
 
-// Whether a slot is taken, which one test tells: late in a growth most interim buckets are empty.
-pub fn any_taken(h: Header, word: u64) -> bool
-    ensures { λ r. ⌜ r ≡ ltb (lowestTaken h word) 4 ⌝ }
-{
-    token_number(word) != 0
-}
-
 // The lowest taken slot, or 4 where there is none.
 pub fn lowest_taken(h: Header, word: u64) -> usize
     ensures { λ r. ⌜ r ≡ lowestTaken h word ⌝ }
 {
     entry(LOWEST_TAKEN, word) as usize
+}
+
+// Whether a slot is taken, which one test tells: late in a growth most interim buckets are empty.
+pub fn any_taken(h: Header, word: u64) -> bool
+    ensures { λ r. ⌜ r ≡ ltb (lowestTaken h word) 4 ⌝ }
+{
+    token_number(word) != 0
 }
