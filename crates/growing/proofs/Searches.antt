@@ -232,7 +232,8 @@ module _ (t : Table) (h : Header) where
     pub item-low : {s : ℕ} → b ≡ true → s ≡ lowestTaken h w → s < 4
     item-low k e = rw e (ltb-true (lowestTaken h w) 4 (sym v ∙ k))
 
-    pub item-here : {s : ℕ} {l : Level} → l ≡ interimOf (h .state) → b ≡ true → s ≡ lowestTaken h w → foundIn h itemAt j ≡ some (slotAt (placeAt l j) s)
+    pub item-here : {s : ℕ} {l : Level} → l ≡ interimOf (h .state) → b ≡ true → s ≡ lowestTaken h w
+        → foundIn h itemAt j ≡ some (slotAt (placeAt l j) s)
     unfolding lowestTaken
     item-here e k z = rw e (bucket-item ∙ ap (Option·map (slotAt (placeAt (interimOf (h .state)) j))) (lowest-some (isTaken h w) _ z (item-low k z)))
 

@@ -155,8 +155,8 @@ fn first_move(t: &[u64], h: Header, x: Hashes) -> Placing
 // all through an insert.
 pub fn moving(t: &[u64], x: Hashes) -> Placing
     requires { ⌜ GoodHeader (length (now t)) (headerOf (now t)) ⌝ }
-    ensures { λ r. ⌜ (optional r ≡ firstOf (moveOf (now (t .entry)) (headerOf (now (t .entry)))) (candidates (now (t .entry)) (headerOf (now (t .entry))) x))
-        × PlacingWithin (now (t .entry)) r ⌝ }
+    ensures { λ r. ⌜ (optional r ≡ firstOf (moveOf (now (t .entry)) (headerOf (now (t .entry))))
+        (candidates (now (t .entry)) (headerOf (now (t .entry))) x)) × PlacingWithin (now (t .entry)) r ⌝ }
 {
     first_move(t, decode(t), x)
 }

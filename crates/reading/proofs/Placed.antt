@@ -7,7 +7,7 @@ use mathlib.Core.List.{[], _∷_}
 use native.Mathlib.Omega.{arith}
 use native.Mathlib.Nat.{sub-zero, pow-suc, mul-comm, mod-lt, div-div-eq-div-mul}
 use lib.Bits.{and-mask}
-use lib.ListN.{length, drop}
+use lib.ListN.{length}
 use lib.Pow.{pow-pos}
 use Rattle.rules.specs.Words.{GoodState, atRest, sizeOf, topOf, interimOf, levelsInUse, placeAt}
 use Rattle.rules.specs.Places.{firstPlace, secondPlace, placesIn}

@@ -38,7 +38,9 @@ returns : tie.Need-returns
 returns c = let p = c .before .before in did-as (take-nowhere _ _ _ _ (placing-told-by (p .placing .ensures .0)) (c .before .match .keys3)) (did-refuse _ _)
 
 insert-stores-requires : tie.Need-insert-stores-requires
-insert-stores-requires c κs = let s = c .before .before .before .before .before in (omega (arith, s .pre .0), table-small _ _ (s .pre .1 .good), taken (c .before) .1)
+insert-stores-requires c κs =
+    let s = c .before .before .before .before .before in
+    (omega (arith, s .pre .0), table-small _ _ (s .pre .1 .good), taken (c .before) .1)
 
 same-length : tie.Need-same-length
 same-length c = search needs

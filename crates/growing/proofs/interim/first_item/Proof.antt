@@ -9,7 +9,8 @@ use Rattle.rules.specs.Words.{slotAt, placeAt}
 use Rattle.rules.proofs.Words.Headers.{header-state}
 use Rattle.reading.specs.Within.{BucketWithin}
 use Rattle.growing.specs.Interim.{itemOf}
-use Rattle.growing.proofs.Searches.{few-buckets, bucket-within, foundFrom, found-hit, found-pass, found-over, itemAt, items-from, item-here, item-low, item-none}
+use Rattle.growing.proofs.Searches.{few-buckets, bucket-within, foundFrom, found-hit, found-pass, found-over, itemAt, items-from}
+use Rattle.growing.proofs.Searches.{item-here, item-low, item-none}
 use Rattle.growing.proofs.interim.first_item.Statement.{statement}
 use Rattle.growing.proofs.interim.first_item.Tie as tie
 

@@ -1,6 +1,5 @@
 -- `placing::moves::moving` meets its contract.
 -- Assumes nothing.
-use borrow.Author.Needs.{needs}
 use Rattle.rules.proofs.Words.Headers.{header-fits}
 use Rattle.placing.proofs.moves.moving.Statement.{statement}
 use Rattle.placing.proofs.moves.moving.Tie as tie

@@ -29,7 +29,9 @@ returns c =
     let w = f .before in
     let v = w .before in
     let p = v .before in
-    (both-full _ _ _ _ (p .before .place-in-use .ensures .0) (p .place-in-use2 .ensures .0) (v .token .ensures) (w .token2 .ensures) (f .both-full .ensures) (c .if1 .taken), tt)
+    let first = p .before .place-in-use .ensures .0 in
+    let second = p .place-in-use2 .ensures .0 in
+    (both-full _ _ _ _ first second (v .token .ensures) (w .token2 .ensures) (f .both-full .ensures) (c .if1 .taken), tt)
 
 emptier-requires : tie.Need-emptier-requires
 emptier-requires c κs = search needs

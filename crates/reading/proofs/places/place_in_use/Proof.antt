@@ -1,6 +1,6 @@
 -- `reading::places::place_in_use` meets its contract.
 -- Assumes nothing.
-use mathlib.Core.Path.{ap, _∙_}
+use mathlib.Core.Path.{ap}
 use borrow.Author.Needs.{needs}
 use Rattle.rules.specs.declared.Level.{Level}
 use Rattle.reading.specs.Levels.{nthLevel}

@@ -1,7 +1,6 @@
 -- `reading::tokens::taken_count` meets its contract: its table has the right entry for each token number.
 -- Assumes nothing.
 use mathlib.Core.Path.{refl}
-use Prim.Native.Nat.{ℕ}
 use lib.ListN.{length}
 use Rattle.rules.specs.Choice.{select}
 use Rattle.rules.specs.Words.{slots, tokenNumber, isTaken, takenOf}
