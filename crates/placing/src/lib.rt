@@ -17,8 +17,8 @@ ghost use Rattle.reading.specs.Gates.{Headed};
 ghost use Rattle.reading.specs.Within.{PlacingWithin};
 ghost use Rattle.placing.specs.Search.{optional};
 
-// "If all are full, one move." "Otherwise there is no place." It stands between `placing` and the search so that header and hashes
-// are handed through memory here alone.
+// "If all are full, one move." "Otherwise there is no place." It stands between `placing` and the search so that the hashes are
+// handed through memory here alone; the header is there for the promise.
 fn one_move(t: &[u64], h: Header, x: Hashes) -> Placing
     requires { ⌜ Headed (now t) h ⌝ }
     ensures { λ r. ⌜ (optional r ≡ firstOf (moveOf (now (t .entry)) h) (candidates (now (t .entry)) h x)) × PlacingWithin (now (t .entry)) r ⌝ }

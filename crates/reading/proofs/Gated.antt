@@ -15,7 +15,7 @@ use Rattle.rules.specs.declared.Header.{Header}
 use Rattle.rules.specs.declared.Refusal.{Refusal}
 use Rattle.rules.specs.declared.Refusal.the-variants.{BadHeader}
 use Rattle.rules.proofs.Words.Headers.{good-header}
-use Rattle.reading.specs.Gates.{gateOf, also, headerTest, Ready}
+use Rattle.reading.specs.Gates.{gateOf, also, headerTest, Headed, Ready}
 use Rattle.reading.specs.declared.gate.Gate.{Gate}
 use Rattle.reading.specs.declared.gate.Gate.the-variants.{Open, Shut}
 use Rattle.reading.proofs.gate.Gate.{the-type as gate-type}
@@ -113,6 +113,10 @@ is-open (Shut r) e = absurd (omega arith)
 -- the header of a ready table is good
 pub open-ready : (t : Table) (g : Gate) {h : Header} → Ready t g → g ≡ Open h → GoodHeader (length t) (headerOf t)
 open-ready t g y q = let k = rw q at y in rw (k .0) at (k .1)
+
+-- and it is the table's own
+pub open-headed : (t : Table) (g : Gate) {h : Header} → Ready t g → g ≡ Open h → Headed t h
+open-headed t g y q = let k = rw q at y in record { own = k .0; good = k .1 }
 
 -- a table with a good header has the header's nine words
 pub nine-words : {size : ℕ} {h : Header} → GoodHeader size h → 9 ≤ size

@@ -49,7 +49,9 @@ module _ (h : Header) (table : ℕ) (tell : (ℕ → Bool) → ℕ) where
   pub told : below 16 right ≡ true → {r : ℕ} (word : ℕ) → r ≡ entryOf table (tokenNumber word) → r ≡ tell (isTaken h word)
   told test word e = e ∙ eqb-true _ _ (number-tested right test word) ∙ (λ i. tell (λ (s : ℕ). taken-number h word s i))
 
--- the token number 0 has no taken slot, and no other has none
+-- ---- tests of whole token words
+
+-- both or neither
 alike : Bool → Bool → Bool
 alike a b = cond a b (not b)
 
@@ -59,6 +61,7 @@ alike-same true b e = sym e
 alike-same false false e = refl
 alike-same false true e = e
 
+-- the token number 0 has no taken slot, and no other has none
 pub some-taken : (h : Header) (word : ℕ) → not (eqb (tokenNumber word) 0) ≡ ltb (lowestTaken h word) 4
 unfolding lowestTaken isTaken tokenNumber alike
 some-taken h word =

@@ -143,3 +143,57 @@ pub fn run_counted(side: &str, c: u64) -> Result<usize, String> {
     peer.check_accepted(accepted, keys.present())?;
     Ok(keys.present().len())
 }
+
+/// Made-up measurements, for tests of what is said of them.
+#[cfg(test)]
+pub mod examples {
+    use super::*;
+    use crate::rounds::Series;
+
+    fn measured(c: u64, operation: &str, times: [(&'static str, f64); 2]) -> Measured {
+        let series = times.map(|(peer, time)| Series { peer, rounds: vec![time] }).into();
+        Measured { c, operation: operation.to_string(), series }
+    }
+
+    /// With these times of inserts at c = 14 and 18, where the twin takes 100, and of imports at c = 8 and 18, where the library before and
+    /// the twin take 100, and the twin of the build before 50.
+    pub fn imports(inserts: [f64; 2], instructions: f64, after: [f64; 2]) -> Imports {
+        let insert = |(c, time)| measured(c, "insert", [(LIBRARY, time), (TWIN, 100.0)]);
+        let import = |(c, time)| ImportTimes {
+            library: measured(c, "import", [(BEFORE, 100.0), (AFTER, time)]),
+            twin: measured(c, "import", [(BEFORE, 50.0), (AFTER, 100.0)]),
+        };
+        let counts = || {
+            let [before, after, twin] =
+                [400.0, instructions, 200.0].map(|instructions| Count { instructions, mispredicted: 0.0 });
+            BuildCounts { before, after, twin }
+        };
+        Imports {
+            times: [8, 18].into_iter().zip(after).map(import).collect(),
+            inserts: [14, 18].into_iter().zip(inserts).map(insert).collect(),
+            insert_counts: counts(),
+            import_counts: counts(),
+        }
+    }
+}
+
+#[cfg(test)]
+mod tests {
+    use super::*;
+
+    #[test]
+    fn each_build_is_counted_as_itself() {
+        let builds = ["earlier", "later"].map(PathBuf::from);
+        let counted = counts(&builds, |program, side| {
+            let instructions = match (program.to_str(), side) {
+                (Some("earlier"), LIBRARY) => 1.0,
+                (Some("later"), LIBRARY) => 2.0,
+                (Some("later"), TWIN) => 3.0,
+                _ => return Err("another".to_string()),
+            };
+            Ok(Count { instructions, mispredicted: 0.0 })
+        });
+        let BuildCounts { before, after, twin } = counted.unwrap_or_else(|error| panic!("{error}"));
+        assert_eq!([before, after, twin].map(|count| count.instructions), [1.0, 2.0, 3.0]);
+    }
+}

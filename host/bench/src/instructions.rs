@@ -1,4 +1,5 @@
-//! Instructions and mispredicted branches of a call, counted by callgrind: they are the same on every run, where times are not.
+//! Instructions and mispredicted branches of a call, counted by callgrind. Instructions are the same on every run, where times are not;
+//! mispredicted branches are those of callgrind's simple model, and change with where the linker puts the code.
 //! The program runs itself under valgrind, one operation of one side at a time.
 
 use std::path::{Path, PathBuf};

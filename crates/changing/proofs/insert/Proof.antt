@@ -2,6 +2,7 @@
 -- Assumes nothing.
 use Rattle.rules.specs.Calls.{insert}
 use Rattle.listing.proofs.Outcomes.{changed-shut, changed-open, change-long}
+use Rattle.reading.proofs.Gated.{open-headed}
 use borrow.Author.Needs.{needs}
 use Rattle.changing.proofs.insert.Statement.{statement}
 use Rattle.changing.proofs.insert.Tie as tie
@@ -19,8 +20,7 @@ insert-at-requires : tie.Need-insert-at-requires
 insert-at-requires c κs =
     let g = c .before .before in
     let q = g .before .before .change-gate .ensures in
-    let y = rw (g .gate2 .given .1) at (q .1) in
-    (change-long _ _ (q .0) (g .gate2 .given .1), record { own = y .0; good = y .1 })
+    (change-long _ _ (q .0) (g .gate2 .given .1), open-headed _ _ (q .1) (g .gate2 .given .1))
 
 returns : tie.Need-returns
 returns c =

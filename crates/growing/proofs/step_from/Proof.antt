@@ -2,6 +2,7 @@
 -- Assumes nothing.
 use Rattle.listing.proofs.Outcomes.{change-long}
 use Rattle.growing.proofs.Stepping.{step-shut, step-open}
+use Rattle.reading.proofs.Gated.{open-headed}
 use borrow.Author.Needs.{needs}
 use Rattle.growing.proofs.step_from.Statement.{statement}
 use Rattle.growing.proofs.step_from.Tie as tie
@@ -22,8 +23,7 @@ step-at-requires : tie.Need-step-at-requires
 step-at-requires c κs =
     let g = c .before .before in
     let q = g .before .before .change-gate .ensures in
-    let y = rw (g .gate2 .given .1) at (q .1) in
-    (change-long _ _ (q .0) (g .gate2 .given .1), record { own = y .0; good = y .1 })
+    (change-long _ _ (q .0) (g .gate2 .given .1), open-headed _ _ (q .1) (g .gate2 .given .1))
 
 returns : tie.Need-returns
 returns c = let g = c .before .before in step-shut _ _ _ (g .before .before .change-gate .ensures .0) (g .gate .given .1) (c .unplaced .ensures)

@@ -23,14 +23,14 @@ impl Imports {
 
     fn insert_to_twin(&self) -> Limit {
         let ratio = |measured: &Measured| {
-            let middle = measured.ratio_to_twin()?;
-            Some((middle.median, format!("{}, c = {}", measured.operation, measured.c)))
+            let median = measured.ratio_to_twin().map_or(f64::NAN, |middle| middle.median);
+            (median, format!("{}, c = {}", measured.operation, measured.c))
         };
         let [smaller, larger] = TARGET_CAPACITIES;
         Limit::of_worst(
             format!("time of an insert as a multiple of the twin's, c = {smaller} and {larger}"),
             Bound::AtMost(INSERT_TO_TWIN),
-            self.inserts.iter().filter_map(ratio),
+            self.inserts.iter().map(ratio),
         )
     }
 
@@ -45,49 +45,21 @@ impl Imports {
 
     fn import_to_before(&self) -> Limit {
         let ratio = |times: &ImportTimes| {
-            let middle = times.library.ratio(AFTER, BEFORE)?;
-            Some((middle.median, format!("at c = {}", times.library.c)))
+            let median = times.library.ratio(AFTER, BEFORE).map_or(f64::NAN, |middle| middle.median);
+            (median, format!("at c = {}", times.library.c))
         };
         Limit::of_worst(
             "time of an import as a multiple of that before".to_string(),
             Bound::AtMost(MOST_TO_BEFORE),
-            self.times.iter().filter_map(ratio),
+            self.times.iter().map(ratio),
         )
     }
 }
 
 #[cfg(test)]
 mod tests {
-    use super::super::BuildCounts;
+    use super::super::examples::imports;
     use super::*;
-    use crate::instructions::Count;
-    use crate::peers::{LIBRARY, TWIN};
-    use crate::rounds::Series;
-
-    fn measured(c: u64, operation: &str, times: [(&'static str, f64); 2]) -> Measured {
-        let series = times.map(|(peer, time)| Series { peer, rounds: vec![time] }).into();
-        Measured { c, operation: operation.to_string(), series }
-    }
-
-    /// With these times of inserts at c = 14 and 18, and of imports at c = 8 and 18, where the others take 100.
-    fn imports(inserts: [f64; 2], instructions: f64, after: [f64; 2]) -> Imports {
-        let insert = |(c, time)| measured(c, "insert", [(LIBRARY, time), (TWIN, 100.0)]);
-        let import = |(c, time)| ImportTimes {
-            library: measured(c, "import", [(BEFORE, 100.0), (AFTER, time)]),
-            twin: measured(c, "import", [(BEFORE, 100.0), (AFTER, 100.0)]),
-        };
-        let counts = || {
-            let [before, after, twin] =
-                [400.0, instructions, 200.0].map(|instructions| Count { instructions, mispredicted: 0.0 });
-            BuildCounts { before, after, twin }
-        };
-        Imports {
-            times: [8, 18].into_iter().zip(after).map(import).collect(),
-            inserts: [14, 18].into_iter().zip(inserts).map(insert).collect(),
-            insert_counts: counts(),
-            import_counts: counts(),
-        }
-    }
 
     #[test]
     fn what_is_within_its_limits() {

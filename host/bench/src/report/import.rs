@@ -79,3 +79,23 @@ fn instruction_table(imports: &Imports) -> String {
         import, on average.";
     table(title, &heads(&names), rows)
 }
+
+#[cfg(test)]
+mod tests {
+    use super::*;
+    use crate::import::examples;
+
+    #[test]
+    fn what_was_before_stands_under_before() {
+        let text = imports(&examples::imports([110.0, 120.0], 300.0, [80.0, 90.0]), 1);
+        let rows = [
+            "| 8 | 1 | 100 | 80.0 | **0.80** | 0.80 to 0.80 | 100 | **0.80** | 0.80 to 0.80 | 2.00 |",
+            "| 18 | 1 | 100 | 90.0 | **0.90** | 0.90 to 0.90 | 100 | **0.90** | 0.90 to 0.90 | 2.00 |",
+            "| insert, c = 12, load 0.8 | 400 | 300 | 200 | **0.75** | **1.50** | 0.00 | 0.00 | 0.00 |",
+            "| insert | 110 | 100 | **1.10** | 1.10 to 1.10 |",
+        ];
+        for row in rows {
+            assert!(text.lines().any(|line| line == row), "{row}\n{text}");
+        }
+    }
+}
