@@ -49,7 +49,8 @@ fn emptier(t: &[u64], h: Header, first: Place, second: Place) -> Place
     first
 }
 
-// The same of the emptier of a key's two places in the n-th level in use. That both are full is tested first: in a loaded table the top mostly is.
+// The same of the emptier of a key's two places in the n-th level in use: 0 is the top, 1 the bottom. That both are full is tested first:
+// in a loaded table the top mostly is.
 pub fn room(t: &[u64], h: Header, x: Hashes, n: usize) -> Placing
     requires { ⌜ GoodState 20 (h .state) × (n < length (levelsInUse (h .state))) × LevelWithin (now t) (nthLevel (h .state) n) ⌝ }
     ensures { λ r. ⌜ (optional r ≡ Option·map free (roomIn (now (t .entry)) h x (nthLevel (h .state) n))) × PlacingWithin (now (t .entry)) r ⌝ }

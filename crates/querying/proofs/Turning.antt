@@ -132,7 +132,8 @@ module _ (s : State) (x : Hashes) (i : ℕ) {p : Place} where
   second-turn e q = rw (ne-eqb _ _ e) q
 
 -- the place of a turn is the one before the next
-pub last-next : (s : State) (x : Hashes) (i : ℕ) {p : Place} → p ≡ nthPlace s x i → (i + 1 ≡ 0 → ⊥) → p .bucket ≡ nthPlace s x (i + 1 - 1) .bucket
+pub last-next : (s : State) (x : Hashes) (i : ℕ) {p : Place} → p ≡ nthPlace s x i → (i + 1 ≡ 0 → ⊥)
+    → p .bucket ≡ nthPlace s x (i + 1 - 1) .bucket
 last-next s x i q e = let k : i + 1 - 1 ≡ i = omega arith in rw (k, q)
 
 -- a place of a turn lies in the table

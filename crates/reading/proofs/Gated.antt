@@ -60,7 +60,8 @@ passed g h (y ∷ ts) e x i = go (y .0) refl e (λ f j. passed g h ts f x j)
     go true q e k = ⊎-elim (λ (j : x ≡ y). rw j q) (λ (j : In x ts). k e j) (List·Memᴰ·cases-cons i)
     go false q e k = absurd (let z : _≡_ {A = ℕ} 0 1 = cc in omega arith)
 
-pub gate-passed : (t : Table) (ts : List (Bool × Refusal)) {g : Gate} {h : Header} → g ≡ gateOf t ts → g ≡ Open h → (x : Bool × Refusal) → In x ts → x .0 ≡ true
+pub gate-passed : (t : Table) (ts : List (Bool × Refusal)) {g : Gate} {h : Header} → g ≡ gateOf t ts → g ≡ Open h
+    → (x : Bool × Refusal) → In x ts → x .0 ≡ true
 unfolding gateOf
 gate-passed t ts e q = passed (headerOf t) _ ts (sym e ∙ q)
 

@@ -2,24 +2,18 @@
 -- Assumes nothing.
 use Prim.Native.Nat.{ℕ, zero, suc, _+_, _-_, _*_, _/_, _%_, _^_, _≤_, _<_}
 use mathlib.Core.Path.{_≡_, sym, ap, _∙_}
-use mathlib.Core.Bool.{Bool, true, false, cond}
 use mathlib.Core.List.{[], _∷_}
 use native.Mathlib.Omega.{arith}
 use native.Mathlib.Nat.{sub-zero, pow-suc, mul-comm, mod-lt, div-div-eq-div-mul}
 use lib.Bits.{and-mask}
-use lib.ListN.{length}
 use lib.Pow.{pow-pos}
-use Rattle.rules.specs.Words.{GoodState, atRest, sizeOf, topOf, interimOf, levelsInUse, placeAt}
+use Rattle.rules.specs.Words.{sizeOf, placeAt}
 use Rattle.rules.specs.Places.{firstPlace, secondPlace, placesIn}
-use Rattle.rules.specs.declared.State.{State}
 use Rattle.rules.specs.declared.Level.{Level}
 use Rattle.rules.specs.declared.Hashes.{Hashes}
 use Rattle.rules.specs.declared.Place.{Place}
-use Rattle.rules.proofs.Basics.Walks.{stands-at}
-use Rattle.rules.proofs.Words.States.{state-fits, interim-least}
-use Rattle.rules.proofs.Words.Levels.{levels-counted, third-level, earlier-level}
 use Rattle.rules.proofs.Places.Probing.{places-one, places-two}
-use Rattle.reading.specs.Levels.{nthLevel, placeFrom, placeIn}
+use Rattle.reading.specs.Levels.{placeFrom, placeIn}
 
 -- a level's first bucket is all ones in binary, and so picks the remainder by the level's size
 pub placed : (l : Level) (hash : ℕ) {first : ℕ} {p : Place} → first ≡ sizeOf l - 1 → p ≡ placeFrom (l .name) first hash
@@ -30,23 +24,7 @@ placed l hash {p = p} e q = (there, rw there (omega (arith, pow-pos (l .exponent
     there : p ≡ placeAt l (sizeOf l - 1 + hash % sizeOf l)
     there = rw (q, e, and-mask hash (l .exponent))
 
--- the levels in use halve, and are named by their number
-pub nth-halved : (s : State) → GoodState 20 s → (n : ℕ) → n < length (levelsInUse s)
-    → (n ≤ s .k) × (nthLevel s n ≡ record { name = n; exponent = s .k - n })
-unfolding interimOf
-nth-halved s good zero l = (omega arith, stands-at (topOf s) (levelsInUse s) 0 (earlier-level s 0 l (λ e. omega arith) .1))
-nth-halved s good (suc zero) l =
-    (omega (arith, state-fits 20 s good), stands-at (topOf s) (levelsInUse s) 1 (earlier-level s 1 l (λ e. omega arith) .1))
-nth-halved s good (suc (suc zero)) l =
-    let third = third-level s l in
-    (interim-least 20 s good (third .0), stands-at (topOf s) (levelsInUse s) 2 (third .1))
-nth-halved s good (suc (suc (suc n))) l = absurd (most (atRest s) (rw (levels-counted s) at l))
-  where
-    most : (b : Bool) → suc (suc (suc n)) < cond b 2 3 → ⊥
-    most true k = omega arith
-    most false k = omega arith
-
--- and so do their ones
+-- where sizes halve, so do the ones in their first buckets
 pub ones-fewer : (k n : ℕ) → n ≤ k → (2 ^ k - 1) / 2 ^ n ≡ 2 ^ (k - n) - 1
 ones-fewer k zero l = rw sub-zero (omega arith)
 ones-fewer zero (suc n) l = absurd (omega arith)

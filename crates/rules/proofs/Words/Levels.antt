@@ -10,13 +10,14 @@ use mathlib.Core.Logic.{_⊎_, inl, inr, ⊎-elim}
 use native.Mathlib.Omega.{arith}
 use native.Mathlib.Decide.{decLe}
 use native.Mathlib.Nat.{sub-zero}
-use lib.ListN.{length, drop}
+use lib.ListN.{length, getD, drop}
 use lib.Pow.{pow-pos, pow-mono}
 use Rattle.rules.specs.Words.{GoodState, atRest, top, bottom, interim, topOf, bottomOf, interimOf, levelsInUse, InLevel}
 use Rattle.rules.specs.declared.State.{State}
 use Rattle.rules.specs.declared.Level.{Level}
 use Rattle.rules.proofs.Basics.Lists.{Ascending, ascending-compare}
-use Rattle.rules.proofs.Words.States.{state-fits, interim-fits}
+use Rattle.rules.proofs.Basics.Walks.{stands-at}
+use Rattle.rules.proofs.Words.States.{state-fits, interim-fits, interim-least}
 
 -- a level in use is the top, the bottom or, but for at rest, the interim level
 abbrev pub OfThree : State → Level → Type 0
@@ -137,3 +138,19 @@ earlier-level s (suc (suc n)) l other = absurd (most (atRest s) (rw (levels-coun
     most : (b : Bool) → suc (suc n) < cond b 2 3 → ⊥
     most true l = omega arith
     most false l = other (omega arith)
+
+-- so each has half the buckets of the one before, and its number for a name
+pub nth-halved : (c : ℕ) (s : State) → GoodState c s → (n : ℕ) → n < length (levelsInUse s)
+    → (n ≤ s .k) × (getD (levelsInUse s) n (topOf s) ≡ record { name = n; exponent = s .k - n })
+unfolding interimOf
+nth-halved c s good zero l = (omega arith, stands-at (topOf s) (levelsInUse s) 0 (earlier-level s 0 l (λ e. omega arith) .1))
+nth-halved c s good (suc zero) l =
+    (omega (arith, state-fits c s good), stands-at (topOf s) (levelsInUse s) 1 (earlier-level s 1 l (λ e. omega arith) .1))
+nth-halved c s good (suc (suc zero)) l =
+    let third = third-level s l in
+    (interim-least c s good (third .0), stands-at (topOf s) (levelsInUse s) 2 (third .1))
+nth-halved c s good (suc (suc (suc n))) l = absurd (most (atRest s) (rw (levels-counted s) at l))
+  where
+    most : (b : Bool) → suc (suc (suc n)) < cond b 2 3 → ⊥
+    most true k = omega arith
+    most false k = omega arith

@@ -79,7 +79,8 @@ changesTest store b w s = ltb (store w s) 16 && below 4 (λ z. eqb (bitOf (store
 module _ (h : Header) where
   -- "Token bit s is 1 when slot s is taken."
   pub token-bits : (w : ℕ) → w < 16
-      → (isTaken h w 0 ≡ eqb (w / 1 % 2) 1) × (isTaken h w 1 ≡ eqb (w / 2 % 2) 1) × (isTaken h w 2 ≡ eqb (w / 4 % 2) 1) × (isTaken h w 3 ≡ eqb (w / 8 % 2) 1)
+      → (isTaken h w 0 ≡ eqb (w / 1 % 2) 1) × (isTaken h w 1 ≡ eqb (w / 2 % 2) 1) × (isTaken h w 2 ≡ eqb (w / 4 % 2) 1)
+      × (isTaken h w 3 ≡ eqb (w / 8 % 2) 1)
   unfolding isTaken
   token-bits w l = rw (number-of-low w l) (refl, refl, refl, refl)
 

@@ -5,7 +5,8 @@ use native.Mathlib.Omega.{arith}
 use lib.Pow.{pow-mono, shr-le}
 use borrow.Author.Needs.{needs}
 use Rattle.rules.proofs.Words.States.{state-fits}
-use Rattle.reading.proofs.Placed.{nth-halved, ones-fewer}
+use Rattle.rules.proofs.Words.Levels.{nth-halved}
+use Rattle.reading.proofs.Placed.{ones-fewer}
 use Rattle.reading.proofs.levels.nth_first.Statement.{statement}
 use Rattle.reading.proofs.levels.nth_first.Tie as tie
 
@@ -16,12 +17,12 @@ sub-result : tie.Need-sub-result
 sub-result c = search needs
 
 shr-result : tie.Need-shr-result
-shr-result c = let s = c .before in omega (arith, state-fits 20 _ (s .pre .0), nth-halved _ (s .pre .0) _ (s .pre .1) .0)
+shr-result c = let s = c .before in omega (arith, state-fits 20 _ (s .pre .0), nth-halved 20 _ (s .pre .0) _ (s .pre .1) .0)
 
 returns : tie.Need-returns
 returns c =
     let s = c .before in
-    let halved = nth-halved _ (s .pre .0) _ (s .pre .1) in
+    let halved = nth-halved 20 _ (s .pre .0) _ (s .pre .1) in
     let size = c .power .ensures .0 in
     let low : 2 ^ s .args .s .k ≤ 2 ^ 20 = pow-mono (state-fits 20 _ (s .pre .0) .1) in (
       rw (halved .1, size) (ones-fewer (s .args .s .k) (s .args .n) (halved .0)),

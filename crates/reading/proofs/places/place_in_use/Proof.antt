@@ -3,8 +3,9 @@
 use mathlib.Core.Path.{ap}
 use borrow.Author.Needs.{needs}
 use Rattle.rules.specs.declared.Level.{Level}
+use Rattle.rules.proofs.Words.Levels.{nth-halved}
 use Rattle.reading.specs.Levels.{nthLevel}
-use Rattle.reading.proofs.Placed.{nth-halved, placed}
+use Rattle.reading.proofs.Placed.{placed}
 use Rattle.reading.proofs.places.place_in_use.Statement.{statement}
 use Rattle.reading.proofs.places.place_in_use.Tie as tie
 
@@ -17,7 +18,7 @@ place-from-requires c κs = search needs
 returns : tie.Need-returns
 returns c =
     let s = c .before .before in
-    let named = ap (λ (l : Level). l .name) (nth-halved _ (s .pre .0) _ (s .pre .1) .1) in
+    let named = ap (λ (l : Level). l .name) (nth-halved 20 _ (s .pre .0) _ (s .pre .1) .1) in
     placed (nthLevel (s .args .s) (s .args .n)) _ (c .before .nth-first .ensures .0) (rw named (c .place-from .ensures))
 
 pub place-in-use-spec : {M : Type 1} → statement M
