@@ -1,0 +1,5 @@
+pub mod Searching
+pub mod Inserting
+pub mod Crediting
+pub mod Counting
+pub mod Sentences
