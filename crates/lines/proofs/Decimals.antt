@@ -8,6 +8,8 @@ use mathlib.Core.Option.{some}
 use mathlib.Core.Logic.{Iff·rfl}
 use native.Mathlib.Omega.{arith}
 use borrow.Author.Tests.{ltb-true, ltb-false, lt-ltb, le-ltb, leb-true, le-leb, eqb-false, not-true}
+use lib.ListN.{length, length-append}
+use lib.Pow.{pow-add}
 use lib.Seq.{append-snoc}
 use lib.Dec.{ltb, leb, eqb}
 use Rattle.rules.specs.Choice.{all}
@@ -143,3 +145,20 @@ decimal-spelt ds v e =
           ∙ ap decimalText (g .1),
       rw (g .1) at (ltb-true (valueFrom 0 ds) (2 ^ 64) (all-yes tests (g .0) 2)),
     )
+
+-- ---- how many there are
+
+-- a number below 10^(k + 1) has at most k + 1 digits
+pub digits-few : (n k v : ℕ) → v < 10 ^ (k + 1) → length (digitsIn n v) ≤ k + 1
+unfolding digitsIn
+digits-few zero k v l = omega arith
+digits-few (suc n) k v l = go (ltb v 10) refl k l (λ j h. digits-few n j (v / 10) h)
+  where
+    go : (b : Bool) → ltb v 10 ≡ b → (j : ℕ) → v < 10 ^ (j + 1) → ((i : ℕ) → v / 10 < 10 ^ (i + 1) → length (digitsIn n (v / 10)) ≤ i + 1)
+        → length (cond b [] (digitsIn n (v / 10)) ++ ((48 + v % 10) ∷ [])) ≤ j + 1
+    go true e j h tenth = omega arith
+    go false e zero h tenth = absurd (omega (arith, ltb-false v 10 e, h))
+    go false e (suc j) h tenth =
+        let same : 10 ^ (suc j + 1) ≡ 10 ^ (j + 1 + 1) = ap (λ (i : ℕ). 10 ^ i) (omega arith) in
+        let below : v / 10 < 10 ^ (j + 1) = omega (arith, h, pow-add 10 (j + 1) 1) in
+        omega (arith, length-append (digitsIn n (v / 10)) ((48 + v % 10) ∷ []), tenth j below)

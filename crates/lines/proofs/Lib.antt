@@ -1,6 +1,7 @@
 mod Beginnings
 mod Rows
 mod Digits
-mod Decimals
+pub mod Decimals
 pub mod Only
 pub mod Texts
+pub mod Samples

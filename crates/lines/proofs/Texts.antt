@@ -53,7 +53,7 @@ textsSay Bad g = absurd g
 
 -- ---- no other bytes say a line
 
-begins-split : (text line : List ℕ) → begins text line ≡ true → line ≡ text ++ drop (length text) line
+pub begins-split : (text line : List ℕ) → begins text line ≡ true → line ≡ text ++ drop (length text) line
 begins-split [] line e = refl
 begins-split (x ∷ xs) [] e = never e refl
 begins-split (x ∷ xs) (y ∷ ys) e =

@@ -8,7 +8,7 @@ ghost use lib.ListN.{drop};
 ghost use lib.Dec.{ltb};
 ghost use Rattle.lines.specs.Lines.{decimalOf, rowAt, wholeLine};
 ghost use Rattle.lines.specs.Found.{digitsFrom, decimalFound, startOf, textsOf, findIn};
-ghost use Rattle.lines.specs.Promises.{Parsed};
+ghost use Rattle.lines.specs.Promises.{Parsed, SampleParsed};
 
 // The names that a number may have.
 pub enum Name {
@@ -49,6 +49,13 @@ const TEXTS: [u8; 170] = *b"key=      \
                             top=      \
                             mul1=     \
                             mul2=     ";
+
+// What a line of a ledger says: a sample of a key, or one that is bad; or it does not begin as a sample does.
+pub enum Sample {
+    Key(u64),
+    Bad,
+    Other,
+}
 
 const NO_RECORD: Record = Record {
     function: 0,
@@ -205,5 +212,20 @@ pub fn parse(line: &[u8]) -> Line
     match found {
         Found::Row(row, at) => whole(line, at, says(row)),
         Found::Not => Line::Bad,
+    }
+}
+
+// Request d), "lines `sample=` with a key". Any bytes may be handed in.
+pub fn parse_sample(line: &[u8]) -> Sample
+    ensures { λ r. ⌜ SampleParsed (now (line .entry)) r (now (line .exit)) ⌝ }
+{
+    let start = starts(line, b"sample=");
+    let Start::Bytes(at) = start else {
+        return Sample::Other;
+    };
+    let number = read_decimal(line, at);
+    match number {
+        Decimal::Value(key) => Sample::Key(key),
+        Decimal::Not => Sample::Bad,
     }
 }

@@ -91,6 +91,10 @@ pub record HasMap (t : Table) (m : PlainMap) : Type 0 where
   pub stands : (x : Slot) → TakenSlot t x → m (keyIn t x) ≡ some (recordIn t x)
   pub only : (key : ℕ) (r : Record) → m key ≡ some r → (x : Slot) × TakenSlot t x × (keyIn t x ≡ key) × (recordIn t x ≡ r)
 
+-- computed: the record of the first taken slot with the key. On a sound table there is no other
+unfoldable pub mapOf : Table → PlainMap
+mapOf t key = firstOf (λ (x : Slot). given (eqb (keyIn t x) key) (recordIn t x)) (takenSlots t)
+
 -- ---- "Recovery accepts exactly three kinds of table"
 
 -- "by top, bottom, interim, then bucket and slot ascending"

@@ -1,41 +1,23 @@
 -- Every good line is shorter than the room for a line, and so the bytes that are held tell what the line says.
 -- Assumes nothing.
-use Prim.Native.Nat.{ℕ, zero, suc, _+_, _/_, _%_, _^_, _≤_, _<_}
+use Prim.Native.Nat.{ℕ, suc, _+_, _≤_, _<_}
 use mathlib.Core.Path.{_≡_, refl, sym, ap, _∙_}
-use mathlib.Core.Bool.{Bool, true, false, cond}
-use mathlib.Core.List.{List, [], _∷_, _++_}
+use mathlib.Core.List.{List, []}
 use native.Mathlib.Omega.{arith}
 use native.Mathlib.Decide.{decLe}
 use lib.ListN.{length, take, length-append}
-use lib.Dec.{ltb}
-use lib.Pow.{pow-add}
 use lib.Seq.{length-take-le, take-all}
-use borrow.Author.Tests.{ltb-false}
 use Rattle.rules.specs.declared.ScriptCall.{ScriptCall}
 use Rattle.rules.specs.declared.ScriptCall.the-variants.{Query, Insert, Update, Delete, Begin, Step, End, Recover}
 use Rattle.lines.specs.Lines.{bytes, nameText, eventText, lineOf}
-use Rattle.lines.specs.Texts.{digitsIn, decimalText, lineText, Good}
+use Rattle.lines.specs.Texts.{decimalText, lineText, Good}
 use Rattle.lines.specs.declared.Name.{Name}
 use Rattle.lines.specs.declared.Name.the-variants.{Cap, Top, Mul1, Mul2, Key, Fn, At, After}
 use Rattle.lines.specs.declared.Line.{Line}
 use Rattle.lines.specs.declared.Line.the-variants.{Number, Event, Cut, Bad}
+use Rattle.lines.proofs.Decimals.{digits-few}
 use Rattle.lines.proofs.Texts.{onlyTextsSay}
 use Rattle.running.specs.Runs.{lineRoom}
-
--- a number below 10^(k + 1) has at most k + 1 digits
-digits-few : (n k v : ℕ) → v < 10 ^ (k + 1) → length (digitsIn n v) ≤ k + 1
-unfolding digitsIn
-digits-few zero k v l = omega arith
-digits-few (suc n) k v l = go (ltb v 10) refl k l (λ j h. digits-few n j (v / 10) h)
-  where
-    go : (b : Bool) → ltb v 10 ≡ b → (j : ℕ) → v < 10 ^ (j + 1) → ((i : ℕ) → v / 10 < 10 ^ (i + 1) → length (digitsIn n (v / 10)) ≤ i + 1)
-        → length (cond b [] (digitsIn n (v / 10)) ++ ((48 + v % 10) ∷ [])) ≤ j + 1
-    go true e j h tenth = omega arith
-    go false e zero h tenth = absurd (omega (arith, ltb-false v 10 e, h))
-    go false e (suc j) h tenth =
-        let same : 10 ^ (suc j + 1) ≡ 10 ^ (j + 1 + 1) = ap (λ (i : ℕ). 10 ^ i) (omega arith) in
-        let below : v / 10 < 10 ^ (j + 1) = omega (arith, h, pow-add 10 (j + 1) 1) in
-        omega (arith, length-append (digitsIn n (v / 10)) ((48 + v % 10) ∷ []), tenth j below)
 
 name-few : (n : Name) → length (bytes (nameText n)) ≤ 6
 name-few Cap = omega arith

@@ -104,7 +104,7 @@ twin-mended t m x y w order =
 -- ---- the log made again
 
 -- a store to the function or place of slot x
-abbrev OfRecord : Slot → Store → Type 0
+abbrev pub OfRecord : Slot → Store → Type 0
 OfRecord x s = (keyWord x + 1 ≤ s .0) × (s .0 ≤ keyWord x + 2)
 
 module _ (t : Table) (x : Slot) (f : FlaggedTable t x) (xs : List Store) (record-only : Each (OfRecord x) xs) where
@@ -137,7 +137,7 @@ module _ (t : Table) (x : Slot) (f : FlaggedTable t x) (xs : List Store) (record
   }
 
   -- flag, log, token and key stay
-  still-flagged : FlaggedTable (made t xs) x
+  pub still-flagged : FlaggedTable (made t xs) x
   unfolding targetOf keysOf keyIn keyWord tokenWord taken
   still-flagged =
       let u = made t xs in

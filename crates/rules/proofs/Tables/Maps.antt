@@ -7,7 +7,7 @@ use lib.Dec.{eqb}
 use borrow.Author.Tests.{eqb-true, eqb-false}
 use Rattle.rules.specs.Choice.{given, firstOf}
 use Rattle.rules.specs.Words.{Table, keyIn, recordIn}
-use Rattle.rules.specs.Soundness.{takenSlots, TakenSlot, SoundTable, PlainMap, HasMap}
+use Rattle.rules.specs.Soundness.{takenSlots, TakenSlot, SoundTable, PlainMap, HasMap, mapOf}
 use Rattle.rules.specs.Demands.{MapExists}
 use Rattle.rules.specs.declared.Slot.{Slot}
 use Rattle.rules.specs.declared.Record.{Record}
@@ -16,33 +16,33 @@ use Rattle.rules.proofs.Tables.Twins.{taken-in, in-taken}
 
 module _ (t : Table) where
   -- a taken slot's record, under its key
-  under : ℕ → Slot → Option Record
+  abbrev under : ℕ → Slot → Option Record
   under key x = given (eqb (keyIn t x) key) (recordIn t x)
 
-  -- the record of the first taken slot with the key
-  pub mapOf : PlainMap
-  mapOf key = firstOf (under key) (takenSlots t)
-
   -- what the map has is a taken slot's
-  map-slot : (key : ℕ) (r : Record) → mapOf key ≡ some r → (x : Slot) × TakenSlot t x × (keyIn t x ≡ key) × (recordIn t x ≡ r)
-  unfolding mapOf under
+  map-slot : (key : ℕ) (r : Record) → mapOf t key ≡ some r → (x : Slot) × TakenSlot t x × (keyIn t x ≡ key) × (recordIn t x ≡ r)
+  unfolding mapOf
   map-slot key r e =
       let f = firstOf-some (under key) (takenSlots t) r e in
       let g = given-some (eqb (keyIn t (f .found)) key) (recordIn t (f .found)) r (f .gives) in
       (f .found, taken-in t (f .found) (f .inside), eqb-true _ _ (g .0), g .1)
 
-  map-none : (key : ℕ) → mapOf key ≡ none → (x : Slot) → TakenSlot t x → keyIn t x ≡ key → ⊥
-  unfolding mapOf under
+  map-none : (key : ℕ) → mapOf t key ≡ none → (x : Slot) → TakenSlot t x → keyIn t x ≡ key → ⊥
+  unfolding mapOf
   map-none key e x u = eqb-false _ _ (given-none _ (recordIn t x) (firstOf-none (under key) (takenSlots t) e x (in-taken t x u)))
 
-  sound-map : SoundTable t → HasMap t mapOf
-  sound-map s = record { stands = λ x u. go x u (mapOf (keyIn t x)) refl; only = map-slot }
+  -- a key has one record, wherever it stands
+  pub record-map : ((x y : Slot) → TakenSlot t x → TakenSlot t y → keyIn t x ≡ keyIn t y → recordIn t x ≡ recordIn t y) → HasMap t (mapOf t)
+  record-map one = record { stands = λ x u. go x u (mapOf t (keyIn t x)) refl; only = map-slot }
     where
-      go : (x : Slot) → TakenSlot t x → (o : Option Record) → mapOf (keyIn t x) ≡ o → o ≡ some (recordIn t x)
+      go : (x : Slot) → TakenSlot t x → (o : Option Record) → mapOf t (keyIn t x) ≡ o → o ≡ some (recordIn t x)
       go x u none q = absurd (map-none (keyIn t x) q x u refl)
       go x u (some r) q =
           let y = map-slot (keyIn t x) r q in
-          ap some (sym (y .3) ∙ ap (recordIn t) (s .alone (y .0) x (y .1) u (y .2)))
+          ap some (sym (y .3) ∙ one (y .0) x (y .1) u (y .2))
+
+  pub sound-map : SoundTable t → HasMap t (mapOf t)
+  sound-map s = record-map (λ x y a b e. ap (recordIn t) (s .alone x y a b e))
 
   -- two maps of one table agree
   maps-agree : (m n : PlainMap) → HasMap t m → HasMap t n → (key : ℕ) → n key ≡ m key
