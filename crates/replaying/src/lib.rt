@@ -8,6 +8,7 @@ use rules::Change;
 use rules::Query;
 use rules::Verdict;
 pub use turns::begun;
+pub use turns::evented;
 pub use turns::finish;
 pub use turns::take_line;
 

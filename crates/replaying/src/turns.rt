@@ -94,7 +94,8 @@ fn answered(p: Replay, next: Script, answer: Answer) -> Turn
     }
 }
 
-fn evented(p: Replay, next: Script, room: &mut [u64], call: ScriptCall, cut: Cut) -> Turn
+// Carries out one event, which the script need not have.
+pub fn evented(p: Replay, next: Script, room: &mut [u64], call: ScriptCall, cut: Cut) -> Turn
     ensures { λ r. ⌜ TurnIs (askedOf (now (room .entry)) p next (askEvent call cut)) r (now (room .exit)) ⌝ }
 {
     let lent = least(p.words, room.len());

@@ -31,13 +31,13 @@ enum-told-2 : tie.Need-enum-told-2
 enum-told-2 c = search needs
 
 returns-2 : tie.Need-returns-2
-returns-2 c = 
+returns-2 c =
     let d = c .before .before .before in
     let s = d .before .before in
     record { answer = sample-key _ (s .before .before .starts .ensures) (s .start .given .1) (d .read-decimal .ensures) (c .before .number .given .1); stays = refl }
 
 returns-3 : tie.Need-returns-3
-returns-3 c = 
+returns-3 c =
     let d = c .before .before in
     let s = d .before .before in
     record { answer = sample-bad _ (s .before .before .starts .ensures) (s .start .given .1) (d .read-decimal .ensures) (c .enum-told2 .given .1); stays = refl }

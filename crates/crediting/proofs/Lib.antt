@@ -1,0 +1,4 @@
+pub mod Stages
+pub mod Steps
+pub mod Figures
+pub mod Whole
