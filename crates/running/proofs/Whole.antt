@@ -20,11 +20,11 @@ use Rattle.running.proofs.Lengths.{line-enough}
 
 -- ---- lines whose first begins with bytes that were read before
 
-abbrev some-held : List ℕ → Bool → Bool
+abbrev pub some-held : List ℕ → Bool → Bool
 some-held [] torn = torn
 some-held (b ∷ bs) torn = true
 
-abbrev prefixed : List ℕ → List (List ℕ) × Bool → List (List ℕ) × Bool
+abbrev pub prefixed : List ℕ → List (List ℕ) × Bool → List (List ℕ) × Bool
 prefixed read ([], torn) = ([], some-held read torn)
 prefixed read (l ∷ ls, torn) = ((read ++ l) ∷ ls, torn)
 
@@ -36,11 +36,11 @@ held-true : (read : List ℕ) → some-held read true ≡ true
 held-true [] = refl
 held-true (x ∷ read) = refl
 
-prefixed-joined : (read : List ℕ) (b : ℕ) (s : List (List ℕ) × Bool) → prefixed read (joined b s) ≡ prefixed (read ++ (b ∷ [])) s
+pub prefixed-joined : (read : List ℕ) (b : ℕ) (s : List (List ℕ) × Bool) → prefixed read (joined b s) ≡ prefixed (read ++ (b ∷ [])) s
 prefixed-joined read b ([], torn) = rw (held-true read, held-one read b torn)
 prefixed-joined read b (l ∷ ls, torn) = rw (append-assoc read (b ∷ []) l)
 
-prefixed-nothing : (s : List (List ℕ) × Bool) → prefixed [] s ≡ s
+pub prefixed-nothing : (s : List (List ℕ) × Bool) → prefixed [] s ≡ s
 prefixed-nothing ([], torn) = refl
 prefixed-nothing (l ∷ ls, torn) = refl
 
@@ -52,7 +52,7 @@ pub record Holds (read line : List ℕ) (held : ℕ) : Type 0 where
   pub count : held ≡ min (length read) lineRoom
   pub bytes : take held line ≡ take lineRoom read
 
-holds-more : (read line : List ℕ) (held byte : ℕ) → Holds read line held
+pub holds-more : (read line : List ℕ) (held byte : ℕ) → Holds read line held
     → Holds (read ++ (byte ∷ [])) (heldAfter line held byte .1) (heldAfter line held byte .0)
 holds-more read line held byte h = go (decLe lineRoom held)
   where
@@ -81,10 +81,10 @@ holds-more read line held byte h = go (decLe lineRoom held)
           bytes = ap (λ (k : ℕ). take k (set line held byte)) one ∙ next ∙ rw (h .bytes, all, both);
         })
 
-holds-nothing : (line : List ℕ) → length line ≡ lineRoom → Holds [] line 0
+pub holds-nothing : (line : List ℕ) → length line ≡ lineRoom → Holds [] line 0
 holds-nothing line long = record { long = long; count = refl; bytes = refl }
 
-held-some : (read line : List ℕ) (held : ℕ) → Holds read line held → ltb 0 held ≡ some-held read false
+pub held-some : (read line : List ℕ) (held : ℕ) → Holds read line held → ltb 0 held ≡ some-held read false
 held-some [] line held h = le-ltb 0 held (omega (arith, h .count))
 held-some (b ∷ read) line held h = lt-ltb 0 held (omega (arith, h .count))
 

@@ -62,9 +62,9 @@ answersTo room input = answers room begun (map lineOf (split input .0)) (split i
 abbrev pub ready : Run
 ready = record { replay = begun; held = 0 }
 
--- as many bytes of a line as are held: one more than the longest good line has
+-- as many bytes of a line as are held: one more than the longest good line has, a ledger's `sample=` with twenty digits
 abbrev pub lineRoom : ℕ
-lineRoom = 27
+lineRoom = 28
 
 -- a byte is held where there is place
 abbrev pub heldAfter : List ℕ → ℕ → ℕ → ℕ × List ℕ

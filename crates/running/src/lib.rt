@@ -10,8 +10,9 @@ use replaying::take_line;
 ghost use mathlib.Core.Path.{_≡_};
 ghost use Rattle.running.specs.Runs.{ready as readyOf, HeldIs, LineTaken, ByteTaken, known as knownOf, endOf};
 
-// As many bytes of a line as are held: one more than the longest good line has, so that so many bytes tell that a line is bad.
-pub const LINE_ROOM: usize = 27;
+// As many bytes of a line as are held: one more than the longest good line has, a ledger's `sample=` with twenty digits. So many bytes tell
+// that a line is bad.
+pub const LINE_ROOM: usize = 28;
 
 // Where a run stands: in its replay, and how many bytes of the line are held.
 pub struct Run {
@@ -32,7 +33,7 @@ pub fn ready() -> Run
 }
 
 // One byte more of a line, as far as there is place.
-fn hold(line: &mut [u8; LINE_ROOM], held: usize, byte: u8) -> usize
+pub fn hold(line: &mut [u8; LINE_ROOM], held: usize, byte: u8) -> usize
     ensures { λ r. ⌜ HeldIs (now (line .entry)) held byte r (now (line .exit)) ⌝ }
 {
     if held < LINE_ROOM {

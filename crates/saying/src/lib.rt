@@ -17,7 +17,7 @@ ghost use Rattle.saying.specs.Texts.{foundLines, textOf};
 ghost use Rattle.saying.specs.Writing.{Put, PutLines, PutAll, lineWith};
 
 // Puts the first `count` bytes of a text into a buffer from byte `at` on, and answers the next free byte.
-fn copy(text: &[u8], count: usize, out: &mut [u8], at: usize) -> usize
+pub fn copy(text: &[u8], count: usize, out: &mut [u8], at: usize) -> usize
     requires { ⌜ (count ≤ length (now text)) × (at + count ≤ length (now out)) ⌝ }
     ensures { λ r. ⌜ Put (take count (now (text .entry))) at (now (out .entry)) r (now (out .exit)) × (r ≡ at + count) ⌝ }
 {
@@ -28,7 +28,7 @@ fn copy(text: &[u8], count: usize, out: &mut [u8], at: usize) -> usize
 }
 
 // The same into the buffer that is lent to `say`.
-fn copy_text(text: &[u8], count: usize, out: &mut [u8; 128], at: usize) -> usize
+pub fn copy_text(text: &[u8], count: usize, out: &mut [u8; 128], at: usize) -> usize
     requires { ⌜ (count ≤ length (now text)) × (at + count ≤ 128) ⌝ }
     ensures { λ r. ⌜ Put (take count (now (text .entry))) at (now (out .entry)) r (now (out .exit)) × (r ≡ at + count) ⌝ }
 {
@@ -44,7 +44,7 @@ fn copy_digits(digits: &[u8; 20], count: usize, out: &mut [u8; 128], at: usize) 
 }
 
 // Puts a number's decimal, and answers as `copy` does.
-fn tell(number: u64, out: &mut [u8; 128], at: usize) -> usize
+pub fn tell(number: u64, out: &mut [u8; 128], at: usize) -> usize
     requires { ⌜ at + 20 ≤ 128 ⌝ }
     ensures { λ r. ⌜ Put (decimalText number) at (now (out .entry)) r (now (out .exit)) × (r ≤ at + 20) ⌝ }
 {
@@ -54,7 +54,7 @@ fn tell(number: u64, out: &mut [u8; 128], at: usize) -> usize
 }
 
 // Puts a line, of a name with its `=` and a number, "ended by a newline", and answers as `copy` does.
-fn line(name: &[u8], number: u64, out: &mut [u8; 128], at: usize) -> usize
+pub fn line(name: &[u8], number: u64, out: &mut [u8; 128], at: usize) -> usize
     requires { ⌜ at + length (now name) + 21 ≤ 128 ⌝ }
     ensures { λ r. ⌜ Put (lineWith (now (name .entry)) number) at (now (out .entry)) r (now (out .exit)) × (r ≤ at + length (now (name .entry)) + 21) ⌝ }
 {
