@@ -7,16 +7,30 @@ use saying::copy;
 use saying::copy_text;
 use saying::line;
 use saying::tell;
+ghost use Prim.Native.Nat.{_+_, _*_, _≤_};
+ghost use mathlib.Core.Path.{_≡_};
+ghost use lib.ListN.{length, take};
+ghost use Rattle.tallying.specs.Credits.{Orderly};
+ghost use Rattle.saying.specs.Writing.{Put, lineWith};
+ghost use Rattle.crediting.specs.Books.{figuresIn, reportAt};
+ghost use Rattle.reporting.specs.Texts.{functionText, functionTexts, countsText};
+ghost use Rattle.reporting.specs.Promises.{longest, Reported};
 
 // Puts a line, of a name with its `=` and a number, from byte `at` on, and answers the next free byte.
-fn put_line(name: &[u8], value: u64, out: &mut [u8], at: usize) -> usize {
+fn put_line(name: &[u8], value: u64, out: &mut [u8], at: usize) -> usize
+    requires { ⌜ (length (now name) ≤ 8) × (at + length (now name) + 21 ≤ length (now out)) ⌝ }
+    ensures { λ r. ⌜ Put (lineWith (now (name .entry)) value) at (now (out .entry)) r (now (out .exit)) × (r ≤ at + length (now (name .entry)) + 21) ⌝ }
+{
     let mut text = [0u8; 128];
     let n = line(name, value, &mut text, 0);
     copy(&text[..n], n, out, at)
 }
 
 // "one `fn` line for each function ascending (as `fn10=3`)"
-fn put_function(function: u64, samples: u64, out: &mut [u8], at: usize) -> usize {
+fn put_function(function: u64, samples: u64, out: &mut [u8], at: usize) -> usize
+    requires { ⌜ at + 44 ≤ length (now out) ⌝ }
+    ensures { λ r. ⌜ Put (functionText function samples) at (now (out .entry)) r (now (out .exit)) × (r ≤ at + 44) ⌝ }
+{
     let mut text = [0u8; 128];
     let named = copy_text(b"fn", 2, &mut text, 0);
     let told = tell(function, &mut text, named);
@@ -26,7 +40,18 @@ fn put_function(function: u64, samples: u64, out: &mut [u8], at: usize) -> usize
     copy(&text[..n], n, out, at)
 }
 
-fn put_functions(functions: &[u64], samples: &[u64], used: usize, out: &mut [u8], start: usize) -> usize {
+// A line for each of the first functions.
+fn put_functions(
+    functions: &[u64],
+    samples: &[u64],
+    used: usize,
+    out: &mut [u8],
+    start: usize,
+) -> usize
+    requires { ⌜ (used ≤ length (now functions)) × (used ≤ length (now samples)) × (start + 44 * used ≤ length (now out)) ⌝ }
+    ensures { λ r. ⌜ Put (functionTexts (take used (now (functions .entry))) (take used (now (samples .entry)))) start (now (out .entry)) r (now (out .exit))
+        × (r ≤ start + 44 * used) ⌝ }
+{
     let mut at = start;
     for i in 0..used {
         at = put_function(functions[i], samples[i], out, at);
@@ -35,7 +60,10 @@ fn put_functions(functions: &[u64], samples: &[u64], used: usize, out: &mut [u8]
 }
 
 // "Lines, in order: `samples=`, `none=`, one `fn` line for each function ascending (as `fn10=3`), `other=`, `buckets=`."
-fn put_counts(c: Counts, functions: &[u64], samples: &[u64], out: &mut [u8]) -> usize {
+fn put_counts(c: Counts, functions: &[u64], samples: &[u64], out: &mut [u8]) -> usize
+    requires { ⌜ Orderly (c .tally .used) (now functions) (now samples) × (longest ≤ length (now out)) ⌝ }
+    ensures { λ r. ⌜ Put (countsText (figuresIn c (now (functions .entry)) (now (samples .entry)))) 0 (now (out .entry)) r (now (out .exit)) ⌝ }
+{
     let tally = c.tally;
     let second = put_line(b"samples=", c.samples, out, 0);
     let third = put_line(b"none=", c.missing, out, second);
@@ -45,7 +73,11 @@ fn put_counts(c: Counts, functions: &[u64], samples: &[u64], out: &mut [u8]) -> 
 }
 
 // Puts a ledger's report at the front of a buffer, and answers how many bytes it has.
-pub fn report(l: Ledger, functions: &[u64], samples: &[u64], out: &mut [u8]) -> usize {
+pub fn report(l: Ledger, functions: &[u64], samples: &[u64], out: &mut [u8]) -> usize
+    requires { ⌜ Orderly (l .counts .tally .used) (now functions) (now samples) × (longest ≤ length (now out)) ⌝ }
+    ensures { λ r. ⌜ Reported (reportAt (l .stage) (figuresIn (l .counts) (now (functions .entry)) (now (samples .entry)))) (now (out .entry)) r
+        (now (out .exit)) ⌝ }
+{
     let stage = l.stage;
     let counts = l.counts;
     match stage {
