@@ -58,7 +58,7 @@ pub struct Ledger {
 
 // Before the first line.
 pub fn opened() -> Ledger
-    ensures { λ r. ⌜ ((room f s : List ℕ) → bookOf r room f s ≡ emptyBook room) ⌝ }
+    ensures { λ r. ⌜ ((room f s : List ℕ) → bookOf r room f s ≡ emptyBook room) × (r .counts .tally .used ≡ 0) ⌝ }
 {
     let replay = begun();
     let tally = nothing();

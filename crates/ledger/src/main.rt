@@ -11,11 +11,22 @@ use posting::ready;
 use posting::take_part;
 use reporting::report;
 use running::LINE_ROOM;
+use tallying::MOST;
+ghost use Prim.Native.Nat.{ℕ, _≤_};
+ghost use mathlib.Core.Path.{_≡_};
+ghost use mathlib.Core.List.{List};
+ghost use lib.ListN.{length};
+ghost use Rattle.rules.specs.Words.{wordsFor};
+ghost use Rattle.tallying.specs.Credits.{Orderly};
+ghost use Rattle.posting.specs.Posts.{begun, postOf};
+ghost use Rattle.reporting.specs.Promises.{longest};
+ghost use Rattle.ledger.specs.Parts.{turnedTo, OrderlyTurn, writtenAfter, Fronted, ReadSome, Ran};
 
-// How reading goes on: there may be more; the report is known, or the input has ended; or a read has failed.
+// How the program goes on: it reads more; the report is known; the input has ended; or a read has failed.
 enum Outcome {
     Going,
-    Over,
+    Known,
+    Ended,
     Unread,
 }
 
@@ -33,12 +44,16 @@ fn read_some(
     line: &mut [u8; LINE_ROOM],
     input: &mut [u8],
 ) -> Turn
+    requires { ⌜ Orderly (p .ledger .counts .tally .used) (now functions) (now samples) ⌝ }
+    ensures { λ r. ⌜ ReadSome (postOf p (now (room .entry)) (now (functions .entry)) (now (samples .entry)) (now (line .entry))) (now (input .exit)) r
+        (turnedTo r (now (room .exit)) (now (functions .exit)) (now (samples .exit)) (now (line .exit)))
+        × OrderlyTurn r (now (functions .exit)) (now (samples .exit)) ⌝ }
 {
     let ledger = p.ledger;
     if known(ledger) {
         return Turn {
             posting: p,
-            outcome: Outcome::Over,
+            outcome: Outcome::Known,
         };
     }
     let got = libc::read(STDIN_FILENO, input);
@@ -52,7 +67,7 @@ fn read_some(
     if n == 0 {
         return Turn {
             posting: p,
-            outcome: Outcome::Over,
+            outcome: Outcome::Ended,
         };
     }
     let next = take_part(p, room, functions, samples, line, &input[..n]);
@@ -70,6 +85,10 @@ fn read_all(
     line: &mut [u8; LINE_ROOM],
     input: &mut [u8],
 ) -> Turn
+    requires { ⌜ (wordsFor 8 ≤ length (now room)) × (length (now functions) ≡ 512) × (length (now samples) ≡ 512) ⌝ }
+    ensures { λ r. ⌜ Ran (begun (now (room .entry)) (now (line .entry))) (r .outcome)
+        (turnedTo r (now (room .exit)) (now (functions .exit)) (now (samples .exit)) (now (line .exit)))
+        × OrderlyTurn r (now (functions .exit)) (now (samples .exit)) ⌝ }
 {
     let mut posting = ready();
     let mut parts: u64 = 0;
@@ -96,27 +115,61 @@ fn complain(text: &[u8]) {
     io::write_all(STDERR_FILENO, text);
 }
 
-fn write_report(p: Posting, room: &mut [u64], functions: &[u64], samples: &[u64], out: &mut [u8]) {
+// Whether the report was written.
+fn write_report(
+    p: Posting,
+    room: &mut [u64],
+    functions: &[u64],
+    samples: &[u64],
+    out: &mut [u8],
+) -> bool
+    requires { ⌜ Orderly (p .ledger .counts .tally .used) (now functions) (now samples) × (longest ≤ length (now out)) ⌝ }
+    ensures { λ _. ⌜ ((line : List ℕ) → Fronted (now (out .exit))
+        (writtenAfter (postOf p (now (room .entry)) (now (functions .entry)) (now (samples .entry)) line))) ⌝ }
+{
     let ledger = end(p, room);
     let n = report(ledger, functions, samples, out);
-    if !io::write_all(STDOUT_FILENO, &out[..n]) {
+    io::write_all(STDOUT_FILENO, &out[..n])
+}
+
+// A program cannot end with a status of its own. So a failure is told on standard error, where nothing else is written: whoever
+// starts the program takes any text there for a failure.
+fn conclude(last: Turn, room: &mut [u64], functions: &[u64], samples: &[u64], out: &mut [u8])
+    requires { ⌜ OrderlyTurn last (now functions) (now samples) × (longest ≤ length (now out)) ⌝ }
+{
+    let outcome = last.outcome;
+    let posting = last.posting;
+    match outcome {
+        Outcome::Unread => {
+            complain(b"ragansils: standard input could not be read\n");
+            return;
+        }
+        Outcome::Going => {
+            complain(b"ragansils: standard input has more parts than can be counted\n");
+            return;
+        }
+        Outcome::Known => {}
+        Outcome::Ended => {}
+    }
+    if !write_report(posting, room, functions, samples, out) {
         complain(b"ragansils: the report could not be written\n");
     }
 }
 
+// The room holds a table of the largest cap, 8.
 fn main() {
     let mut words = [0u64; 6652];
-    let mut functions = [0u64; 512];
-    let mut samples = [0u64; 512];
+    let mut functions = [0u64; MOST];
+    let mut samples = [0u64; MOST];
     let mut line = [0u8; LINE_ROOM];
     let mut input = io::large_buffer();
     let mut out = io::large_buffer();
-    let last = read_all(&mut words, &mut functions, &mut samples, &mut line, &mut input);
-    let posting = last.posting;
-    let outcome = last.outcome;
-    match outcome {
-        Outcome::Over => write_report(posting, &mut words, &functions, &samples, &mut out),
-        Outcome::Unread => complain(b"ragansils: standard input could not be read\n"),
-        Outcome::Going => complain(b"ragansils: standard input has more parts than can be counted\n"),
-    }
+    let last = read_all(
+        &mut words,
+        &mut functions,
+        &mut samples,
+        &mut line,
+        &mut input,
+    );
+    conclude(last, &mut words, &functions, &samples, &mut out);
 }

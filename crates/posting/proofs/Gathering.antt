@@ -130,7 +130,7 @@ pub passed-none : (p : Posting) (room f s line part : List ℕ) → Orderly (p .
 passed-none p room f s line part o = record { within = omega arith; same = refl; orderly = o }
 
 module _ {x : Post} {part : List ℕ} {at : ℕ} {p : Posting} {room f s line : List ℕ} (d : Passed x part at p room f s line) (more : at < length part)
-  (got : Gathered) (held : List ℕ) (g : GatheredIs line (p .held) (take (length part - at) (drop at part)) got held) where
+    (got : Gathered) (held : List ℕ) (g : GatheredIs line (p .held) (take (length part - at) (drop at part)) got held) where
   -- all that is left of the part is lent
   rest-lent : take (length part - at) (drop at part) ≡ drop at part
   rest-lent = take-all (length part - at) (drop at part) (omega (arith, length-drop at part))

@@ -22,7 +22,7 @@ pub struct Posting {
 
 // Before the first byte.
 pub fn ready() -> Posting
-    ensures { λ r. ⌜ ((room f s line : List ℕ) → postOf r room f s line ≡ begun room line) ⌝ }
+    ensures { λ r. ⌜ ((room f s line : List ℕ) → postOf r room f s line ≡ begun room line) × (r .ledger .counts .tally .used ≡ 0) ⌝ }
 {
     let ledger = opened();
     Posting { ledger, held: 0 }

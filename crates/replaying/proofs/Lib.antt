@@ -3,3 +3,4 @@ pub mod Rooms
 pub mod Taken
 pub mod Sentences
 pub mod Only
+pub mod Enough

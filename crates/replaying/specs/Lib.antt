@@ -1,3 +1,4 @@
 pub mod Events
 pub mod Replays
 pub mod Sentences
+pub mod Rooms

@@ -63,7 +63,7 @@ module _ (fs ns : List ℕ) (start : ℕ) (l : List ℕ) where
   lines-more i a b d p few =
       let same : length (take i fs) ≡ length (take i ns) = length-take-le i fs (omega arith) ∙ sym (length-take-le i ns (omega arith)) in
       let one : functionTexts (take (i + 1) fs) (take (i + 1) ns) ≡ functionTexts (take i fs) (take i ns) ++ functionText (getD fs i 0) (getD ns i 0) = rw
-          (add-one, take-suc fs i 0 a, take-suc ns i 0 b) (texts-more (take i fs) (take i ns) (getD fs i 0) (getD ns i 0) same) in
+      (add-one, take-suc fs i 0 a, take-suc ns i 0 b) (texts-more (take i fs) (take i ns) (getD fs i 0) (getD ns i 0) same) in
       record { put = rw one (then (d .put) p); few = omega (arith, d .few, few) }
 
   pub lines-all : {i n at : ℕ} {m : List ℕ} → i ≤ n → n ≤ i → Lines fs ns start l i at m

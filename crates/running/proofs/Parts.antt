@@ -3,7 +3,7 @@
 use Prim.Native.Nat.{ℕ}
 use mathlib.Core.Path.{_≡_, refl, sym, ap, _∙_}
 use mathlib.Core.Bool.{Bool, true, false, cond}
-use mathlib.Core.List.{List, [], _∷_, _++_}
+use mathlib.Core.List.{List, [], _∷_, _++_, append-assoc, append-nil}
 use native.Mathlib.Omega.{arith}
 use lib.ListN.{take}
 use lib.Dec.{eqb, ltb}
@@ -21,7 +21,7 @@ use Rattle.replaying.specs.declared.Answer.{Answer}
 use Rattle.replaying.specs.declared.Answer.the-variants.{Nothing}
 use Rattle.replaying.specs.declared.Replay.{Replay}
 use Rattle.running.specs.Runs.{heldAfter, After, byteTaken, overAt, endOf, fed, silent, spoken, KnownIsAll, UnknownIsNotAll, Stand}
-use Rattle.running.specs.Runs.{afterByte, afterBytes, answersIn, PartsAreFed}
+use Rattle.running.specs.Runs.{afterByte, afterBytes, answersIn, together, PartsAreFed}
 
 -- ---- parts
 
@@ -29,6 +29,10 @@ pub partsAreFed : PartsAreFed
 unfolding afterBytes answersIn
 partsAreFed s [] later = refl
 partsAreFed s (b ∷ bs) later = ap (λ (rest : List Answer). byteTaken (s .run) (s .room) (s .line) b .answer ∷ rest) (partsAreFed (afterByte s b) bs later)
+
+pub together-last : (ps : List (List ℕ)) (p : List ℕ) → together (ps ++ (p ∷ [])) ≡ together ps ++ p
+together-last [] p = append-nil p
+together-last (q ∷ ps) p = rw (together-last ps p, append-assoc q (together ps) p)
 
 pub after-more : (s : Stand) (xs ys : List ℕ) → afterBytes s (xs ++ ys) ≡ afterBytes (afterBytes s xs) ys
 unfolding afterBytes

@@ -174,6 +174,11 @@ unfoldable pub answersIn : Stand → List ℕ → List Answer
 answersIn s [] = []
 answersIn s (b ∷ bs) = byteTaken (s .run) (s .room) (s .line) b .answer ∷ answersIn (afterByte s b) bs
 
+-- parts one after the other, as one input
+abbrev pub together : List (List ℕ) → List ℕ
+together [] = []
+together (p ∷ ps) = p ++ together ps
+
 -- a part and then the rest is all of it: the parts may be cut anywhere
 abbrev pub PartsAreFed : Type 0
 PartsAreFed = (s : Stand) (part later : List ℕ) → fed (s .run) (s .room) (s .line) (part ++ later)

@@ -15,15 +15,16 @@ use lib.Seq.{take-suc, take-add, take-all, length-take-le}
 use denote.Enum.Declared.{tagOf}
 use types.Run.{OneOf}
 use Rattle.replaying.specs.declared.Answer.{Answer}
-use Rattle.running.specs.Runs.{lineRoom, ready, byteTaken, TakenIs, known, endOf, fed, Stand, afterByte, afterBytes, answersIn}
+use Rattle.replaying.specs.Rooms.{RoomFor}
+use Rattle.running.specs.Runs.{lineRoom, ready, byteTaken, TakenIs, known, endOf, fed, Stand, afterByte, afterBytes, answersIn, together}
 use Rattle.running.specs.declared.Run.{Run}
 use Rattle.running.specs.declared.Taken.{Taken}
-use Rattle.running.proofs.Parts.{partsAreFed, after-more, answers-more, knownIsAll}
+use Rattle.running.proofs.Parts.{partsAreFed, together-last, after-more, answers-more, knownIsAll}
 use Rattle.saying.specs.Texts.{textOf}
 use Rattle.saying.specs.Writing.{Put}
 use Rattle.saying.proofs.Puts.{put-length, put-text}
 use Rattle.script.specs.Outputs.{outputTo}
-use Rattle.script.specs.Parts.{begun, textIn, joined, pauses, texts, PartsWritten, KnownPartsWritten, TookSome, TookPart, RoomFor, WentOn}
+use Rattle.script.specs.Parts.{begun, textIn, pauses, texts, PartsWritten, KnownPartsWritten, TookSome, TookPart, WentOn}
 use Rattle.script.specs.Parts.{ReadSome, Behind, Ran}
 use Rattle.script.specs.declared.Took.{Took}
 use Rattle.script.specs.declared.Part.{Part}
@@ -47,10 +48,10 @@ pub text-more : (s : Stand) (xs ys : List ℕ) → textIn s (xs ++ ys) ≡ textI
 unfolding textIn
 text-more s xs ys = ap (flatMap textOf) (answers-more s xs ys) ∙ text-append (answersIn s xs) (answersIn (afterBytes s xs) ys)
 
-texts-joined : (s : Stand) (parts : List (List ℕ)) → texts s parts ≡ textIn s (joined parts)
+texts-together : (s : Stand) (parts : List (List ℕ)) → texts s parts ≡ textIn s (together parts)
 unfolding textIn answersIn flatMap
-texts-joined s [] = refl
-texts-joined s (p ∷ ps) = ap (λ (later : List ℕ). textIn s p ++ later) (texts-joined (afterBytes s p) ps) ∙ sym (text-more s p (joined ps))
+texts-together s [] = refl
+texts-together s (p ∷ ps) = ap (λ (later : List ℕ). textIn s p ++ later) (texts-together (afterBytes s p) ps) ∙ sym (text-more s p (together ps))
 
 -- ---- all that is written
 
@@ -70,21 +71,21 @@ module _ (room line : List ℕ) (long : length line ≡ lineRoom) where
       ∙ ap (flatMap textOf) (sym (partsAreFed s part later))
       ∙ bytesWritten room line (part ++ later) long
 
-  ended : (parts : List (List ℕ)) → texts s parts ++ textOf (endOf (afterBytes s (joined parts) .run)) ≡ outputTo room (joined parts)
+  ended : (parts : List (List ℕ)) → texts s parts ++ textOf (endOf (afterBytes s (together parts) .run)) ≡ outputTo room (together parts)
   unfolding later-text flatMap
   ended parts =
-      let whole = fed-text (joined parts) [] in
-      ap (λ (x : List ℕ). x ++ textOf (endOf (afterBytes s (joined parts) .run))) (texts-joined s parts)
+      let whole = fed-text (together parts) [] in
+      ap (λ (x : List ℕ). x ++ textOf (endOf (afterBytes s (together parts) .run))) (texts-together s parts)
       ∙ rw (append-nil, append-nil) at whole
 
-  over : (parts : List (List ℕ)) (later : List ℕ) → known (afterBytes s (joined parts) .run) ≡ true → texts s parts ≡ outputTo room (joined parts ++ later)
+  over : (parts : List (List ℕ)) (later : List ℕ) → known (afterBytes s (together parts) .run) ≡ true → texts s parts ≡ outputTo room (together parts ++ later)
   unfolding later-text flatMap
   over parts later k =
-      let u = afterBytes s (joined parts) in
+      let u = afterBytes s (together parts) in
       let all = fed (u .run) (u .room) (u .line) later in
       let none : later-text u later ≡ [] = sym (spoken-text all) ∙ ap (flatMap textOf) (knownIsAll (u .run) (u .room) (u .line) later k) in
-      let whole = fed-text (joined parts) later in
-      texts-joined s parts ∙ sym (append-nil (textIn s (joined parts))) ∙ ap (λ (x : List ℕ). textIn s (joined parts) ++ x) (sym none) ∙ whole
+      let whole = fed-text (together parts) later in
+      texts-together s parts ∙ sym (append-nil (textIn s (together parts))) ∙ ap (λ (x : List ℕ). textIn s (together parts) ++ x) (sym none) ∙ whole
 
 pub partsWritten : PartsWritten
 unfolding s
@@ -343,22 +344,18 @@ read-onward {s} {input} {r} {u} t = go (known (s .run)) refl
 
 -- ---- all parts
 
-joined-last : (ps : List (List ℕ)) (p : List ℕ) → joined (ps ++ (p ∷ [])) ≡ joined ps ++ p
-joined-last [] p = append-nil p
-joined-last (q ∷ ps) p = rw (joined-last ps p, append-assoc q (joined ps) p)
-
 pub behind-none : (room line : List ℕ) {run : Run} → run ≡ ready → Behind (begun room line) 0 (record { run = run; room = room; line = line })
 behind-none room line e = record { parts = []; stand = rw e (sym (after-none (begun room line))); long = omega arith }
 
 -- one part more
 behind-more : {s u v : Stand} {n : ℕ} {r : Turn} → Behind s n u → (o : Onward u r v) → (m : ℕ) → m ≤ n + length (o .part) → Behind s m v
 behind-more {s} {u} {v} {n} b o m few =
-    let all = joined-last (b .parts) (o .part) in
+    let all = together-last (b .parts) (o .part) in
     record {
       parts = b .parts ++ (o .part ∷ []);
-      stand = o .stand ∙ ap (λ (x : Stand). afterBytes x (o .part)) (b .stand) ∙ sym (after-more s (joined (b .parts)) (o .part))
+      stand = o .stand ∙ ap (λ (x : Stand). afterBytes x (o .part)) (b .stand) ∙ sym (after-more s (together (b .parts)) (o .part))
           ∙ ap (afterBytes s) (sym all);
-      long = omega (arith, few, b .long, ap length all ∙ length-append (joined (b .parts)) (o .part));
+      long = omega (arith, few, b .long, ap length all ∙ length-append (together (b .parts)) (o .part));
     }
 
 pub behind-next : {s u v : Stand} {n : ℕ} {input : List ℕ} {r : Turn} → Behind s n u → ReadSome u input r v → r .outcome ≡ Going → Behind s (n + 1) v

@@ -7,15 +7,8 @@ use mathlib.Core.List.{List, [], _∷_, _++_, flatMap}
 use mathlib.Core.Logic.{_⊎_}
 use lib.ListN.{length, take}
 use lib.Dec.{ltb}
-use Rattle.rules.specs.Words.{wordsFor}
-use Rattle.rules.specs.Demands.{GoodCreation}
-use Rattle.rules.specs.declared.Verdict.the-variants.{Done}
-use Rattle.following.specs.declared.Script.{Script}
-use Rattle.following.specs.declared.Asked.the-variants.{Table as askTable}
-use Rattle.replaying.specs.Replays.{askedOf}
-use Rattle.replaying.specs.declared.Answer.the-variants.{Created}
-use Rattle.replaying.specs.declared.Replay.{Replay}
-use Rattle.running.specs.Runs.{lineRoom, ready, known, endOf, Stand, afterBytes, answersIn}
+use Rattle.replaying.specs.Rooms.{RoomFor}
+use Rattle.running.specs.Runs.{lineRoom, ready, known, endOf, Stand, afterBytes, answersIn, together}
 use Rattle.running.specs.declared.Run.{Run}
 use Rattle.saying.specs.Texts.{textOf}
 use Rattle.script.specs.Outputs.{outputTo}
@@ -36,11 +29,7 @@ begun room line = standing ready room line
 unfoldable pub textIn : Stand → List ℕ → List ℕ
 textIn s part = flatMap textOf (answersIn s part)
 
--- parts one after the other: as one input, and their texts
-abbrev pub joined : List (List ℕ) → List ℕ
-joined [] = []
-joined (p ∷ ps) = p ++ joined ps
-
+-- the texts of parts one after the other
 abbrev pub texts : Stand → List (List ℕ) → List ℕ
 texts s [] = []
 texts s (p ∷ ps) = textIn s p ++ texts (afterBytes s p) ps
@@ -50,28 +39,13 @@ texts s (p ∷ ps) = textIn s p ++ texts (afterBytes s p) ps
 -- the texts of the parts, and where the input has ended that of the end, are what the whole input is answered
 abbrev pub PartsWritten : Type 0
 PartsWritten = (room line : List ℕ) (parts : List (List ℕ)) → length line ≡ lineRoom
-    → texts (begun room line) parts ++ textOf (endOf (afterBytes (begun room line) (joined parts) .run)) ≡ outputTo room (joined parts)
+    → texts (begun room line) parts ++ textOf (endOf (afterBytes (begun room line) (together parts) .run)) ≡ outputTo room (together parts)
 
 -- where the answer is known the texts of the parts are all of it, whatever the input has after them
 abbrev pub KnownPartsWritten : Type 0
 KnownPartsWritten = (room line : List ℕ) (parts : List (List ℕ)) (later : List ℕ) → length line ≡ lineRoom
-    → known (afterBytes (begun room line) (joined parts) .run) ≡ true
-    → texts (begun room line) parts ≡ outputTo room (joined parts ++ later)
-
--- ---- the room
-
--- the words of every table up to cap 8
-abbrev pub RoomFor : List ℕ → Type 0
-RoomFor room = (c : ℕ) → c ≤ 8 → length (take (wordsFor c) room) ≡ wordsFor c
-
--- "Program cap is at most 8": in as many words as the largest table has, which `main` lends, there is room for each
-abbrev pub RoomIsEnough : Type 0
-RoomIsEnough = (room : List ℕ) → wordsFor 8 ≤ length room → RoomFor room
-
--- so `made=13` is never answered for want of room: with a good c, k and multipliers the table is made
-abbrev pub RoomMakesAll : Type 0
-RoomMakesAll = (room : List ℕ) → RoomFor room → (p : Replay) (next : Script) (c k mul1 mul2 : ℕ) → c ≤ 8 → GoodCreation (wordsFor c) c k mul1 mul2
-    → askedOf room p next (askTable c k mul1 mul2) .answer ≡ Created Done
+    → known (afterBytes (begun room line) (together parts) .run) ≡ true
+    → texts (begun room line) parts ≡ outputTo room (together parts ++ later)
 
 -- ---- what the program's functions promise. s is where the run stood, and u is where it stands at exit
 
@@ -114,8 +88,8 @@ pub record ReadSome (s : Stand) (input : List ℕ) (r : Turn) (u : Stand) : Type
 -- so many bytes or more were read, in parts, and the run stands behind them
 pub record Behind (s : Stand) (count : ℕ) (u : Stand) : Type 0 where
   pub parts : List (List ℕ)
-  pub stand : u ≡ afterBytes s (joined parts)
-  pub long : count ≤ length (joined parts)
+  pub stand : u ≡ afterBytes s (together parts)
+  pub long : count ≤ length (together parts)
 
 -- All parts are taken, in their order. The answer is said to be known only where it is, and the program stops while it could go on
 -- only behind 2^64 − 1 bytes or more. Its room has the words of every table that it may be asked for

@@ -19,7 +19,7 @@ nothing-requires c κs = search needs
 
 -- src/lib.rt:60:1
 returns : tie.Need-returns
-returns c = λ room f s. rw (c .before .begun .ensures, c .nothing .ensures .0, c .nothing .ensures .1)
+returns c = (λ room f s. rw (c .before .begun .ensures, c .nothing .ensures .0, c .nothing .ensures .1), c .nothing .ensures .0)
 
 pub opened-spec : {M : Type 1} → statement M
 opened-spec = tie.close (tie.spec begun-requires nothing-requires returns)

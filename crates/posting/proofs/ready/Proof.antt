@@ -13,7 +13,7 @@ opened-requires c κs = search needs
 
 -- src/lib.rt:25:1
 returns : tie.Need-returns
-returns c = λ room f s line. rw (c .opened .ensures room f s)
+returns c = (λ room f s line. rw (c .opened .ensures .0 room f s), c .opened .ensures .1)
 
 pub ready-spec : {M : Type 1} → statement M
 ready-spec = tie.close (tie.spec opened-requires returns)

@@ -59,8 +59,12 @@ loop-less c = let t = taken-some (c .before .before .before .before .before .bef
 
 -- src/lib.rt:98:5
 loop-again : tie.Need-loop-again Inv-loop μ-loop
-loop-again c = (search needs, search needs, search needs,
-    passed-more (c .before .before .before .before .before .before .before .before .before .before .before .before .before .before .before .before .before .loop .inv .3) (c .before .before .before .before .before .before .before .before .before .before .before .before .before .before .before .before .loop-test .taken) _ _ (c .before .before .before .before .before .before .before .before .before .before .before .before .gather .ensures) (c .before .before .before .before .before .before .take-gathered .ensures))
+loop-again c = (
+  search needs,
+  search needs,
+  search needs,
+  passed-more (c .before .before .before .before .before .before .before .before .before .before .before .before .before .before .before .before .before .loop .inv .3) (c .before .before .before .before .before .before .before .before .before .before .before .before .before .before .before .before .loop-test .taken) _ _ (c .before .before .before .before .before .before .before .before .before .before .before .before .gather .ensures) (c .before .before .before .before .before .before .take-gathered .ensures),
+)
 
 -- src/lib.rt:84:1
 same-length : tie.Need-same-length Inv-loop μ-loop

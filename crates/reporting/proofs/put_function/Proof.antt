@@ -55,9 +55,10 @@ slice-aggregate-copy c = put-lent (c .before .copy-text3 .ensures .0)
 
 -- src/lib.rt:40:5
 copy-requires : tie.Need-copy-requires
-copy-requires c κs = let p = c .before .before in
-    (omega (arith, put-lent (p .copy-text3 .ensures .0)),
-    omega (arith, c .before .before .before .before .before .before .before .before .before .before .before .before .before .before .before .before .pre, p .copy-text3 .ensures .1, c .before .before .before .before .before .tell2 .ensures .1, c .before .before .before .before .before .before .before .copy-text2 .ensures .1, c .before .before .before .before .before .before .before .before .before .before .tell .ensures .1, c .before .before .before .before .before .before .before .before .before .before .before .before .copy-text .ensures .1))
+copy-requires c κs = let p = c .before .before in (
+  omega (arith, put-lent (p .copy-text3 .ensures .0)),
+  omega (arith, c .before .before .before .before .before .before .before .before .before .before .before .before .before .before .before .before .pre, p .copy-text3 .ensures .1, c .before .before .before .before .before .tell2 .ensures .1, c .before .before .before .before .before .before .before .copy-text2 .ensures .1, c .before .before .before .before .before .before .before .before .before .before .tell .ensures .1, c .before .before .before .before .before .before .before .before .before .before .before .before .copy-text .ensures .1),
+)
 
 -- src/lib.rt:30:1
 same-length : tie.Need-same-length

@@ -7,7 +7,7 @@ use lib.ListN.{length}
 use borrow.Author.Needs.{needs}
 use Rattle.script.specs.Parts.{begun, Behind}
 use Rattle.script.proofs.Parts.{behind-none, behind-next, not-going, ran, ran-on}
-use Rattle.script.proofs.Rooms.{roomIsEnough}
+use Rattle.replaying.proofs.Enough.{roomIsEnough}
 use Rattle.script.proofs.read_all.Statement.{statement}
 use Rattle.script.proofs.read_all.Tie as tie
 

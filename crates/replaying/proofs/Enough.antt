@@ -1,4 +1,4 @@
--- The program's room is enough for every table that it makes.
+-- A program's room is enough for every table that it makes.
 -- Assumes nothing.
 use Prim.Native.Nat.{ℕ, _+_, _^_, _≤_}
 use mathlib.Core.Path.{_≡_, refl}
@@ -19,10 +19,10 @@ use Rattle.rules.proofs.Calls.Creating.{createAnswers}
 use Rattle.rules.proofs.Calls.Meanings.{verdict-one}
 use Rattle.following.specs.declared.Script.{Script}
 use Rattle.following.specs.declared.Asked.the-variants.{Table as askTable}
 use Rattle.replaying.specs.Replays.{askedOf}
 use Rattle.replaying.specs.declared.Answer.the-variants.{Created as CreatedAs}
 use Rattle.replaying.specs.declared.Replay.{Replay}
-use Rattle.script.specs.Parts.{RoomIsEnough, RoomMakesAll}
+use Rattle.replaying.specs.Rooms.{RoomIsEnough, RoomMakesAll}
 
 words-grow : (c : ℕ) → c ≤ 8 → wordsFor c ≤ wordsFor 8
 unfolding wordsFor
