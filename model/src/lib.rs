@@ -1,6 +1,7 @@
 //! An independent model of the level hashing table of document 01, the paper that fixes the table and its calls,
-//! with two requests of document 02: a), the inlined callers of an address, and b), the growth step that passes
-//! over items without a place; and with the request that comes after them, the step that goes on from a bucket.
+//! with three requests of document 02: a), the inlined callers of an address, b), the growth step that passes
+//! over items without a place, and d), the sample ledger; and with a request of its own that comes after b), the
+//! step that goes on from a bucket.
 //!
 //! From the bottom up:
 //! - `layout`: where words, buckets, slots and levels stand;
@@ -11,7 +12,9 @@
 //! - `calls`: the twelve calls, over raw words;
 //! - `event`: the changing calls and recovery, as values;
 //! - `script_lines`: reading the lines of a script;
-//! - `script`: the script program.
+//! - `script_events`: a script's header and events, read and performed;
+//! - `script`: the script program;
+//! - `ledger`: the sample ledger.
 //!
 //! NOTES.md tells how the documents were read where they leave a doubt.
 
@@ -20,18 +23,22 @@
 mod calls;
 mod event;
 mod layout;
+mod ledger;
 mod placing;
 mod recovery;
 mod refusal;
 mod script;
+mod script_events;
 mod script_lines;
 mod table;
 
 pub use calls::{begin, chain, create, delete, end, insert, make, query, recover, step, step_from, update};
 pub use event::Event;
 pub use layout::{table_words, word, Level, Slot, LEAST_LIST_WORDS, SLOTS_PER_BUCKET};
+pub use ledger::{run as run_ledger, MOST_COUNTED_FUNCTIONS};
 pub use recovery::{keys_in_several_slots, misplaced_items, untidy_buckets, update_target};
 pub use refusal::{Refusal, SUCCESS};
-pub use script::{run as run_script, LARGEST_PROGRAM_CAPACITY};
-pub use script_lines::LONGEST_LINE;
+pub use script::run as run_script;
+pub use script_events::LARGEST_PROGRAM_CAPACITY;
+pub use script_lines::{LONGEST_LEDGER_LINE, LONGEST_LINE};
 pub use table::{State, Table, PHASE_UNIT};

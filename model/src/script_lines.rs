@@ -1,9 +1,12 @@
-//! Reading the lines of a script in constant memory.
+//! Reading the lines of a script, and of a ledger's samples, in constant memory.
 
 use std::io::{self, BufRead, Read};
 
-/// The bytes of the longest good line: `after=`, twenty digits, a newline.
+/// The bytes of the longest good line of a script: `after=`, twenty digits, a newline.
 pub const LONGEST_LINE: usize = 27;
+
+/// The bytes of the longest good line of a ledger: `sample=`, twenty digits, a newline.
+pub const LONGEST_LEDGER_LINE: usize = 28;
 
 /// Why a script ends before its time.
 #[derive(Debug)]
@@ -19,9 +22,9 @@ impl From<io::Error> for Stop {
     }
 }
 
-pub enum Line {
+pub enum Line<'a> {
     /// An ended line, without its newline.
-    Ended(Vec<u8>),
+    Ended(&'a [u8]),
     /// Bytes that no newline ends, or more of them than a good line has.
     Unfit,
     /// The input is over.
@@ -30,32 +33,48 @@ pub enum Line {
 
 pub struct Lines<R> {
     input: R,
+    /// No line with more bytes than this is good, so that no more are kept of any line.
+    longest_line: usize,
+    /// The line read last; kept to be used again for the next one.
+    bytes: Vec<u8>,
     lines_read: u64,
 }
 
 impl<R: BufRead> Lines<R> {
-    pub fn new(input: R) -> Lines<R> {
-        Lines { input, lines_read: 0 }
+    pub fn new(input: R, longest_line: usize) -> Lines<R> {
+        Lines { input, longest_line, bytes: Vec::with_capacity(longest_line), lines_read: 0 }
     }
 
-    pub fn next_line(&mut self) -> Result<Line, Stop> {
+    pub fn next_line(&mut self) -> Result<Line<'_>, Stop> {
         self.lines_read += 1;
-        let mut bytes = Vec::new();
-        (&mut self.input).take(LONGEST_LINE as u64).read_until(b'\n', &mut bytes)?;
-        Ok(match bytes.pop() {
+        self.bytes.clear();
+        (&mut self.input).take(self.longest_line as u64).read_until(b'\n', &mut self.bytes)?;
+        Ok(match self.bytes.split_last() {
             None => Line::Missing,
-            Some(b'\n') => Line::Ended(bytes),
+            Some((b'\n', line)) => Line::Ended(line),
             Some(_) => Line::Unfit,
         })
     }
 
     /// The next line must be `name=` and a number.
     pub fn number(&mut self, name: &str) -> Result<u64, Stop> {
+        match self.number_unless_over(name)? {
+            Some(number) => Ok(number),
+            None => Err(self.bad_line()),
+        }
+    }
+
+    /// The next line must be `name=` and a number; none where the input is over.
+    pub fn number_unless_over(&mut self, name: &str) -> Result<Option<u64>, Stop> {
         let number = match self.next_line()? {
-            Line::Ended(line) => value_of(&line, name).and_then(parse_number),
-            Line::Unfit | Line::Missing => None,
+            Line::Missing => return Ok(None),
+            Line::Ended(line) => number_of(line, name),
+            Line::Unfit => None,
         };
-        number.ok_or_else(|| self.bad_line())
+        match number {
+            Some(number) => Ok(Some(number)),
+            None => Err(self.bad_line()),
+        }
     }
 
     /// The number of the line read last (or missed last).
@@ -72,6 +91,11 @@ impl<R: BufRead> Lines<R> {
 /// What stands after `name=`.
 pub fn value_of<'a>(line: &'a [u8], name: &str) -> Option<&'a [u8]> {
     line.strip_prefix(name.as_bytes())?.strip_prefix(b"=")
+}
+
+/// The number that stands after `name=`.
+pub fn number_of(line: &[u8], name: &str) -> Option<u64> {
+    value_of(line, name).and_then(parse_number)
 }
 
 /// Decimal digits only, no leading zero, below 2^64.

@@ -1,6 +1,8 @@
 //! Reading a table whose length and header are good. Nothing else is asked of
 //! it: its tokens, keys and flag may be anything.
 
+use std::iter;
+
 use crate::layout::{table_words, token_word, word, Level, Slot};
 use crate::refusal::Refusal;
 
@@ -84,9 +86,12 @@ impl<'a> Table<'a> {
 
     /// The levels in use, in the order top, bottom, interim.
     pub fn levels_in_use(&self) -> Vec<Level> {
-        let mut levels = vec![self.top(), self.bottom()];
-        levels.extend(self.interim());
-        levels
+        self.each_level_in_use().collect()
+    }
+
+    /// The same without a list of its own: a search is made for every sample of a ledger.
+    fn each_level_in_use(&self) -> impl Iterator<Item = Level> {
+        [self.top(), self.bottom()].into_iter().chain(self.interim())
     }
 
     /// All levels the words have room for, in use or not.
@@ -127,10 +132,13 @@ impl<'a> Table<'a> {
 
     /// The buckets of a level where a key may stand: first place, then second if different.
     pub fn places(&self, key: u64, level: Level) -> Vec<usize> {
-        let multipliers = [word::MULTIPLIER_1, word::MULTIPLIER_2];
-        let mut buckets = multipliers.map(|index| bucket_of(key, self.words[index], level)).to_vec();
-        buckets.dedup();
-        buckets
+        self.each_place(key, level).collect()
+    }
+
+    fn each_place(&self, key: u64, level: Level) -> impl Iterator<Item = usize> {
+        let first = bucket_of(key, self.words[word::MULTIPLIER_1], level);
+        let second = bucket_of(key, self.words[word::MULTIPLIER_2], level);
+        iter::once(first).chain((second != first).then_some(second))
     }
 
     /// The taken slots of some levels, by level as given, then bucket and slot ascending.
@@ -142,8 +150,8 @@ impl<'a> Table<'a> {
     /// Looks for a key in the probe order.
     pub fn search(&self, key: u64) -> Search {
         let mut probes = 0;
-        for level in self.levels_in_use() {
-            for bucket in self.places(key, level) {
+        for level in self.each_level_in_use() {
+            for bucket in self.each_place(key, level) {
                 probes += 1;
                 let holds_key = |slot: &Slot| self.is_taken(*slot) && self.key(*slot) == key;
                 if let Some(slot) = Slot::all_of(bucket).find(holds_key) {
