@@ -1,5 +1,6 @@
 //! What the command line asks for.
 
+use std::fmt::Display;
 use std::io::Read;
 use std::path::Path;
 use std::str::FromStr;
@@ -8,47 +9,71 @@ use std::time::{Duration, Instant, SystemTime, UNIX_EPOCH};
 use crate::both::{Both, Check, Finding};
 use crate::case::Case;
 use crate::case_text::{read_case, write_case};
-use crate::chain::DEPTH_LIMIT;
-use crate::chain_tally::{KINDS_OF_SOUND_TABLES, MORE_KINDS_OF_OTHER_WORDS};
 use crate::corners;
+use crate::demands::{demand_calls, demand_ledgers, demand_scripts, demand_some};
+use crate::ledgers;
+use crate::long_ledger::LongLedger;
+use crate::outputs::{self, Disagreement};
 use crate::program;
 use crate::random::Random;
 use crate::say;
-use crate::scripts::{self, Disagreement};
+use crate::scripts;
 use crate::shrink::shrink_case;
 use crate::sound_tables::check_alone;
-use crate::starts::rare_numbers;
-use crate::stuck_items::Way;
 use crate::tally::Tally;
 use crate::words;
 
 const USAGE: &str = "\
 compare words --seed S --calls N [--trace FILE]
 compare scripts --seed S --scripts N --program PATH
-compare long MINUTES [--seed S] [--program PATH]
+compare ledgers --seed S --ledgers N --program PATH
+compare long MINUTES [--seed S] [--program PATH] [--ledger-program PATH]
+compare long-ledger --samples N --seed S --program PATH --model PATH [--folder DIR] [--most RATIO]
 compare case FILE
 compare script FILE --program PATH
+compare ledger FILE --program PATH
 compare corners <INPUT
 (FILE after --trace keeps the case the library was given last, for when it crashes;
- a long run without --program makes no scripts)";
+ a long run without --program makes no scripts, and without --ledger-program no ledgers;
+ RATIO is the most that the ledger program's time may be of the model's)";
 
-/// From these sizes on, a refusal number or a kind of chain or growth step that was never seen fails the run.
+/// From this size on, a run fails where it has not seen what it must have seen.
 const FULL_SIZE_CALLS: u64 = 100_000;
-const FULL_SIZE_SCRIPTS: u64 = 1_000;
-
-/// So often at least each kind of start is met then, and each number of a step from a start.
-const LEAST_OF_EACH_START: u64 = 3;
-const NUMBERS_OF_STARTS_ON_CUT_TABLES: [u64; 4] = [0, 3, 6, 11];
-const NUMBERS_OF_STARTS_ON_RECOVERED_TABLES: [u64; 3] = [0, 6, 11];
-const NUMBERS_OF_STARTS_ON_OTHER_WORDS: [u64; 7] = [0, 1, 2, 3, 6, 8, 11];
+const FULL_SIZE_TEXTS: u64 = 1_000;
 
 /// One round of a long run.
 const ROUND_CALLS: u64 = 1_000_000;
 const ROUND_SCRIPTS: u64 = 1_500;
+const ROUND_LEDGERS: u64 = 1_500;
 
-/// Scripts make good tables, lend good lists, make good stores and ask for no chain: no 1, 2, 14, 15 or 16.
-const REFUSALS_OF_SCRIPTS: std::ops::RangeInclusive<u64> = 3..=13;
-const REFUSALS_OF_CALLS: std::ops::RangeInclusive<u64> = 1..=16;
+/// What a program is given and compared on, byte by byte: scripts, or ledgers.
+struct Texts {
+    /// One of them, and several.
+    name: &'static str,
+    names: &'static str,
+    run: fn(u64, u64, &Path, &mut Tally) -> Result<(), Disagreement>,
+    compare: fn(&Path, &[u8]) -> Result<Vec<u8>, String>,
+    count: fn(&Tally) -> u64,
+    demand: fn(&Tally) -> Answer,
+}
+
+const SCRIPTS: Texts = Texts {
+    name: "script",
+    names: "scripts",
+    run: scripts::run,
+    compare: scripts::compare,
+    count: |tally| tally.scripts,
+    demand: demand_scripts,
+};
+
+const LEDGERS: Texts = Texts {
+    name: "ledger",
+    names: "ledgers",
+    run: ledgers::run,
+    compare: ledgers::compare,
+    count: |tally| tally.ledgers.ledgers,
+    demand: demand_ledgers,
+};
 
 type Answer = Result<(), String>;
 
@@ -61,7 +86,10 @@ pub fn run(arguments: &[String]) -> Answer {
             words_run(options.number("--seed")?, options.number("--calls")?, trace)
         }
         ["scripts", ..] => {
-            scripts_run(options.number("--seed")?, options.number("--scripts")?, options.program()?)
+            texts_run(&SCRIPTS, options.number("--seed")?, options.number("--scripts")?, options.program()?)
+        }
+        ["ledgers", ..] => {
+            texts_run(&LEDGERS, options.number("--seed")?, options.number("--ledgers")?, options.program()?)
         }
         ["long", minutes, ..] => {
             let minutes = minutes.parse().map_err(|error| format!("{minutes}: {error}"))?;
@@ -69,10 +97,12 @@ pub fn run(arguments: &[String]) -> Answer {
                 Some(_) => options.number("--seed")?,
                 None => clock_seed(),
             };
-            long_run(minutes, seed, options.program().ok())
+            long_run(minutes, seed, options.path("--program").ok(), options.path("--ledger-program").ok())
         }
+        ["long-ledger", ..] => long_ledger_run(&options),
         ["case", file] => one_case(file),
-        ["script", file, ..] => one_script(file, options.program()?),
+        ["script", file, ..] => one_text(&SCRIPTS, file, options.program()?),
+        ["ledger", file, ..] => one_text(&LEDGERS, file, options.program()?),
         ["corners"] => corners_run(),
         _ => Err(format!("usage:\n{USAGE}")),
     }
@@ -88,13 +118,24 @@ impl Options<'_> {
         self.words.get(at + 1).copied()
     }
 
-    fn number(&self, name: &str) -> Result<u64, String> {
-        let text = self.value(name).ok_or(format!("{name} is missing\n{USAGE}"))?;
-        u64::from_str(text).map_err(|error| format!("{name} {text}: {error}"))
+    fn needed(&self, name: &str) -> Result<&str, String> {
+        self.value(name).ok_or(format!("{name} is missing\n{USAGE}"))
+    }
+
+    fn number<T: FromStr>(&self, name: &str) -> Result<T, String>
+    where
+        T::Err: Display,
+    {
+        let text = self.needed(name)?;
+        text.parse().map_err(|error| format!("{name} {text}: {error}"))
+    }
+
+    fn path(&self, name: &str) -> Result<&Path, String> {
+        self.needed(name).map(Path::new)
     }
 
     fn program(&self) -> Result<&Path, String> {
-        self.value("--program").map(Path::new).ok_or(format!("--program is missing\n{USAGE}"))
+        self.path("--program")
     }
 }
 
@@ -110,31 +151,28 @@ fn words_run(seed: u64, calls: u64, trace: Option<&Path>) -> Answer {
     result.map_err(|finding| report_finding(seed, finding))?;
     demand_some(tally.total_calls, "calls")?;
     if calls >= FULL_SIZE_CALLS {
-        demand_refusals(&tally, REFUSALS_OF_CALLS)?;
-        demand_chains(&tally)?;
-        demand_steps(&tally)?;
-        demand_starts(&tally)?;
+        demand_calls(&tally)?;
     }
     say_alike();
     Ok(())
 }
 
-fn scripts_run(seed: u64, count: u64, program: &Path) -> Answer {
-    say!("scripts: seed {seed}, {count} scripts through {}", program.display());
+fn texts_run(texts: &Texts, seed: u64, count: u64, program: &Path) -> Answer {
+    say!("{}: seed {seed}, {count} of them through {}", texts.names, program.display());
     let mut tally = Tally::default();
-    let result = scripts::run(seed, count, program, &mut tally);
+    let result = (texts.run)(seed, count, program, &mut tally);
     tally.print();
-    result.map_err(|disagreement| report_disagreement(seed, program, disagreement))?;
-    demand_some(tally.scripts, "scripts")?;
-    if count >= FULL_SIZE_SCRIPTS {
-        demand_refusals(&tally, REFUSALS_OF_SCRIPTS)?;
+    result.map_err(|disagreement| report_disagreement(texts, seed, program, disagreement))?;
+    demand_some((texts.count)(&tally), texts.names)?;
+    if count >= FULL_SIZE_TEXTS {
+        (texts.demand)(&tally)?;
     }
     say_alike();
     Ok(())
 }
 
 /// Round after round, each from its own seed, until the time is over.
-fn long_run(minutes: u32, seed: u64, program: Option<&Path>) -> Answer {
+fn long_run(minutes: u32, seed: u64, script_program: Option<&Path>, ledger_program: Option<&Path>) -> Answer {
     say!("long: seed {seed}, {minutes} minutes");
     let end = Instant::now() + Duration::from_secs(60 * u64::from(minutes));
     let mut seeds = Random::new(seed);
@@ -142,21 +180,41 @@ fn long_run(minutes: u32, seed: u64, program: Option<&Path>) -> Answer {
     let mut rounds = 0;
     while Instant::now() < end {
         rounds += 1;
-        let (words_seed, scripts_seed) = (seeds.word(), seeds.word());
-        say!("round {rounds}: words seed {words_seed}, scripts seed {scripts_seed}");
+        let words_seed = seeds.word();
+        say!("round {rounds}: words seed {words_seed}");
         words::run(words_seed, ROUND_CALLS, &mut Both::new(&mut tally))
             .map_err(|finding| report_finding(words_seed, finding))?;
-        if let Some(program) = program {
-            scripts::run(scripts_seed, ROUND_SCRIPTS, program, &mut tally)
-                .map_err(|disagreement| report_disagreement(scripts_seed, program, disagreement))?;
+        let programs = [(&SCRIPTS, ROUND_SCRIPTS, script_program), (&LEDGERS, ROUND_LEDGERS, ledger_program)];
+        for (texts, count, program) in programs {
+            // drawn where there is no program too, so that the other rounds stay the same
+            let seed = seeds.word();
+            if let Some(program) = program {
+                say!("round {rounds}: {} seed {seed}", texts.names);
+                (texts.run)(seed, count, program, &mut tally)
+                    .map_err(|disagreement| report_disagreement(texts, seed, program, disagreement))?;
+            }
         }
     }
     say!("rounds: {rounds}");
     tally.print();
-    demand_refusals(&tally, REFUSALS_OF_CALLS)?;
-    demand_chains(&tally)?;
-    demand_steps(&tally)?;
-    demand_starts(&tally)?;
+    demand_calls(&tally)?;
+    if ledger_program.is_some() {
+        demand_ledgers(&tally)?;
+    }
+    say_alike();
+    Ok(())
+}
+
+fn long_ledger_run(options: &Options) -> Answer {
+    let ledger = LongLedger {
+        samples: options.number("--samples")?,
+        seed: options.number("--seed")?,
+        program: options.program()?,
+        model: options.path("--model")?,
+        folder: options.path("--folder").unwrap_or(Path::new(".")),
+    };
+    let most = options.value("--most").map(|_| options.number("--most")).transpose()?;
+    ledger.run(most)?;
     say_alike();
     Ok(())
 }
@@ -164,75 +222,6 @@ fn long_run(minutes: u32, seed: u64, program: Option<&Path>) -> Answer {
 /// The last line of a run that found nothing.
 fn say_alike() {
     say!("no difference");
-}
-
-/// A run that looked at nothing fails.
-fn demand_some(seen: u64, what: &str) -> Answer {
-    if seen > 0 {
-        Ok(())
-    } else {
-        Err(format!("there were no {what} to look at"))
-    }
-}
-
-fn demand_refusals(tally: &Tally, possible: std::ops::RangeInclusive<u64>) -> Answer {
-    let unseen = tally.unseen_refusals(possible);
-    if unseen.is_empty() {
-        Ok(())
-    } else {
-        Err(format!("refusal numbers never seen: {unseen:?}"))
-    }
-}
-
-/// That some other call met a refusal shows nothing of chains.
-fn demand_chains(tally: &Tally) -> Answer {
-    let (sound, other) = (&tally.chains_of_sound_tables, &tally.chains_of_other_words);
-    let of_sound_tables = sound.unseen(KINDS_OF_SOUND_TABLES);
-    let of_other_words = other.unseen(KINDS_OF_SOUND_TABLES.into_iter().chain(MORE_KINDS_OF_OTHER_WORDS));
-    if !of_sound_tables.is_empty() || !of_other_words.is_empty() {
-        let unseen = format!("{of_sound_tables:?} of sound tables, {of_other_words:?} of other words");
-        return Err(format!("chains never seen: {unseen}"));
-    }
-    if sound.longest < DEPTH_LIMIT {
-        return Err(format!("the longest whole chain of a sound table had only {} depths", sound.longest));
-    }
-    Ok(())
-}
-
-/// Steps that take the first item show nothing of those that pass stuck ones.
-fn demand_steps(tally: &Tally) -> Answer {
-    let unseen = tally.steps_of_sound_tables.unseen();
-    if !unseen.is_empty() {
-        return Err(format!("steps of sound tables never seen: {unseen:?}"));
-    }
-    // Damage spares the stuck items of a table made for a kind often, but not always.
-    let is_unseen = |way: &Way| tally.steps_of_other_words.past_stuck_items(*way) == 0;
-    match [Way::FreeSlot, Way::Move].into_iter().find(is_unseen) {
-        Some(way) => Err(format!("no step of other words came past stuck items, {way:?}")),
-        None => Ok(()),
-    }
-}
-
-/// A start that is never wrong, or never past a stuck item, would show little.
-fn demand_starts(tally: &Tally) -> Answer {
-    let starts = &tally.starts;
-    let rare = starts.rare(LEAST_OF_EACH_START);
-    if !rare.is_empty() {
-        return Err(format!("steps from a start seldom or never seen: {rare:?}"));
-    }
-    let by_tables: [(&str, _, &[u64]); 3] = [
-        ("cut tables", &starts.of_cut_tables, &NUMBERS_OF_STARTS_ON_CUT_TABLES),
-        ("recovered tables", &starts.of_recovered_tables, &NUMBERS_OF_STARTS_ON_RECOVERED_TABLES),
-        ("other words", &starts.of_other_words, &NUMBERS_OF_STARTS_ON_OTHER_WORDS),
-    ];
-    for (tables, numbers, possible) in by_tables {
-        let rare = rare_numbers(numbers, possible, LEAST_OF_EACH_START);
-        if !rare.is_empty() {
-            return Err(format!("numbers of steps from a start seldom or never seen on {tables}: {rare:?}"));
-        }
-    }
-    demand_some(starts.moves, "moves by steps from a later start")?;
-    demand_some(starts.steps_of_passes, "passes that go on from the bucket told")
 }
 
 fn check_case(check: Check, case: &Case) -> Result<(), Finding> {
@@ -252,9 +241,9 @@ fn one_case(file: &str) -> Answer {
     Ok(())
 }
 
-fn one_script(file: &str, program: &Path) -> Answer {
-    let script = std::fs::read(file).map_err(|error| format!("{file}: {error}"))?;
-    let output = scripts::compare(program, &script)?;
+fn one_text(texts: &Texts, file: &str, program: &Path) -> Answer {
+    let input = std::fs::read(file).map_err(|error| format!("{file}: {error}"))?;
+    let output = (texts.compare)(program, &input)?;
     program::say(String::from_utf8_lossy(&output));
     say_alike();
     Ok(())
@@ -282,13 +271,14 @@ fn report_finding(seed: u64, finding: Finding) -> String {
     what
 }
 
-fn report_disagreement(seed: u64, program: &Path, disagreement: Disagreement) -> String {
+fn report_disagreement(texts: &Texts, seed: u64, program: &Path, disagreement: Disagreement) -> String {
+    let name = texts.name;
     say!("seed {seed}: {}", disagreement.what);
-    let smallest = scripts::shrink(program, disagreement.script);
-    let what = scripts::compare(program, &smallest).err().unwrap_or(disagreement.what);
-    say!("the smallest script found: {what}\n{}", String::from_utf8_lossy(&smallest));
-    save(&format!("failure-{seed}.script"), &smallest, |file| {
-        format!("script {file} --program {}", program.display())
+    let smallest = outputs::shrink(disagreement.input, |input| (texts.compare)(program, input).is_err());
+    let what = (texts.compare)(program, &smallest).err().unwrap_or(disagreement.what);
+    say!("the smallest {name} found: {what}\n{}", String::from_utf8_lossy(&smallest));
+    save(&format!("failure-{seed}.{name}"), &smallest, |file| {
+        format!("{name} {file} --program {}", program.display())
     });
     what
 }

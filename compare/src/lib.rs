@@ -1,4 +1,4 @@
-//! Compares the proved library and the script program with the model. What is public makes random histories and damage for other tests
+//! Compares the proved library, the script program and the ledger program with the model. What is public makes random histories and damage for other tests
 //! too.
 //!
 //! From the bottom up:
@@ -14,11 +14,16 @@
 //! - `stuck_tables`: tables whose first interim items have no place; `going_on`: steps from every start, and whole passes;
 //! - `wild`: cases over words that no history made;
 //! - `words`: the run over raw words;
+//! - `outputs`: a program's output beside the model's; `bad_lines`: what is wrong with a line;
 //! - `script_text`, `script_damage`, `scripts`: the run of scripts;
+//! - `ledger_lines`, `ledger_text`, `ledger_damage`, `ledger_tally`, `ledgers`: the run of ledgers; `long_ledger`: a long one, with its
+//!   time and memory;
 //! - `corners`: the model's answers to the input of the proved program `corners`;
 //! - `shrink`: smaller failures;
+//! - `demands`: what a run must have seen;
 //! - `commands`: what the command line asks for; `program`: what programs share; `runner`: how they start others.
 
+mod bad_lines;
 mod both;
 pub mod case;
 pub mod case_text;
@@ -27,9 +32,17 @@ mod chain_tally;
 pub mod commands;
 mod corners;
 pub mod damage;
+mod demands;
 mod going_on;
 pub mod history;
+mod ledger_damage;
+mod ledger_lines;
+mod ledger_tally;
+mod ledger_text;
+mod ledgers;
 pub mod library;
+mod long_ledger;
+mod outputs;
 pub mod plain_map;
 pub mod program;
 pub mod random;

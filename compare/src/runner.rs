@@ -12,6 +12,11 @@ pub fn built(program: impl AsRef<OsStr>) -> Command {
     started_by(&std::env::var(RUNNER).unwrap_or_default(), program.as_ref())
 }
 
+/// Whether an emulator starts the built programs. Then their time and memory are the emulator's.
+pub fn is_emulated() -> bool {
+    std::env::var(RUNNER).map_or(false, |runner| !runner.trim().is_empty())
+}
+
 /// The runner with its options, in words as cargo has them, and then the program; or the program alone.
 fn started_by(runner: &str, program: &OsStr) -> Command {
     let mut words = runner.split_whitespace();

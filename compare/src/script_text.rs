@@ -14,7 +14,7 @@ use crate::stuck_tables::history_to;
 /// The most stores an event has is 10; a cut is tried just beyond that, too.
 const CUTS_TO_TRY: u64 = 12;
 
-pub fn random_script(random: &mut Random) -> Vec<u8> {
+pub fn random_script(random: &mut Random) -> Script {
     if random.one_in(12) {
         return refused_creation(random);
     }
@@ -37,7 +37,7 @@ pub fn random_script(random: &mut Random) -> Vec<u8> {
 }
 
 /// A good script whose creation is refused, with events that are not read.
-fn refused_creation(random: &mut Random) -> Vec<u8> {
+fn refused_creation(random: &mut Random) -> Script {
     let mut setting = Setting::random(random);
     match random.below(5) {
         0 => setting.c = random.pick(&[0, 9, 20, 21, u64::MAX]),
@@ -49,11 +49,11 @@ fn refused_creation(random: &mut Random) -> Vec<u8> {
     let mut script = Script::default();
     script.header(setting);
     script.text.extend_from_slice(b"op=begin\nnot read");
-    script.text
+    script
 }
 
 /// Growth goes on as far as it can, past stuck items.
-fn steps_past_stuck_items(random: &mut Random) -> Vec<u8> {
+fn steps_past_stuck_items(random: &mut Random) -> Script {
     let kind = random.pick(&KINDS);
     let (setting, events) = history_to(random, kind);
     let mut script = Script::default();
@@ -68,7 +68,7 @@ fn steps_past_stuck_items(random: &mut Random) -> Vec<u8> {
         }
         script.event(Event::Step, None);
     }
-    script.text
+    script
 }
 
 /// How a script goes.
@@ -82,7 +82,7 @@ struct Story {
 }
 
 impl Story {
-    fn write(&self, random: &mut Random, setting: Setting) -> Vec<u8> {
+    fn write(&self, random: &mut Random, setting: Setting) -> Script {
         let keys = Keys::random(random, setting);
         let mut script = Script::default();
         script.header(setting);
@@ -105,11 +105,11 @@ impl Story {
                 script.event(event, None);
             }
         }
-        script.text
+        script
     }
 }
 
-fn any_cut(random: &mut Random) -> u64 {
+pub fn any_cut(random: &mut Random) -> u64 {
     if random.one_in(20) {
         random.any_word()
     } else {
@@ -125,19 +125,20 @@ fn recover(random: &mut Random, script: &mut Script) {
     script.event(Event::Recover, None);
 }
 
+/// A script's text so far, and the table that it leads to.
 #[derive(Default)]
-struct Script {
-    text: Vec<u8>,
-    table: Vec<u64>,
+pub struct Script {
+    pub text: Vec<u8>,
+    pub table: Vec<u64>,
     last_number: u64,
 }
 
 impl Script {
-    fn line(&mut self, name: &str, value: impl ToString) {
+    pub fn line(&mut self, name: &str, value: impl ToString) {
         self.text.extend_from_slice(format!("{name}={}\n", value.to_string()).as_bytes());
     }
 
-    fn header(&mut self, Setting { c, k, mul1, mul2 }: Setting) {
+    pub fn header(&mut self, Setting { c, k, mul1, mul2 }: Setting) {
         for (name, value) in [("cap", c), ("top", k), ("mul1", mul1), ("mul2", mul2)] {
             self.line(name, value);
         }
@@ -151,7 +152,7 @@ impl Script {
         self.line("key", key);
     }
 
-    fn event(&mut self, event: Event, cut: Option<u64>) {
+    pub fn event(&mut self, event: Event, cut: Option<u64>) {
         if let Some(after) = cut {
             self.line("op", "cut");
             self.line("after", after);
@@ -164,5 +165,10 @@ impl Script {
         let (number, stores) = event.list_stores(&self.table, &mut list);
         make(&mut self.table, &list, cut.unwrap_or(stores).min(stores));
         self.last_number = number;
+    }
+
+    /// How many stores an event would list now.
+    pub fn stores_of(&self, event: Event) -> u64 {
+        event.list_stores(&self.table, &mut [0; LEAST_LIST_WORDS]).1
     }
 }

@@ -5,6 +5,7 @@ use std::fmt::Display;
 
 use crate::case::{Case, Outcome};
 use crate::chain_tally::ChainTally;
+use crate::ledger_tally::LedgerTally;
 use crate::say;
 use crate::starts::StartTally;
 use crate::stuck_items::StepTally;
@@ -24,6 +25,7 @@ pub struct Tally {
     pub steps_of_sound_tables: StepTally,
     pub steps_of_other_words: StepTally,
     pub starts: StartTally,
+    pub ledgers: LedgerTally,
     pub total_calls: u64,
     pub cuts: u64,
     pub recovery_cuts: u64,
@@ -64,7 +66,7 @@ impl Tally {
     }
 
     pub fn print(&self) {
-        say!("calls: {}; scripts: {}", self.total_calls, self.scripts);
+        say!("calls: {}; scripts: {}; ledgers: {}", self.total_calls, self.scripts, self.ledgers.ledgers);
         print_counts("calls and script events by name", &self.calls);
         print_counts("store lists", &self.lists);
         print_counts("refusals", &self.refusals);
@@ -75,6 +77,7 @@ impl Tally {
         print_counts("steps of other words", &self.steps_of_other_words.kinds);
         self.print_starts();
         self.print_chains();
+        print_counts("ledgers by what they show", &self.ledgers.kinds);
     }
 
     fn print_starts(&self) {

@@ -1,0 +1,111 @@
+//! What a run must have seen. One that is large enough and saw less fails: it showed too little.
+
+use crate::chain::DEPTH_LIMIT;
+use crate::chain_tally::{KINDS_OF_SOUND_TABLES, MORE_KINDS_OF_OTHER_WORDS};
+use crate::starts::rare_numbers;
+use crate::stuck_items::Way;
+use crate::tally::Tally;
+
+type Answer = Result<(), String>;
+
+/// Scripts make good tables, lend good lists, make good stores and ask for no chain: no 1, 2, 14, 15 or 16.
+const REFUSALS_OF_SCRIPTS: std::ops::RangeInclusive<u64> = 3..=13;
+const REFUSALS_OF_CALLS: std::ops::RangeInclusive<u64> = 1..=16;
+
+/// So often at least each kind of start is met, and each number of a step from a start.
+const LEAST_OF_EACH_START: u64 = 3;
+const NUMBERS_OF_STARTS_ON_CUT_TABLES: [u64; 4] = [0, 3, 6, 11];
+const NUMBERS_OF_STARTS_ON_RECOVERED_TABLES: [u64; 3] = [0, 6, 11];
+const NUMBERS_OF_STARTS_ON_OTHER_WORDS: [u64; 7] = [0, 1, 2, 3, 6, 8, 11];
+
+/// So often at least each kind of ledger is met.
+const LEAST_OF_EACH_LEDGER: u64 = 3;
+
+/// Of a run over words.
+pub fn demand_calls(tally: &Tally) -> Answer {
+    demand_refusals(tally, REFUSALS_OF_CALLS)?;
+    demand_chains(tally)?;
+    demand_steps(tally)?;
+    demand_starts(tally)
+}
+
+pub fn demand_scripts(tally: &Tally) -> Answer {
+    demand_refusals(tally, REFUSALS_OF_SCRIPTS)
+}
+
+pub fn demand_ledgers(tally: &Tally) -> Answer {
+    let rare = tally.ledgers.rare(LEAST_OF_EACH_LEDGER);
+    match rare[..] {
+        [] => Ok(()),
+        _ => Err(format!("ledgers seldom or never seen: {rare:?}")),
+    }
+}
+
+/// A run that looked at nothing fails.
+pub fn demand_some(seen: u64, what: &str) -> Answer {
+    if seen > 0 {
+        Ok(())
+    } else {
+        Err(format!("there were no {what} to look at"))
+    }
+}
+
+fn demand_refusals(tally: &Tally, possible: std::ops::RangeInclusive<u64>) -> Answer {
+    let unseen = tally.unseen_refusals(possible);
+    if unseen.is_empty() {
+        Ok(())
+    } else {
+        Err(format!("refusal numbers never seen: {unseen:?}"))
+    }
+}
+
+/// That some other call met a refusal shows nothing of chains.
+fn demand_chains(tally: &Tally) -> Answer {
+    let (sound, other) = (&tally.chains_of_sound_tables, &tally.chains_of_other_words);
+    let of_sound_tables = sound.unseen(KINDS_OF_SOUND_TABLES);
+    let of_other_words = other.unseen(KINDS_OF_SOUND_TABLES.into_iter().chain(MORE_KINDS_OF_OTHER_WORDS));
+    if !of_sound_tables.is_empty() || !of_other_words.is_empty() {
+        let unseen = format!("{of_sound_tables:?} of sound tables, {of_other_words:?} of other words");
+        return Err(format!("chains never seen: {unseen}"));
+    }
+    if sound.longest < DEPTH_LIMIT {
+        return Err(format!("the longest whole chain of a sound table had only {} depths", sound.longest));
+    }
+    Ok(())
+}
+
+/// Steps that take the first item show nothing of those that pass stuck ones.
+fn demand_steps(tally: &Tally) -> Answer {
+    let unseen = tally.steps_of_sound_tables.unseen();
+    if !unseen.is_empty() {
+        return Err(format!("steps of sound tables never seen: {unseen:?}"));
+    }
+    // Damage spares the stuck items of a table made for a kind often, but not always.
+    let is_unseen = |way: &Way| tally.steps_of_other_words.past_stuck_items(*way) == 0;
+    match [Way::FreeSlot, Way::Move].into_iter().find(is_unseen) {
+        Some(way) => Err(format!("no step of other words came past stuck items, {way:?}")),
+        None => Ok(()),
+    }
+}
+
+/// A start that is never wrong, or never past a stuck item, would show little.
+fn demand_starts(tally: &Tally) -> Answer {
+    let starts = &tally.starts;
+    let rare = starts.rare(LEAST_OF_EACH_START);
+    if !rare.is_empty() {
+        return Err(format!("steps from a start seldom or never seen: {rare:?}"));
+    }
+    let by_tables: [(&str, _, &[u64]); 3] = [
+        ("cut tables", &starts.of_cut_tables, &NUMBERS_OF_STARTS_ON_CUT_TABLES),
+        ("recovered tables", &starts.of_recovered_tables, &NUMBERS_OF_STARTS_ON_RECOVERED_TABLES),
+        ("other words", &starts.of_other_words, &NUMBERS_OF_STARTS_ON_OTHER_WORDS),
+    ];
+    for (tables, numbers, possible) in by_tables {
+        let rare = rare_numbers(numbers, possible, LEAST_OF_EACH_START);
+        if !rare.is_empty() {
+            return Err(format!("numbers of steps from a start seldom or never seen on {tables}: {rare:?}"));
+        }
+    }
+    demand_some(starts.moves, "moves by steps from a later start")?;
+    demand_some(starts.steps_of_passes, "passes that go on from the bucket told")
+}
