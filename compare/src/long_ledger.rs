@@ -1,9 +1,10 @@
 //! One long ledger through the ledger program and the model's, by turns: the same report, both times, and memory that stays the same.
 
+use std::fmt::Display;
 use std::fs::{self, File};
-use std::io::{self, BufRead, BufReader, BufWriter, Read, Write};
+use std::io::{self, BufRead, BufReader, BufWriter, Write};
 use std::path::{Path, PathBuf};
-use std::process::{Child, Command, Stdio};
+use std::process::{Child, Stdio};
 use std::thread::sleep;
 use std::time::{Duration, Instant};
 
@@ -69,22 +70,20 @@ impl LongLedger<'_> {
         }
     }
 
-    fn program_command(&self) -> Command {
-        built(self.program)
+    fn program(&self) -> Reader<'_> {
+        Reader { program: self.program, words: &[] }
     }
 
-    fn model_command(&self) -> Command {
-        let mut command = built(self.model);
-        command.arg("ledger");
-        command
+    fn model(&self) -> Reader<'_> {
+        Reader { program: self.model, words: &["ledger"] }
     }
 
     /// Runs both by turns, and answers how often the model's time the program takes.
     fn compare_times(&self, file: &Path) -> Result<f64, String> {
         let (mut program_times, mut model_times) = (vec![], vec![]);
         for _ in 0..RUNS {
-            let program = timed(self.program_command(), file)?;
-            let model = timed(self.model_command(), file)?;
+            let program = self.program().timed(file)?;
+            let model = self.model().timed(file)?;
             if let Some(what) = difference(("program", &program.report), ("model", &model.report)) {
                 return Err(what);
             }
@@ -102,9 +101,9 @@ impl LongLedger<'_> {
         let short = TemporaryFile(long.0.with_extension("short"));
         write_ledger(&short.0, SHORT_LEDGER, self.seed)
             .map_err(|error| format!("{}: {error}", short.0.display()))?;
-        let of_short = peak_memory(self.program_command(), &short.0)?;
-        let of_long = peak_memory(self.program_command(), &long.0)?;
-        let of_model = peak_memory(self.model_command(), &long.0)?;
+        let of_short = self.program().peak_memory(&short.0)?;
+        let of_long = self.program().peak_memory(&long.0)?;
+        let of_model = self.model().peak_memory(&long.0)?;
         say!("peak memory in KiB: program {of_long}, and {of_short} with {SHORT_LEDGER} samples; model {of_model}");
         if of_long > of_short + MOST_GROWTH {
             return Err(format!(
@@ -150,19 +149,6 @@ fn position(random: &mut Random) -> u64 {
     (0x5555_0000_0000 + random.below(1 << 32)) * 256 + random.below(4)
 }
 
-fn timed(mut command: Command, file: &Path) -> Result<Run, String> {
-    let name = command.get_program().to_string_lossy().into_owned();
-    let failed = |error: io::Error| format!("{name}: {error}");
-    let input = File::open(file).map_err(failed)?;
-    let begun = Instant::now();
-    let output = command.stdin(input).stderr(Stdio::inherit()).output().map_err(failed)?;
-    let time = begun.elapsed().as_secs_f64();
-    match output.status.success() {
-        true => Ok(Run { report: output.stdout, time }),
-        false => Err(format!("{name}: {}", output.status)),
-    }
-}
-
 fn median(mut times: Vec<f64>) -> f64 {
     times.sort_by(f64::total_cmp);
     times[times.len() / 2]
@@ -188,19 +174,40 @@ fn demand_sum(report: &[u8], samples: u64) -> Result<(), String> {
     }
 }
 
-/// The most memory that a program has taken up to the end of its input, in KiB. It is looked at while the program waits for more: once it
-/// has ended, nobody can tell.
-fn peak_memory(mut command: Command, file: &Path) -> Result<u64, String> {
-    let name = command.get_program().to_string_lossy().into_owned();
-    let failed = |error: io::Error| format!("{name}: {error}");
-    let mut child = command.stdin(Stdio::piped()).stdout(Stdio::piped()).spawn().map_err(failed)?;
-    let measured = feed_and_measure(&mut child, file);
-    // Its input is at its end now, or it is not needed any more.
-    drop(child.stdin.take());
-    let mut report = vec![];
-    let read = child.stdout.take().expect("stdout is piped").read_to_end(&mut report);
-    child.wait().and(read).map_err(failed)?;
-    measured.map_err(failed)
+/// A program that reads ledgers, and the words behind its name.
+struct Reader<'a> {
+    program: &'a Path,
+    words: &'static [&'static str],
+}
+
+impl Reader<'_> {
+    fn timed(&self, file: &Path) -> Result<Run, String> {
+        let input = File::open(file).map_err(|error| self.failed(error))?;
+        let begun = Instant::now();
+        let started = built(self.program).args(self.words).stdin(input).stderr(Stdio::inherit()).output();
+        let time = begun.elapsed().as_secs_f64();
+        let output = started.map_err(|error| self.failed(error))?;
+        match output.status.success() {
+            true => Ok(Run { report: output.stdout, time }),
+            false => Err(self.failed(output.status)),
+        }
+    }
+
+    /// The most memory that the program has taken up to the end of its input, in KiB. It is looked at while the program waits for more:
+    /// once it has ended, nobody can tell.
+    fn peak_memory(&self, file: &Path) -> Result<u64, String> {
+        let started =
+            built(self.program).args(self.words).stdin(Stdio::piped()).stdout(Stdio::piped()).spawn();
+        let mut child = started.map_err(|error| self.failed(error))?;
+        let measured = feed_and_measure(&mut child, file);
+        // It closes the input, and takes the report, which nobody needs here.
+        let ended = child.wait_with_output();
+        measured.and_then(|memory| ended.map(|_| memory)).map_err(|error| self.failed(error))
+    }
+
+    fn failed(&self, what: impl Display) -> String {
+        format!("{}: {what}", self.program.display())
+    }
 }
 
 fn feed_and_measure(child: &mut Child, file: &Path) -> io::Result<u64> {
@@ -268,11 +275,14 @@ mod tests {
 
     #[test]
     fn memory_is_told_of_a_program_that_takes_some() {
+        // The shell is no built program, so that no emulator can start it.
+        if is_emulated() {
+            return;
+        }
         let file =
             TemporaryFile(std::env::temp_dir().join(format!("ragansils-{}.input", std::process::id())));
         fs::write(&file.0, "a line\n".repeat(1000)).unwrap();
-        let mut command = Command::new("sh");
-        command.args(["-c", "while read line; do :; done"]);
-        assert!(peak_memory(command, &file.0).unwrap() > 100);
+        let shell = Reader { program: Path::new("sh"), words: &["-c", "while read line; do :; done"] };
+        assert!(shell.peak_memory(&file.0).unwrap() > 100);
     }
 }
