@@ -44,7 +44,7 @@ fn many_functions(random: &mut Random) -> Script {
     script
 }
 
-/// Names for functions, by number: in order, or without any; the least and the largest words are among them.
+/// Names for functions, by number: in ascending or descending order, or in none. The least or the largest word is among them.
 fn function_names(random: &mut Random) -> Box<dyn Fn(u64) -> u64> {
     let seed = random.word();
     match random.below(3) {
