@@ -5,7 +5,6 @@ use common::{garbage_words, MARKED_1, MARKED_2};
 use ragansils_model::{run_ledger, run_script, LONGEST_LEDGER_LINE, MOST_COUNTED_FUNCTIONS};
 use std::collections::BTreeMap;
 use std::io::{self, BufRead, BufReader, Read, Write};
-use std::process::{Command, Stdio};
 
 /// The table of the marked examples, four lines: a key has one place in the top, its last bit, and one in the bottom.
 const HEADER: &str = "cap=2\ntop=1\nmul1=4294967297\nmul2=12884901889\n";
@@ -557,30 +556,6 @@ fn lines_may_lie_across_small_buffers() {
         run_ledger(BufReader::with_capacity(size, input.as_bytes()), &mut output).unwrap();
         assert_eq!(String::from_utf8(output).unwrap(), "samples=2\nnone=1\nfn10=1\nother=0\nbuckets=3\n");
     }
-}
-
-#[test]
-fn the_program_is_told_by_its_first_argument() {
-    let input = format!("{HEADER}op=query\nkey=1\n");
-    let file = format!("{}/ledger_program_input", env!("CARGO_TARGET_TMPDIR"));
-    std::fs::write(&file, &input).unwrap();
-    let script_answer = "made=0\nanswer=5\nfn=0\nat=0\nprobes=2\nevents=1\n";
-    let ledger_answer = ZEROS.replace(',', "\n");
-    assert_eq!(run_program(&[], &input), script_answer);
-    assert_eq!(run_program(&[&file], ""), script_answer);
-    assert_eq!(run_program(&["ledger"], &input), ledger_answer);
-    assert_eq!(run_program(&["ledger", &file], ""), ledger_answer);
-}
-
-fn run_program(arguments: &[&str], input: &str) -> String {
-    let mut command = Command::new(env!("CARGO_BIN_EXE_model"));
-    command.args(arguments).stdin(Stdio::piped()).stdout(Stdio::piped());
-    let mut program = command.spawn().unwrap();
-    // A program that reads a file may have ended already.
-    let _ = program.stdin.take().unwrap().write_all(input.as_bytes());
-    let output = program.wait_with_output().unwrap();
-    assert!(output.status.success());
-    String::from_utf8(output.stdout).unwrap()
 }
 
 // ---- The report against the script program's own queries.
