@@ -1,3 +1,4 @@
 pub mod Functions
 pub mod Credits
 pub mod Sentences
+pub mod Cases
