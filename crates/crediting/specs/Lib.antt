@@ -1,2 +1,3 @@
 pub mod Ledgers
 pub mod Books
+pub mod Sentences
