@@ -4,3 +4,4 @@ pub mod Figures
 pub mod Whole
 pub mod Counting
 pub mod Sentences
+pub mod Only

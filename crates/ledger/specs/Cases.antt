@@ -42,13 +42,13 @@ marked lines = bytes "cap=2\ntop=1\nmul1=4294967297\nmul2=12884901889\n" ++ byte
 abbrev pub full : String → List ℕ
 full lines =
     marked "op=insert\nkey=1\nfn=30\nat=1\nop=insert\nkey=3\nfn=0\nat=1\nop=insert\nkey=5\nfn=9\nat=1\nop=insert\nkey=7\nfn=10\nat=1\n"
-        ++ bytes lines
+    ++ bytes lines
 
 -- a table that recovery refuses: a step was cut twice, so that its key stands three times
 abbrev pub refused : String → List ℕ
 refused lines =
     marked "op=insert\nkey=0\nfn=1\nat=1\nop=insert\nkey=2\nfn=1\nat=1\nop=insert\nkey=4\nfn=1\nat=1\nop=insert\nkey=6\nfn=1\nat=1\n"
-        ++ bytes "op=insert\nkey=8\nfn=1\nat=1\nop=begin\nop=cut\nafter=4\nop=step\nop=cut\nafter=4\nop=step\n" ++ bytes lines
+    ++ bytes "op=insert\nkey=8\nfn=1\nat=1\nop=begin\nop=cut\nafter=4\nop=step\nop=cut\nafter=4\nop=step\n" ++ bytes lines
 
 abbrev pub cases : List (List ℕ × String)
 cases =

@@ -1,3 +1,4 @@
 pub mod Outputs
 pub mod Cases
 pub mod Parts
+pub mod Request

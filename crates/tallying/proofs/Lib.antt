@@ -3,3 +3,4 @@ pub mod Inserting
 pub mod Crediting
 pub mod Counting
 pub mod Sentences
+pub mod Only
