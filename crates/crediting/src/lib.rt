@@ -91,10 +91,10 @@ fn counted(c: Counts, answer: Query, functions: &mut [u64], samples: &mut [u64])
                 tally: credited,
             }
         }
-        Query::Unknown(_, looked) => Counts {
+        Query::Unknown(_, searched) => Counts {
             samples: wrapping_add_u64(c.samples, 1),
             missing: wrapping_add_u64(c.missing, 1),
-            buckets: wrapping_add_u64(c.buckets, looked),
+            buckets: wrapping_add_u64(c.buckets, searched),
             tally,
         },
     }
