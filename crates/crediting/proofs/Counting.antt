@@ -3,7 +3,7 @@
 use Prim.Native.Nat.{ℕ, _+_, _%_, _^_}
 use mathlib.Core.Path.{_≡_, refl, sym, ap, _∙_}
 use mathlib.Core.Bool.{Bool, true, false, cond}
-use mathlib.Core.List.{List, [], _∷_}
+use mathlib.Core.List.{List}
 use native.Mathlib.Omega.{arith}
 use lib.ListN.{length, take}
 use lib.Dec.{eqb, leb}
@@ -18,8 +18,8 @@ use Rattle.lines.specs.declared.Name.{Name}
 use Rattle.lines.specs.declared.Name.the-variants.{Cap, Top, Mul1, Mul2, Key, Fn, At, After}
 use Rattle.lines.specs.declared.Line.{Line}
 use Rattle.lines.specs.declared.Line.the-variants.{Number, Event, Cut, Bad as BadLine}
-use Rattle.following.specs.Scripts.{nextLine, onward, waits, asks, stopsAt, stops, numbersIn, filled, keyRead, numberRead, nameNumber, eventBegun}
-use Rattle.following.specs.Scripts.{mayBeCut, eventRead, cutRead, noEventLine, noEvent, expected, readingOf}
+use Rattle.following.specs.Scripts.{nextLine, waits, asks, stopsAt, numbersIn, numberRead, nameNumber, eventBegun}
+use Rattle.following.specs.Scripts.{mayBeCut, eventRead, cutRead, noEventLine, expected, readingOf}
 use Rattle.following.specs.declared.Due.{Due}
 use Rattle.following.specs.declared.Due.the-variants.{Number as aNumber, Event as anEvent, Nothing as noMore}
 use Rattle.following.specs.declared.Cut.{Cut as CutLine}
@@ -28,9 +28,7 @@ use Rattle.following.specs.declared.Script.{Script}
 use Rattle.following.specs.declared.Asked.{Asked}
 use Rattle.following.specs.declared.Asked.the-variants.{Nothing as askNothing, Table as askTable, Event as askEvent, Bad as askEnd}
 use Rattle.following.specs.declared.Reading.{Reading}
-use Rattle.replaying.specs.Replays.{begun, created, tooLarge, askedOf, turnOf, Turned}
-use Rattle.replaying.specs.declared.Answer.{Answer}
-use Rattle.replaying.specs.declared.Answer.the-variants.{Created, Bad}
+use Rattle.replaying.specs.Replays.{created, tooLarge, askedOf, turnOf}
 use Rattle.replaying.specs.declared.Replay.{Replay}
 use Rattle.crediting.specs.Sentences.{GoesOn, Read, nothing, line, LinesCounted}
 

@@ -11,11 +11,10 @@ use Rattle.rules.specs.Soundness.{PlainMap, SoundTable, mapOf}
 use Rattle.rules.specs.Results.{queryResult}
 use Rattle.rules.specs.Demands.{QueryBy, countOf}
 use Rattle.rules.specs.declared.Query.{Query}
-use Rattle.rules.specs.declared.Query.the-variants.{Known, Unknown}
 use Rattle.rules.specs.declared.Record.{Record}
 use Rattle.rules.proofs.Tables.Maps.{sound-map}
 use Rattle.rules.proofs.Calls.Queries.{queryAnswers}
-use Rattle.tallying.specs.Credits.{Credits, creditsOf, credited}
+use Rattle.tallying.specs.Credits.{Credits, creditsOf}
 use Rattle.tallying.proofs.Counting.{credits-none, credits-more}
 use Rattle.crediting.specs.Ledgers.{sumOf, withoutRecord, noneIn, functionOf, namedIn, bucketsIn, Figures, figuresOf}
 use Rattle.crediting.specs.Books.{figuresWith, noFigures}

@@ -1,14 +1,13 @@
 -- The definitions of the ledger keep the request's sentences.
 -- Assumes nothing.
-use Prim.Native.Nat.{ℕ, suc, _+_, _%_, _^_, _≤_, _<_}
+use Prim.Native.Nat.{ℕ, suc, _+_, _^_, _≤_, _<_}
 use mathlib.Core.Path.{_≡_, refl, sym, ap, _∙_}
 use mathlib.Core.Bool.{Bool, true, false, cond}
 use mathlib.Core.List.{List, [], _∷_, _++_, map, append-assoc, append-nil}
 use mathlib.Core.Option.{Option, none, some}
 use native.Mathlib.Omega.{arith}
 use lib.ListN.{length, length-append}
-use lib.Dec.{eqb}
-use borrow.Author.Tests.{eq-eqb, ne-eqb, eqb-true}
+use borrow.Author.Tests.{eq-eqb, ne-eqb}
 use Rattle.rules.specs.Choice.{all}
 use Rattle.rules.specs.Words.{Table}
 use Rattle.rules.specs.Soundness.{PlainMap, mapOf}
@@ -23,7 +22,6 @@ use Rattle.rules.specs.declared.Refusal.{Refusal}
 use Rattle.rules.specs.declared.Verdict.the-variants.{Done, Denied}
 use Rattle.rules.proofs.Tables.Maps.{sound-map}
 use Rattle.rules.proofs.Cutting.Restoring.{recovery-restores}
-use Rattle.tallying.specs.Credits.{creditsOf}
 use Rattle.tallying.specs.Sentences.{total}
 use Rattle.tallying.proofs.Sentences.{allSamplesCount}
 use Rattle.lines.specs.Lines.{lineOf}
@@ -31,7 +29,7 @@ use Rattle.lines.specs.Samples.{sampleOf, sampleText}
 use Rattle.lines.specs.declared.Sample.{Sample}
 use Rattle.lines.specs.declared.Sample.the-variants.{Key, Bad as BadSample, Other}
 use Rattle.lines.proofs.Samples.{sampleTextsSay}
-use Rattle.following.specs.Scripts.{endedAt, atEvent, endingOf}
+use Rattle.following.specs.Scripts.{endingOf}
 use Rattle.following.specs.Sentences.{EventDue}
 use Rattle.following.specs.declared.Due.{Due}
 use Rattle.following.specs.declared.Due.the-variants.{Number as aNumber, Event as anEvent, Nothing as noMore}
@@ -39,15 +37,15 @@ use Rattle.following.specs.declared.Cut.{Cut}
 use Rattle.following.specs.declared.Cut.the-variants.{None as noCut, After as cutAfter}
 use Rattle.following.specs.declared.Script.{Script}
 use Rattle.replaying.specs.Events.{lent, answerTo, tableAfter}
-use Rattle.replaying.specs.Replays.{begun, tableOf, turnOf, finished, finishOf}
+use Rattle.replaying.specs.Replays.{begun, tableOf, turnOf, finishOf}
 use Rattle.replaying.specs.declared.Answer.{Answer}
 use Rattle.replaying.specs.declared.Answer.the-variants.{Nothing, Created, Changed, Kept, Found, Events, Bad}
 use Rattle.replaying.specs.declared.Replay.{Replay}
 use Rattle.crediting.specs.Ledgers.{sumOf, withoutRecord, noneIn, functionOf, namedIn, Figures, figuresOf, Report, unmade, unrecovered, badLine, counts}
 use Rattle.crediting.specs.Ledgers.{keysIn, allGood, lineBehind, onceRecovered, noSampleYet, samplesReport, eventAt, eventDue, startsSample}
 use Rattle.crediting.specs.Ledgers.{samplesBegin, unlessEnded, reportFrom, reportOf}
-use Rattle.crediting.specs.Sentences.{NoSample, GoesOn, Read, nothing, line, BadLinesEnd, BadEnd, RefusedTablesEnd, Ready, tableLeft, finalTable}
-use Rattle.crediting.specs.Sentences.{Refuses, Accepts, FinalMap, UnrecoveredEnds, UnrecoveredAtEnd, Words, finalFigures, numberBehind, SamplesReported}
+use Rattle.crediting.specs.Sentences.{NoSample, GoesOn, Read, nothing, line, BadLinesEnd, BadEnd, RefusedTablesEnd, tableLeft, finalTable}
+use Rattle.crediting.specs.Sentences.{FinalMap, UnrecoveredEnds, UnrecoveredAtEnd, Words, finalFigures, numberBehind, SamplesReported}
 use Rattle.crediting.specs.Sentences.{OtherLinesEnd, TornSamplesEnd, BadFirstSampleEnds, MissingCounted, NamedInOrder, BucketsAdded, SumIsSamples}
 use Rattle.crediting.proofs.Figures.{lookedIn}
 use Rattle.crediting.proofs.Counting.{linesCounted}

@@ -1,14 +1,11 @@
 -- What is not one of the cases of an enum, where a definition takes the others alike.
 -- Assumes nothing.
 use Prim.Native.Nat.{ℕ}
-use mathlib.Core.Path.{_≡_, refl, sym}
+use mathlib.Core.Path.{_≡_, refl}
 use mathlib.Core.Bool.{false}
-use mathlib.Core.List.{List, [], _∷_}
+use mathlib.Core.List.{[], _∷_}
 use types.Run.{OneOf, miss}
 use denote.Enum.Declared.{tagOf}
-use Rattle.rules.specs.declared.Change.{Change}
-use Rattle.rules.specs.declared.Change.the-variants.{Refused, Listed}
-use Rattle.rules.specs.declared.Verdict.the-variants.{Done, Denied}
 use Rattle.lines.specs.declared.Sample.{Sample}
 use Rattle.lines.specs.declared.Sample.the-variants.{Key, Bad as BadSample, Other}
 use Rattle.lines.proofs.Sample.{the-type as sample-type}

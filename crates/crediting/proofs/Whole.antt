@@ -1,6 +1,6 @@
 -- Line by line or all at once: the report is the same.
 -- Assumes nothing.
-use Prim.Native.Nat.{ℕ, suc, _+_, _%_, _^_, _≤_}
+use Prim.Native.Nat.{ℕ, suc, _+_, _≤_}
 use mathlib.Core.Path.{_≡_, refl, sym, ap, _∙_}
 use mathlib.Core.Bool.{Bool, true, false, cond}
 use mathlib.Core.List.{List, [], _∷_, _++_, append-assoc, append-nil}
@@ -14,12 +14,11 @@ use Rattle.rules.specs.Choice.{all}
 use Rattle.rules.specs.Words.{Table}
 use Rattle.rules.specs.Soundness.{SoundTable, mapOf}
 use Rattle.rules.specs.Calls.{recover}
-use Rattle.rules.specs.Results.{changeResult, queryResult}
+use Rattle.rules.specs.Results.{changeResult}
 use Rattle.rules.specs.Histories.{Accepted}
 use Rattle.rules.specs.declared.ScriptCall.the-variants.{Recover}
 use Rattle.rules.specs.declared.Change.{Change}
 use Rattle.rules.specs.declared.Change.the-variants.{Listed, Refused}
-use Rattle.rules.specs.declared.Verdict.{Verdict}
 use Rattle.rules.specs.declared.Verdict.the-variants.{Done, Denied}
 use Rattle.rules.proofs.Words.Made.{made-long}
 use Rattle.rules.proofs.Calls.MadeLists.{after-whole}
@@ -37,8 +36,8 @@ use Rattle.replaying.specs.Replays.{begun, tableOf, Turned, counted, turnOf, fi
 use Rattle.replaying.specs.declared.Answer.{Answer}
 use Rattle.replaying.specs.declared.Answer.the-variants.{Nothing, Created, Changed, Kept, Found, Events, Bad as BadAnswer}
 use Rattle.replaying.specs.declared.Replay.{Replay}
-use Rattle.crediting.specs.Ledgers.{Figures, figuresOf, Report, unmade, unrecovered, badLine, counts, keysIn, allGood, lineBehind, onceRecovered}
-use Rattle.crediting.specs.Ledgers.{noSampleYet, samplesReport, eventDue, startsSample, samplesBegin, unlessEnded, reportFrom, reportOf}
+use Rattle.crediting.specs.Ledgers.{Figures, figuresOf, Report, unrecovered, badLine, counts, keysIn, allGood, lineBehind, onceRecovered}
+use Rattle.crediting.specs.Ledgers.{noSampleYet, samplesReport, eventDue, startsSample, unlessEnded, reportFrom, reportOf}
 use Rattle.crediting.specs.Books.{Book, sampled, spoilt, recoveredBook, stageRecovered, whenRecovered, firstSampled, stageAfter, scriptLine}
 use Rattle.crediting.specs.Books.{sampleWhere, firstSaid, laterSaid, scriptRead, sampleRead, lineAt, withLine, scriptEnd, endAt, atEnd}
 use Rattle.crediting.specs.Books.{reportAt, reportIn, reportBehind, knownAt, noFigures, ReportsAreOne}

@@ -25,9 +25,9 @@ use Rattle.following.specs.Sentences.{EventDue}
 use Rattle.replaying.specs.Events.{lent}
 use Rattle.replaying.specs.Replays.{begun, tableOf, turnOf, finishOf}
 use Rattle.replaying.specs.declared.Answer.{Answer}
-use Rattle.replaying.specs.declared.Answer.the-variants.{Created, Events, Bad}
+use Rattle.replaying.specs.declared.Answer.the-variants.{Created, Bad}
 use Rattle.replaying.specs.declared.Replay.{Replay}
-use Rattle.crediting.specs.Ledgers.{noneIn, namedIn, bucketsIn, Figures, figuresOf, Report, unmade, unrecovered, badLine, counts, reportOf}
+use Rattle.crediting.specs.Ledgers.{noneIn, namedIn, bucketsIn, Figures, figuresOf, unmade, unrecovered, badLine, counts, reportOf}
 
 -- ---- the script
 

@@ -18,7 +18,7 @@ use Rattle.replaying.specs.Rooms.{RoomFor}
 use Rattle.running.specs.Runs.{together}
 use Rattle.running.proofs.Parts.{together-last}
 use Rattle.saying.proofs.Puts.{put-text}
-use Rattle.crediting.specs.Books.{figuresIn, bookOf, atEnd, reportAt, reportIn, knownAt, Turned}
+use Rattle.crediting.specs.Books.{figuresIn, atEnd, reportAt, reportIn, knownAt, Turned}
 use Rattle.crediting.specs.declared.Ledger.{Ledger}
 use Rattle.posting.specs.Posts.{Post, begun, afterBytes, reportAfter, postOf, PostIs}
 use Rattle.posting.specs.declared.Posting.{Posting}
@@ -26,7 +26,7 @@ use Rattle.posting.proofs.Whole.{bytesReportedAsLines, partsArePosted, knownSta
 use Rattle.reporting.specs.Texts.{reportText}
 use Rattle.reporting.specs.Promises.{Reported}
 use Rattle.ledger.specs.Outputs.{outputTo}
-use Rattle.ledger.specs.Parts.{writtenAfter, PartsWritten, KnownPartsWritten, Took, ReadSome, Behind, Fronted, turnedTo, OrderlyTurn, Ran}
+use Rattle.ledger.specs.Parts.{writtenAfter, PartsWritten, KnownPartsWritten, Took, ReadSome, Behind, Fronted, Ran}
 use Rattle.ledger.specs.declared.Turn.{Turn}
 use Rattle.ledger.specs.declared.Outcome.{Outcome}
 use Rattle.ledger.specs.declared.Outcome.the-variants.{Going, Known, Ended, Unread}

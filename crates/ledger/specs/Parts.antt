@@ -3,7 +3,7 @@
 use Prim.Native.Nat.{ℕ, _+_, _^_, _≤_, _<_}
 use mathlib.Core.Path.{_≡_}
 use mathlib.Core.Bool.{true, false}
-use mathlib.Core.List.{List, [], _∷_, _++_}
+use mathlib.Core.List.{List, _++_}
 use mathlib.Core.Logic.{_⊎_}
 use lib.ListN.{length, take}
 use Rattle.tallying.specs.Credits.{Orderly}
@@ -11,7 +11,6 @@ use Rattle.replaying.specs.Rooms.{RoomFor}
 use Rattle.running.specs.Runs.{lineRoom, together}
 use Rattle.crediting.specs.Books.{knownAt}
 use Rattle.posting.specs.Posts.{Post, begun, afterBytes, reportAfter, postOf}
-use Rattle.posting.specs.declared.Posting.{Posting}
 use Rattle.reporting.specs.Texts.{reportText}
 use Rattle.ledger.specs.Outputs.{outputTo}
 use Rattle.ledger.specs.declared.Turn.{Turn}

@@ -10,7 +10,6 @@ use native.Mathlib.Decide.{decLe}
 use lib.ListN.{length, take, drop, length-drop}
 use lib.Dec.{eqb}
 use lib.Seq.{take-all, length-take-le}
-use Rattle.rules.proofs.Basics.Lists.{never}
 use Rattle.lines.specs.Lines.{bytes, begins, decimalOf}
 use Rattle.lines.specs.Texts.{decimalText}
 use Rattle.lines.specs.Samples.{keyFound, sampleOf, sampleText, SampleTextsSay, OnlySampleTextsSay, SamplesStart, OthersDoNot}

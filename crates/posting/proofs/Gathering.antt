@@ -3,7 +3,7 @@
 use Prim.Native.Nat.{ℕ, suc, _+_, _-_, _≤_, _<_, min}
 use mathlib.Core.Path.{_≡_, refl, sym, ap, _∙_}
 use mathlib.Core.Bool.{Bool, true, false, cond}
-use mathlib.Core.List.{List, [], _∷_, _++_}
+use mathlib.Core.List.{List, [], _∷_}
 use native.Mathlib.Numerals.{add-one}
 use native.Mathlib.Omega.{arith}
 use lib.ListN.{length, take, drop, getD, length-drop, drop-of-length-le}
@@ -15,7 +15,7 @@ use Rattle.running.specs.Runs.{heldAfter, HeldIs}
 use Rattle.replaying.proofs.Rooms.{take-least}
 use Rattle.crediting.specs.Books.{Book, bookOf, withLine, LedgerIs}
 use Rattle.crediting.specs.declared.Ledger.{Ledger}
-use Rattle.posting.specs.Posts.{Post, lineEnded, byteHeld, afterByte, afterBytes, gathered, gatheredIn, GatheredIs, afterGathered, postOf, PostIs}
+use Rattle.posting.specs.Posts.{Post, lineEnded, byteHeld, afterBytes, gathered, gatheredIn, GatheredIs, afterGathered, postOf, PostIs}
 use Rattle.posting.specs.declared.Gathered.{Gathered}
 use Rattle.posting.specs.declared.Posting.{Posting}
 

@@ -4,22 +4,20 @@ use Prim.Native.Nat.{ℕ}
 use mathlib.Core.Path.{_≡_, refl, sym, ap, _∙_}
 use mathlib.Core.Bool.{Bool, true, false, cond}
 use mathlib.Core.List.{List, [], _∷_, _++_, append-nil}
-use lib.ListN.{length, take}
+use lib.ListN.{take}
 use lib.Dec.{eqb, ltb}
-use Rattle.lines.specs.Lines.{lineOf}
-use Rattle.lines.specs.Samples.{sampleOf}
 use Rattle.lines.specs.declared.Sample.{Sample}
 use Rattle.lines.specs.declared.Sample.the-variants.{Key, Bad as BadSample, Other}
 use Rattle.lines.proofs.Samples.{sample-enough}
-use Rattle.running.specs.Runs.{joined, split, lineRoom, heldAfter}
+use Rattle.running.specs.Runs.{joined, split, lineRoom}
 use Rattle.running.proofs.Lengths.{line-enough}
-use Rattle.running.proofs.Whole.{some-held, prefixed, prefixed-joined, prefixed-nothing, Holds, holds-more, holds-nothing, held-some}
-use Rattle.crediting.specs.Ledgers.{eventDue, reportOf}
-use Rattle.crediting.specs.Books.{Book, scriptLine, sampleWhere, firstSaid, laterSaid, scriptRead, sampleRead, lineAt, withLine, atEnd, reportIn, reportBehind, emptyBook}
+use Rattle.running.proofs.Whole.{prefixed, prefixed-joined, prefixed-nothing, Holds, holds-more, holds-nothing, held-some}
+use Rattle.crediting.specs.Ledgers.{eventDue}
+use Rattle.crediting.specs.Books.{Book, scriptLine, sampleWhere, firstSaid, laterSaid, scriptRead, sampleRead, lineAt, withLine, reportBehind, emptyBook}
 use Rattle.crediting.specs.declared.Stage.{Stage}
 use Rattle.crediting.specs.declared.Stage.the-variants.{Script, Samples, Unmade, Unrecovered, Bad}
 use Rattle.crediting.proofs.Whole.{reportsAreOne, known-behind}
-use Rattle.posting.specs.Posts.{Post, begun, lineEnded, byteHeld, afterByte, afterBytes, reportAfter, reportTo, BytesReportedAsLines, PartsArePosted}
+use Rattle.posting.specs.Posts.{Post, lineEnded, byteHeld, afterByte, afterBytes, reportAfter, reportTo, BytesReportedAsLines, PartsArePosted}
 use Rattle.posting.specs.Posts.{KnownStays}
 
 -- ---- the bytes that are held tell what the line says

@@ -1,6 +1,6 @@
 -- A report's lines, put into a buffer one after the other.
 -- Assumes nothing.
-use Prim.Native.Nat.{ℕ, suc, _+_, _*_, _≤_, _<_}
+use Prim.Native.Nat.{ℕ, _+_, _*_, _≤_, _<_}
 use Prim.Native.String.{String}
 use mathlib.Core.Path.{_≡_, refl, sym, ap, _∙_}
 use mathlib.Core.List.{List, [], _∷_, _++_, append-assoc, append-nil}
@@ -12,7 +12,7 @@ use Rattle.lines.specs.Lines.{bytes}
 use Rattle.lines.specs.Texts.{decimalText}
 use Rattle.saying.specs.Texts.{lineText}
 use Rattle.saying.specs.Writing.{putAt, Put, lineWith}
-use Rattle.saying.proofs.Puts.{put-none, put-length, then, put-text}
+use Rattle.saying.proofs.Puts.{put-length, then, put-text}
 use Rattle.crediting.specs.Ledgers.{Figures}
 use Rattle.crediting.specs.Books.{reportAt}
 use Rattle.crediting.specs.declared.Stage.{Stage}

@@ -1,8 +1,7 @@
 -- What `report` promises of every ledger and every buffer that is long enough: the report's text stands at the front, and nothing else changes.
 -- Assumes nothing.
-use Prim.Native.Nat.{ℕ, _≤_}
+use Prim.Native.Nat.{ℕ}
 use mathlib.Core.List.{List}
-use lib.ListN.{length}
 use Rattle.io.specs.Counts.{Counts}
 use Rattle.saying.specs.Writing.{Put}
 use Rattle.crediting.specs.Ledgers.{Report}

@@ -4,7 +4,6 @@
 use Prim.Native.Nat.{ℕ}
 use mathlib.Core.List.{List, [], _∷_, _++_}
 use Rattle.rules.specs.Answers.{numberOf}
-use Rattle.tallying.specs.Credits.{Credits}
 use Rattle.lines.specs.Lines.{bytes}
 use Rattle.lines.specs.Texts.{decimalText}
 use Rattle.saying.specs.Texts.{lineText}

@@ -7,11 +7,11 @@ use mathlib.Core.List.{List, [], _∷_, _++_, map, append-assoc, append-nil}
 use native.Mathlib.Omega.{arith}
 use native.Mathlib.Decide.{decLe}
 use lib.ListN.{length, take, drop, getD, set, length-append, length-take, take-append-drop}
-use lib.Dec.{eqb, ltb}
-use lib.Seq.{take-all, take-append-le, length-take-le}
+use lib.Dec.{eqb}
+use lib.Seq.{take-all, take-append-le}
 use borrow.Author.Tests.{lt-ltb, le-ltb, eqb-true, eqb-false, eq-eqb, ne-eqb}
 use Rattle.tallying.specs.Functions.{has, withNew, differentFrom, countedOf, timesIn, furtherIn, placeFor, insertedAt, ascendingFrom, ascending}
-use Rattle.tallying.specs.Credits.{Credits, creditsOf, oneMore, oneNew, oneOther, credited, Below, Ascending}
+use Rattle.tallying.specs.Credits.{creditsOf, oneMore, oneNew, oneOther, credited, Below, Ascending}
 use Rattle.tallying.proofs.Searching.{true-false, below-has, inserted-order}
 
 -- ---- one more

@@ -3,15 +3,14 @@
 use Prim.Native.Nat.{ℕ, _+_, _%_, _^_, _≤_, _<_}
 use mathlib.Core.Path.{_≡_, refl, sym, ap, _∙_}
 use mathlib.Core.Bool.{Bool, true, false, cond}
-use mathlib.Core.List.{List, _++_}
+use mathlib.Core.List.{List}
 use native.Mathlib.Omega.{arith}
-use lib.ListN.{length, take, drop, getD, set, length-set}
+use lib.ListN.{length, take, getD, set, length-set}
 use lib.Dec.{eqb, ltb}
 use lib.Seq.{length-take-le, take-set-lt, drop-set-lt, getD-take}
 use borrow.Author.Tests.{lt-ltb, le-ltb, ltb-true, eqb-true, eq-eqb, ne-eqb}
-use Rattle.tallying.specs.Functions.{has, placeFor, insertedAt}
-use Rattle.tallying.specs.Credits.{Credits, credited, Ascending, standsAt, Orderly, Inserted, heldIn, Credited}
-use Rattle.tallying.specs.declared.Tally.{Tally}
+use Rattle.tallying.specs.Functions.{has, placeFor}
+use Rattle.tallying.specs.Credits.{credited, standsAt, Orderly, Inserted, Credited}
 use Rattle.tallying.proofs.Searching.{true-false, at-has, has-at, inserted-order}
 
 -- ---- whether it stands at its place

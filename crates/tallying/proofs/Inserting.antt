@@ -6,8 +6,7 @@ use mathlib.Core.List.{List, [], _∷_, _++_}
 use native.Mathlib.Omega.{arith}
 use native.Mathlib.Numerals.{add-one}
 use lib.ListN.{length, take, drop, getD, set, length-drop}
-use lib.Seq.{getD-drop, getD-append-add, length-take-le, paste, paste-zero, paste-suc, length-paste, length-paste-head, take-paste, drop-paste, take-take, take-nil, drop-nil}
-use Rattle.tallying.specs.Functions.{insertedAt}
+use lib.Seq.{getD-drop, getD-append-add, paste, paste-zero, paste-suc, length-paste, length-paste-head, take-paste, drop-paste, take-take, take-nil, drop-nil}
 use Rattle.tallying.specs.Credits.{Inserted}
 
 -- so many are moved: what stands then, and the word that is carried

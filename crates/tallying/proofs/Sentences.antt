@@ -6,16 +6,16 @@ use mathlib.Core.Bool.{Bool, true, false, cond}
 use mathlib.Core.List.{List, [], _∷_, _++_, map, append-assoc, append-nil}
 use native.Mathlib.Omega.{arith}
 use native.Mathlib.Decide.{decLe}
-use lib.ListN.{length, take, length-append, length-take, length-map, take-append-drop}
+use lib.ListN.{length, take, length-append, length-map}
 use lib.Dec.{eqb}
-use lib.Seq.{take-append-le, take-append-add, length-take-le}
+use lib.Seq.{take-append-le, take-append-add}
 use borrow.Author.Tests.{eqb-true, eqb-false, eq-eqb, ne-eqb}
 use Rattle.tallying.specs.Functions.{has, withNew, differentFrom, countedOf, timesIn, furtherIn, ascending}
-use Rattle.tallying.specs.Credits.{creditsOf, Below, Ascending}
+use Rattle.tallying.specs.Credits.{creditsOf, Ascending}
 use Rattle.tallying.specs.Sentences.{Distinct, FewerNamed, FirstAreCounted, OnlyNamedAreCounted, FunctionsAscend, EachSampleCounts, SamplesOfEach, total}
 use Rattle.tallying.specs.Sentences.{AllSamplesCount}
 use Rattle.tallying.proofs.Searching.{true-false, below-has}
-use Rattle.tallying.proofs.Counting.{either, or-false, has-append, has-different, has-last, has-ascending, one-by-one, different-more, counted-ascend}
+use Rattle.tallying.proofs.Counting.{either, has-append, has-different, has-last, has-ascending, counted-ascend}
 
 -- ---- which functions are counted
 

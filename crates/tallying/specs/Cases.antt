@@ -5,7 +5,7 @@ use mathlib.Core.Path.{_≡_, refl}
 use mathlib.Core.List.{List, [], _∷_, _++_}
 use lib.ListN.{replicate}
 use Rattle.tallying.specs.Functions.{countedOf, timesIn, furtherIn, ascending}
-use Rattle.tallying.specs.Credits.{Credits, creditsOf}
+use Rattle.tallying.specs.Credits.{creditsOf}
 
 -- so many numbers, up from one and down to one
 abbrev pub upFrom : ℕ → ℕ → List ℕ

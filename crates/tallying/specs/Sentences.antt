@@ -1,13 +1,13 @@
 -- Request d) on functions and their samples, said a second time, in facts. No code leans on this. The definitions of `Functions` and `Credits`
 -- are proved to keep it.
 -- Assumes nothing.
-use Prim.Native.Nat.{ℕ, _+_, _%_, _^_, _≤_, _<_}
+use Prim.Native.Nat.{ℕ, _+_, _%_, _^_, _<_}
 use mathlib.Core.Path.{_≡_}
 use mathlib.Core.Bool.{true, false}
-use mathlib.Core.List.{List, [], _∷_, _++_, map}
+use mathlib.Core.List.{List, [], _∷_, _++_}
 use mathlib.Core.Logic.{_↔_}
 use lib.ListN.{length}
-use Rattle.tallying.specs.Functions.{has, timesIn, furtherIn, countedOf}
+use Rattle.tallying.specs.Functions.{has, timesIn}
 use Rattle.tallying.specs.Credits.{creditsOf, Ascending}
 
 -- ---- "The first 512 different functions in input order are counted"

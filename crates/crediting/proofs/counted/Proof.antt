@@ -4,57 +4,41 @@ use Rattle.crediting.proofs.Steps.{known-counted, unknown-counted}
 use borrow.Author.Needs.{needs}
 use Rattle.crediting.proofs.counted.Statement.{statement}
 use Rattle.crediting.proofs.counted.Tie as tie
-use Rattle.crediting.proofs.counted.Reads as reads
-use Rattle.crediting.proofs.counted.Lts as lts
-use Rattle.std.proofs.num.wrapping_add_u64.Reads as wrapping-add-u64-reads
-use Rattle.tallying.proofs.credit.Reads as credit-reads
 
--- src/lib.rt:85:22
 enum-known-answer : tie.Need-enum-known-answer
 enum-known-answer c = search needs
 
--- src/lib.rt:86:17
 credit-requires : tie.Need-credit-requires
 credit-requires c κs = search needs
 
--- src/lib.rt:88:26
 wrapping-add-u64-requires : tie.Need-wrapping-add-u64-requires
 wrapping-add-u64-requires c κs = search needs
 
--- src/lib.rt:90:26
 wrapping-add-u64-requires-2 : tie.Need-wrapping-add-u64-requires-2
 wrapping-add-u64-requires-2 c κs = search needs
 
--- src/lib.rt:94:27
 enum-known-answer-2 : tie.Need-enum-known-answer-2
 enum-known-answer-2 c = search needs
 
--- src/lib.rt:95:22
 wrapping-add-u64-requires-3 : tie.Need-wrapping-add-u64-requires-3
 wrapping-add-u64-requires-3 c κs = search needs
 
--- src/lib.rt:96:22
 wrapping-add-u64-requires-4 : tie.Need-wrapping-add-u64-requires-4
 wrapping-add-u64-requires-4 c κs = search needs
 
--- src/lib.rt:97:22
 wrapping-add-u64-requires-5 : tie.Need-wrapping-add-u64-requires-5
 wrapping-add-u64-requires-5 c κs = search needs
 
--- src/lib.rt:78:1
 same-length : tie.Need-same-length
 same-length c = search needs
 
--- src/lib.rt:78:1
 same-length-2 : tie.Need-same-length-2
 same-length-2 c = search needs
 
--- src/lib.rt:78:1
 returns : tie.Need-returns
 returns c = known-counted (c .before .before .before .before .before .before .before .before .before .before .before .before .before .before .before .args .c) _ _ _ _ (c .before .before .before .before .before .before .before .before .before .before .answer .given .1) (c .before .before .before .before .before .before .credit .ensures) (c .before .wrapping-add-u64 .ensures)
     (c .wrapping-add-u642 .ensures)
 
--- src/lib.rt:78:1
 returns-2 : tie.Need-returns-2
 returns-2 c = unknown-counted (c .before .before .before .before .before .before .before .before .before .args .c) _ _ _ _ (c .before .before .before .before .answer2 .given .1) (c .before .before .wrapping-add-u643 .ensures) (c .before .wrapping-add-u644 .ensures)
     (c .wrapping-add-u645 .ensures) (c .before .before .before .before .before .before .before .before .before .pre)

@@ -4,29 +4,22 @@ use Rattle.crediting.proofs.Stages.{no-event}
 use borrow.Author.Needs.{needs}
 use Rattle.crediting.proofs.event_due.Statement.{statement}
 use Rattle.crediting.proofs.event_due.Tie as tie
-use Rattle.crediting.proofs.event_due.Reads as reads
-use Rattle.crediting.proofs.event_due.Lts as lts
 
 enum-told : tie.Need-enum-told
 enum-told c = search needs
 
--- src/lib.rt:228:9
 returns : tie.Need-returns
 returns c = no-event (c .before .args .script .due) (c .match .keys2) (c .before .args .script .cut)
 
--- src/lib.rt:231:22
 enum-told-2 : tie.Need-enum-told-2
 enum-told-2 c = search needs
 
--- src/lib.rt:232:29
 enum-told-3 : tie.Need-enum-told-3
 enum-told-3 c = search needs
 
--- src/lib.rt:222:1
 returns-2 : tie.Need-returns-2
 returns-2 c = rw (c .before .before .enum-told .given .1, c .enum-told2 .given .1)
 
--- src/lib.rt:222:1
 returns-3 : tie.Need-returns-3
 returns-3 c = search needs
 

@@ -1,68 +1,50 @@
 -- `crediting::finish` meets its contract.
 -- Assumes nothing.
 use Rattle.crediting.proofs.Steps.{ended-as, end-stage, unturned}
-use mathlib.Core.Path.{_∙_, refl}
+use mathlib.Core.Path.{_∙_}
 use borrow.Author.Needs.{needs}
 use Rattle.crediting.proofs.finish.Statement.{statement}
 use Rattle.crediting.proofs.finish.Tie as tie
-use Rattle.crediting.proofs.finish.Reads as reads
-use Rattle.crediting.proofs.finish.Lts as lts
-use Rattle.crediting.proofs.script_ended.Reads as script-ended-reads
-use Rattle.crediting.proofs.spoiled.Reads as spoiled-reads
 
--- src/lib.rt:332:42
 enum-told : tie.Need-enum-told
 enum-told c = search needs
 
--- src/lib.rt:332:26
 script-ended-requires : tie.Need-script-ended-requires
 script-ended-requires c κs = search needs
 
--- src/lib.rt:333:32
 enum-told-2 : tie.Need-enum-told-2
 enum-told-2 c = search needs
 
--- src/lib.rt:333:39
 spoiled-requires : tie.Need-spoiled-requires
 spoiled-requires c κs = search needs
 
--- src/lib.rt:334:29
 enum-told-3 : tie.Need-enum-told-3
 enum-told-3 c = search needs
 
--- src/lib.rt:335:34
 enum-told-4 : tie.Need-enum-told-4
 enum-told-4 c = search needs
 
--- src/lib.rt:336:26
 enum-told-5 : tie.Need-enum-told-5
 enum-told-5 c = search needs
 
--- src/lib.rt:327:1
 same-length : tie.Need-same-length
 same-length c = search needs
 
--- src/lib.rt:327:1
 returns : tie.Need-returns
 returns c = ended-as (λ f s. end-stage _ _ (c .before .before .before .before .enum-told .given .1)) (c .before .before .script-ended .ensures)
 
--- src/lib.rt:327:1
 returns-2 : tie.Need-returns-2
 returns-2 c = ended-as (λ f s. end-stage _ _ (c .before .before .enum-told2 .given .1) ∙ rw (c .before .if1 .taken)) (c .spoiled .ensures _)
 
--- src/lib.rt:327:1
 returns-3 : tie.Need-returns-3
 returns-3 c = unturned _ _ (λ f s. end-stage _ _ (c .before .enum-told2 .given .1) ∙ rw (c .if1 .left))
 
--- src/lib.rt:327:1
 returns-4 : tie.Need-returns-4
 returns-4 c = unturned _ _ (λ f s. end-stage _ _ (c .enum-told3 .given .1))
 
--- src/lib.rt:327:1
 returns-5 : tie.Need-returns-5
 returns-5 c = unturned _ _ (λ f s. end-stage _ _ (c .enum-told4 .given .1))
 
--- src/lib.rt:327:1
 returns-6 : tie.Need-returns-6
 returns-6 c = unturned _ _ (λ f s. end-stage _ _ (c .enum-told5 .given .1))
 

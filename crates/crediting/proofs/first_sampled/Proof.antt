@@ -5,44 +5,32 @@ use Rattle.crediting.proofs.Stages.{stays-unrecovered}
 use borrow.Author.Needs.{needs}
 use Rattle.crediting.proofs.first_sampled.Statement.{statement}
 use Rattle.crediting.proofs.first_sampled.Tie as tie
-use Rattle.crediting.proofs.first_sampled.Reads as reads
-use Rattle.crediting.proofs.first_sampled.Lts as lts
-use Rattle.crediting.proofs.recovered.Reads as recovered-reads
-use Rattle.crediting.proofs.sampled.Reads as sampled-reads
 
--- src/lib.rt:168:9
 recovered-requires : tie.Need-recovered-requires
 recovered-requires c κs = search needs
 
 enum-told : tie.Need-enum-told
 enum-told c = search needs
 
--- src/lib.rt:171:9
 same-length : tie.Need-same-length
 same-length c = search needs
 
--- src/lib.rt:171:9
 returns : tie.Need-returns
 returns c = first-refused _ (c .before .before .before .recovered .result) _ _ _ _ (c .before .before .before .recovered .ensures) _
     (stays-unrecovered (c .before .before .before .recovered .result .stage) (c .match .keys2) (c .before .before .before .before .before .before .before .before .args .key)) (c .before .before .before .before .before .before .before .before .pre)
 
--- src/lib.rt:173:5
 sampled-requires : tie.Need-sampled-requires
 sampled-requires c κs = turned-orderly (c .before .before .before .before .before .before .before .recovered .ensures) (c .before .before .before .before .before .before .before .before .before .before .before .before .pre)
 
--- src/lib.rt:157:1
 same-length-2 : tie.Need-same-length-2
 same-length-2 c = search needs
 
--- src/lib.rt:157:1
 same-length-3 : tie.Need-same-length-3
 same-length-3 c = search needs
 
--- src/lib.rt:157:1
 same-length-4 : tie.Need-same-length-4
 same-length-4 c = search needs
 
--- src/lib.rt:157:1
 returns-2 : tie.Need-returns-2
 returns-2 c = first-taken _ (c .before .before .before .before .before .before .before .before .before .before .before .before .recovered .result) _ _ _ _ (c .before .before .before .before .before .before .before .before .before .before .before .before .recovered .ensures) _ (c .before .before .before .before .before .before .before .before .enum-told .given .1) (c .before .before .before .before .sampled .ensures)
 

@@ -8,42 +8,29 @@ use Rattle.crediting.proofs.Stages.{no-key-spoils}
 use borrow.Author.Needs.{needs}
 use Rattle.crediting.proofs.read_sample.Statement.{statement}
 use Rattle.crediting.proofs.read_sample.Tie as tie
-use Rattle.crediting.proofs.read_sample.Reads as reads
-use Rattle.crediting.proofs.read_sample.Lts as lts
-use Rattle.crediting.proofs.sampled.Reads as sampled-reads
-use Rattle.crediting.proofs.spoiled.Reads as spoiled-reads
-use Rattle.lines.proofs.parse_sample.Reads as parse-sample-reads
 
--- src/lib.rt:280:9
 parse-sample-requires : tie.Need-parse-sample-requires
 parse-sample-requires c κs = search needs
 
--- src/lib.rt:281:21
 enum-known-said : tie.Need-enum-known-said
 enum-known-said c = search needs
 
--- src/lib.rt:282:9
 spoiled-requires : tie.Need-spoiled-requires
 spoiled-requires c κs = search needs
 
--- src/lib.rt:282:9
 returns : tie.Need-returns
 returns c = ledger-as (sample-read _ _ (c .before .before .parse-sample .ensures .answer) (no-key-spoils (c .before .before .parse-sample .result) (c .before .match .keys2) (bookOf (c .before .before .before .before .before .before .before .args .l) _ _ _)))
     (turned-is (c .spoiled .ensures _) _ _ (c .before .before .before .before .before .before .before .pre))
 
--- src/lib.rt:284:5
 sampled-requires : tie.Need-sampled-requires
 sampled-requires c κs = search needs
 
--- src/lib.rt:269:1
 same-length : tie.Need-same-length
 same-length c = search needs
 
--- src/lib.rt:269:1
 same-length-2 : tie.Need-same-length-2
 same-length-2 c = search needs
 
--- src/lib.rt:269:1
 returns-2 : tie.Need-returns-2
 returns-2 c = ledger-as (sample-read _ _ (c .before .before .before .before .before .before .before .before .before .before .parse-sample .ensures .answer) (rw (c .before .before .before .before .before .before .before .before .said .given .1))) (c .before .before .before .before .sampled .ensures)
 

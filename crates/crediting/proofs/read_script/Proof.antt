@@ -4,72 +4,50 @@ use Rattle.crediting.proofs.Steps.{turned-is, ledger-as, script-read}
 use borrow.Author.Needs.{needs}
 use Rattle.crediting.proofs.read_script.Statement.{statement}
 use Rattle.crediting.proofs.read_script.Tie as tie
-use Rattle.crediting.proofs.read_script.Reads as reads
-use Rattle.crediting.proofs.read_script.Lts as lts
-use Rattle.crediting.proofs.event_due.Reads as event-due-reads
-use Rattle.crediting.proofs.first_sampled.Reads as first-sampled-reads
-use Rattle.crediting.proofs.sample_where.Reads as sample-where-reads
-use Rattle.crediting.proofs.script_line.Reads as script-line-reads
-use Rattle.crediting.proofs.spoiled.Reads as spoiled-reads
 
--- src/lib.rt:260:29
 event-due-requires : tie.Need-event-due-requires
 event-due-requires c κs = search needs
 
--- src/lib.rt:260:9
 sample-where-requires : tie.Need-sample-where-requires
 sample-where-requires c κs = search needs
 
--- src/lib.rt:262:21
 enum-known-said : tie.Need-enum-known-said
 enum-known-said c = search needs
 
--- src/lib.rt:262:29
 first-sampled-requires : tie.Need-first-sampled-requires
 first-sampled-requires c κs = search needs
 
--- src/lib.rt:263:24
 enum-told : tie.Need-enum-told
 enum-told c = search needs
 
--- src/lib.rt:263:24
 spoiled-requires : tie.Need-spoiled-requires
 spoiled-requires c κs = search needs
 
--- src/lib.rt:264:41
 enum-told-2 : tie.Need-enum-told-2
 enum-told-2 c = search needs
 
--- src/lib.rt:264:26
 script-line-requires : tie.Need-script-line-requires
 script-line-requires c κs = search needs
 
--- src/lib.rt:247:1
 same-length : tie.Need-same-length
 same-length c = search needs
 
--- src/lib.rt:247:1
 same-length-2 : tie.Need-same-length-2
 same-length-2 c = search needs
 
--- src/lib.rt:247:1
 same-length-3 : tie.Need-same-length-3
 same-length-3 c = search needs
 
--- src/lib.rt:247:1
 returns : tie.Need-returns
 returns c = ledger-as (script-read _ _ (c .before .before .before .before .before .before .before .before .before .before .before .before .before .before .event-due .ensures) (c .before .before .before .before .before .before .before .before .before .before .before .before .before .sample-where .ensures) (rw (c .before .before .before .before .before .before .before .before .before .before .before .said .given .1))) (c .before .before .before .before .before .before .first-sampled .ensures)
 
--- src/lib.rt:247:1
 returns-2 : tie.Need-returns-2
 returns-2 c = ledger-as (script-read _ _ (c .before .before .before .before .event-due .ensures) (c .before .before .before .sample-where .ensures) (rw (c .before .enum-told .given .1)))
     (turned-is (c .spoiled .ensures _) _ _ (c .before .before .before .before .before .before .before .before .before .before .before .pre))
 
--- src/lib.rt:247:1
 same-length-4 : tie.Need-same-length-4
 same-length-4 c = search needs
 
--- src/lib.rt:247:1
 returns-3 : tie.Need-returns-3
 returns-3 c = ledger-as (script-read _ _ (c .before .before .before .before .before .before .before .event-due .ensures) (c .before .before .before .before .before .before .sample-where .ensures) (rw (c .before .before .before .before .enum-told2 .given .1)))
     (turned-is (c .before .before .script-line .ensures) _ _ (c .before .before .before .before .before .before .before .before .before .before .before .before .before .before .pre))

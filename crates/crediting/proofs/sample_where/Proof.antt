@@ -3,19 +3,13 @@
 use borrow.Author.Needs.{needs}
 use Rattle.crediting.proofs.sample_where.Statement.{statement}
 use Rattle.crediting.proofs.sample_where.Tie as tie
-use Rattle.crediting.proofs.sample_where.Reads as reads
-use Rattle.crediting.proofs.sample_where.Lts as lts
-use Rattle.lines.proofs.parse_sample.Reads as parse-sample-reads
 
--- src/lib.rt:241:9
 parse-sample-requires : tie.Need-parse-sample-requires
 parse-sample-requires c κs = search needs
 
--- src/lib.rt:241:9
 returns : tie.Need-returns
 returns c = rw (c .before .if1 .taken) (c .parse-sample .ensures .answer)
 
--- src/lib.rt:237:1
 returns-2 : tie.Need-returns-2
 returns-2 c = search needs
 

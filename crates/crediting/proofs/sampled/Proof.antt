@@ -5,37 +5,25 @@ use Rattle.replaying.proofs.Rooms.{least-fits}
 use borrow.Author.Needs.{needs}
 use Rattle.crediting.proofs.sampled.Statement.{statement}
 use Rattle.crediting.proofs.sampled.Tie as tie
-use Rattle.crediting.proofs.sampled.Reads as reads
-use Rattle.crediting.proofs.sampled.Lts as lts
-use Rattle.crediting.proofs.counted.Reads as counted-reads
-use Rattle.querying.proofs.query.Reads as query-reads
-use Rattle.replaying.proofs.lending.least.Reads as least-reads
 
--- src/lib.rt:117:9
 least-requires : tie.Need-least-requires
 least-requires c κs = search needs
 
--- src/lib.rt:118:24
 slice-aggregate-query : tie.Need-slice-aggregate-query
 slice-aggregate-query c = least-fits _ _ (c .before .least .ensures)
 
--- src/lib.rt:118:9
 query-requires : tie.Need-query-requires
 query-requires c κs = search needs
 
--- src/lib.rt:119:9
 counted-requires : tie.Need-counted-requires
 counted-requires c κs = search needs
 
--- src/lib.rt:104:1
 same-length : tie.Need-same-length
 same-length c = search needs
 
--- src/lib.rt:104:1
 same-length-2 : tie.Need-same-length-2
 same-length-2 c = search needs
 
--- src/lib.rt:104:1
 returns : tie.Need-returns
 returns c = sample-taken (c .before .before .before .before .before .before .before .before .before .before .before .before .before .before .before .args .l) _ _ _ _ (c .before .before .before .before .before .before .before .before .before .least .ensures) (c .before .before .before .before .before .before .before .query .result) (c .before .before .before .before .before .before .before .query .ensures) (c .before .before .before .before .counted .ensures)
 

@@ -4,19 +4,13 @@ use Rattle.crediting.proofs.Steps.{line-spoilt}
 use borrow.Author.Needs.{needs}
 use Rattle.crediting.proofs.spoiled.Statement.{statement}
 use Rattle.crediting.proofs.spoiled.Tie as tie
-use Rattle.crediting.proofs.spoiled.Reads as reads
-use Rattle.crediting.proofs.spoiled.Lts as lts
-use Rattle.std.proofs.num.wrapping_add_u64.Reads as wrapping-add-u64-reads
 
--- src/lib.rt:213:9
 wrapping-add-u64-requires : tie.Need-wrapping-add-u64-requires
 wrapping-add-u64-requires c κs = search needs
 
--- src/lib.rt:216:27
 wrapping-add-u64-requires-2 : tie.Need-wrapping-add-u64-requires-2
 wrapping-add-u64-requires-2 c κs = search needs
 
--- src/lib.rt:207:1
 returns : tie.Need-returns
 returns c = λ room. line-spoilt (c .before .before .before .before .before .args .l) (c .before .wrapping-add-u64 .ensures) (c .wrapping-add-u642 .ensures) room
 

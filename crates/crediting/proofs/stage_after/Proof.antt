@@ -4,38 +4,28 @@ use Rattle.crediting.proofs.Stages.{script-goes-on}
 use borrow.Author.Needs.{needs}
 use Rattle.crediting.proofs.stage_after.Statement.{statement}
 use Rattle.crediting.proofs.stage_after.Tie as tie
-use Rattle.crediting.proofs.stage_after.Reads as reads
-use Rattle.crediting.proofs.stage_after.Lts as lts
 
--- src/lib.rt:181:25
 enum-known-answer : tie.Need-enum-known-answer
 enum-known-answer c = search needs
 
--- src/lib.rt:182:30
 enum-told : tie.Need-enum-told
 enum-told c = search needs
 
--- src/lib.rt:183:29
 enum-known-verdict : tie.Need-enum-known-verdict
 enum-known-verdict c = search needs
 
--- src/lib.rt:185:21
 enum-known-answer-2 : tie.Need-enum-known-answer-2
 enum-known-answer-2 c = search needs
 
--- src/lib.rt:177:1
 returns : tie.Need-returns
 returns c = search needs
 
--- src/lib.rt:177:1
 returns-2 : tie.Need-returns-2
 returns-2 c = rw (c .before .before .before .before .answer .given .1, c .before .verdict .given .1)
 
--- src/lib.rt:177:1
 returns-3 : tie.Need-returns-3
 returns-3 c = rw (c .before .answer2 .given .1)
 
--- src/lib.rt:177:1
 returns-4 : tie.Need-returns-4
 returns-4 c = script-goes-on (c .before .args .answer) (c .match .keys3)
 

@@ -5,80 +5,58 @@ use mathlib.Core.Path.{refl}
 use borrow.Author.Needs.{needs}
 use Rattle.crediting.proofs.take_line.Statement.{statement}
 use Rattle.crediting.proofs.take_line.Tie as tie
-use Rattle.crediting.proofs.take_line.Reads as reads
-use Rattle.crediting.proofs.take_line.Lts as lts
-use Rattle.crediting.proofs.read_sample.Reads as read-sample-reads
-use Rattle.crediting.proofs.read_script.Reads as read-script-reads
 
--- src/lib.rt:301:41
 enum-told : tie.Need-enum-told
 enum-told c = search needs
 
--- src/lib.rt:301:26
 read-script-requires : tie.Need-read-script-requires
 read-script-requires c κs = search needs
 
--- src/lib.rt:302:42
 enum-told-2 : tie.Need-enum-told-2
 enum-told-2 c = search needs
 
--- src/lib.rt:302:27
 read-sample-requires : tie.Need-read-sample-requires
 read-sample-requires c κs = search needs
 
--- src/lib.rt:303:29
 enum-told-3 : tie.Need-enum-told-3
 enum-told-3 c = search needs
 
--- src/lib.rt:304:34
 enum-told-4 : tie.Need-enum-told-4
 enum-told-4 c = search needs
 
--- src/lib.rt:305:26
 enum-told-5 : tie.Need-enum-told-5
 enum-told-5 c = search needs
 
--- src/lib.rt:288:1
 same-length : tie.Need-same-length
 same-length c = search needs
 
--- src/lib.rt:288:1
 same-length-2 : tie.Need-same-length-2
 same-length-2 c = search needs
 
--- src/lib.rt:288:1
 same-length-3 : tie.Need-same-length-3
 same-length-3 c = search needs
 
--- src/lib.rt:288:1
 returns : tie.Need-returns
 returns c = ledger-as (at-stage _ _ (c .before .before .before .before .before .before .before .before .before .before .enum-told .given .1)) (c .before .before .before .before .before .before .read-script .ensures)
 
--- src/lib.rt:288:1
 same-length-4 : tie.Need-same-length-4
 same-length-4 c = search needs
 
--- src/lib.rt:288:1
 same-length-5 : tie.Need-same-length-5
 same-length-5 c = search needs
 
--- src/lib.rt:288:1
 same-length-6 : tie.Need-same-length-6
 same-length-6 c = search needs
 
--- src/lib.rt:288:1
 returns-2 : tie.Need-returns-2
 returns-2 c = ledger-as (at-stage _ _ (c .before .before .before .before .before .before .before .before .enum-told2 .given .1)) (c .before .before .before .before .read-sample .ensures)
 
--- src/lib.rt:288:1
 returns-3 : tie.Need-returns-3
 returns-3 c = ledger-as (at-stage _ _ (c .enum-told3 .given .1)) (record { book = refl; orderly = c .before .before .before .before .before .before .pre })
 
--- src/lib.rt:288:1
 returns-4 : tie.Need-returns-4
 returns-4 c = ledger-as (at-stage _ _ (c .enum-told4 .given .1)) (record { book = refl; orderly = c .before .before .before .before .before .before .pre })
 
--- src/lib.rt:288:1
 returns-5 : tie.Need-returns-5
 returns-5 c = ledger-as (at-stage _ _ (c .enum-told5 .given .1)) (record { book = refl; orderly = c .before .before .before .before .before .before .pre })
 

@@ -12,10 +12,6 @@ use mathlib.Core.Path.{_≡_, refl}
 use Prim.Native.Nat.{_-_, _^_, _<_}
 use Rattle.ledger.proofs.read_all.Statement.{statement}
 use Rattle.ledger.proofs.read_all.Tie as tie
-use Rattle.ledger.proofs.read_all.Reads as reads
-use Rattle.ledger.proofs.read_all.Lts as lts
-use Rattle.ledger.proofs.read_some.Reads as read-some-reads
-use Rattle.posting.proofs.ready.Reads as ready-reads
 
 abbrev Inv-loop : tie.InvT-loop
 Inv-loop room₀ functions₀ samples₀ line₀ input₀ posting₀ parts₀ room functions samples line input posting parts =
@@ -27,52 +23,41 @@ abbrev μ-loop : tie.MeasureT-loop
 μ-loop room₀ functions₀ samples₀ line₀ input₀ posting₀ parts₀ room functions samples line input posting parts =
     2 ^ 64 - parts
 
--- src/main.rt:94:9
 ready-requires : tie.Need-ready-requires Inv-loop μ-loop
 ready-requires c κs = search needs
 
--- src/main.rt:96:5
 loop-holds : tie.Need-loop-holds Inv-loop μ-loop
 loop-holds c = let p = c .before .before .before .before .before .pre in
     (refl, refl, refl, refl, omega arith, orderly-none (c .ready .ensures .1) _ _ (p .1) (p .2), behind-none (c .ready .result) _ _ _ _ (c .ready .ensures .0))
 
--- src/main.rt:97:13
 read-some-requires : tie.Need-read-some-requires Inv-loop μ-loop
 read-some-requires c κs = c .before .before .before .before .before .before .loop .inv .5
 
 enum-told : tie.Need-enum-told Inv-loop μ-loop
 enum-told c = search needs
 
--- src/main.rt:101:13
 same-length : tie.Need-same-length Inv-loop μ-loop
 same-length c = search needs
 
--- src/main.rt:101:13
 same-length-2 : tie.Need-same-length-2 Inv-loop μ-loop
 same-length-2 c = search needs
 
--- src/main.rt:101:13
 same-length-3 : tie.Need-same-length-3 Inv-loop μ-loop
 same-length-3 c = search needs
 
--- src/main.rt:101:13
 same-length-4 : tie.Need-same-length-4 Inv-loop μ-loop
 same-length-4 c = search needs
 
--- src/main.rt:101:13
 returns : tie.Need-returns Inv-loop μ-loop
 returns c = let d = c .before .before .before .before .before .before .before .before .before .before in
     (ran (roomIsEnough _ (c .before .before .before .before .before .before .before .before .before .before .before .before .before .before .before .before .before .before .before .before .before .before .before .pre .0)) (c .before .before .before .before .before .before .before .before .before .before .before .before .before .before .before .before .before .loop .inv .6) (d .read-some .ensures .0) (not-going (d .read-some .result .outcome) (c .match .keys2)), d .read-some .ensures .1)
 
--- src/main.rt:107:9
 add-parts : tie.Need-add-parts Inv-loop μ-loop
 add-parts c = search needs
 
--- src/main.rt:96:5
 loop-less : tie.Need-loop-less Inv-loop μ-loop
 loop-less c = search needs
 
--- src/main.rt:96:5
 loop-again : tie.Need-loop-again Inv-loop μ-loop
 loop-again c = let d = c .before .before .before .before .before .before .before .before .before .before .before in (
   search needs,
@@ -84,23 +69,18 @@ loop-again c = let d = c .before .before .before .before .before .before .before
   behind-next (c .before .before .before .before .before .before .before .before .before .before .before .before .before .before .before .before .before .before .loop .inv .6) (d .read-some .ensures .0) (c .enum-told .given .1),
 )
 
--- src/main.rt:82:1
 same-length-5 : tie.Need-same-length-5 Inv-loop μ-loop
 same-length-5 c = search needs
 
--- src/main.rt:82:1
 same-length-6 : tie.Need-same-length-6 Inv-loop μ-loop
 same-length-6 c = search needs
 
--- src/main.rt:82:1
 same-length-7 : tie.Need-same-length-7 Inv-loop μ-loop
 same-length-7 c = search needs
 
--- src/main.rt:82:1
 same-length-8 : tie.Need-same-length-8 Inv-loop μ-loop
 same-length-8 c = search needs
 
--- src/main.rt:82:1
 returns-2 : tie.Need-returns-2 Inv-loop μ-loop
 returns-2 c = let v = c .before .loop .inv in
     (ran-on (roomIsEnough _ (c .before .before .before .before .before .before .before .pre .0)) (v .6) (omega (arith, c .loop-test .left, v .4)), v .5)

@@ -5,74 +5,52 @@ use mathlib.Core.Path.{sym, _∙_}
 use borrow.Author.Needs.{needs}
 use Rattle.ledger.proofs.read_some.Statement.{statement}
 use Rattle.ledger.proofs.read_some.Tie as tie
-use Rattle.ledger.proofs.read_some.Reads as reads
-use Rattle.ledger.proofs.read_some.Lts as lts
-use Rattle.crediting.proofs.known.Reads as known-reads
-use Rattle.io.proofs.count.Reads as count-reads
-use Rattle.libc.proofs.read.Reads as read-reads
-use Rattle.posting.proofs.take_part.Reads as take-part-reads
 
--- src/main.rt:54:8
 known-requires : tie.Need-known-requires
 known-requires c κs = search needs
 
--- src/main.rt:55:9
 returns : tie.Need-returns
 returns c = (read-known (c .before .before .before .before .before .before .before .args .p) _ _ _ _ _ (sym (c .before .known .ensures) ∙ c .if1 .taken), c .before .before .before .before .before .before .before .pre)
 
--- src/main.rt:60:9
 read-requires : tie.Need-read-requires
 read-requires c κs = search needs
 
--- src/main.rt:62:9
 same-length : tie.Need-same-length
 same-length c = search needs
 
--- src/main.rt:62:9
 returns-2 : tie.Need-returns-2
 returns-2 c = (read-failed (c .before .before .before .before .before .before .before .before .before .before .before .before .args .p) _ _ _ _ _ (sym (c .before .before .before .before .before .before .known .ensures) ∙ c .before .before .before .before .before .if1 .left), c .before .before .before .before .before .before .before .before .before .before .before .before .pre)
 
--- src/main.rt:67:9
 count-requires : tie.Need-count-requires
 count-requires c κs = search needs
 
--- src/main.rt:69:9
 same-length-2 : tie.Need-same-length-2
 same-length-2 c = search needs
 
--- src/main.rt:69:9
 returns-3 : tie.Need-returns-3
 returns-3 c = (read-ended (c .before .before .before .before .before .before .before .before .before .before .before .before .before .before .before .args .p) _ _ _ _ _ (sym (c .before .before .before .before .before .before .before .before .before .known .ensures) ∙ c .before .before .before .before .before .before .before .before .if1 .left), c .before .before .before .before .before .before .before .before .before .before .before .before .before .before .before .pre)
 
--- src/main.rt:74:61
 slice-reshare-prefix-take-part : tie.Need-slice-reshare-prefix-take-part
 slice-reshare-prefix-take-part c = search needs
 
--- src/main.rt:74:61
 slice-aggregate-take-part : tie.Need-slice-aggregate-take-part
 slice-aggregate-take-part c = search needs
 
--- src/main.rt:74:9
 take-part-requires : tie.Need-take-part-requires
 take-part-requires c κs = search needs
 
--- src/main.rt:40:1
 same-length-3 : tie.Need-same-length-3
 same-length-3 c = search needs
 
--- src/main.rt:40:1
 same-length-4 : tie.Need-same-length-4
 same-length-4 c = search needs
 
--- src/main.rt:40:1
 same-length-5 : tie.Need-same-length-5
 same-length-5 c = search needs
 
--- src/main.rt:40:1
 same-length-6 : tie.Need-same-length-6
 same-length-6 c = search needs
 
--- src/main.rt:40:1
 returns-4 : tie.Need-returns-4
 returns-4 c = let d = c .before .before .before .before .before .before .take-part .ensures in
     (read-taken (c .before .before .before .before .before .before .before .before .before .before .before .before .before .before .before .before .before .before .before .before .before .before .before .before .before .before .before .args .p) _ _ _ _ _ (sym (c .before .before .before .before .before .before .before .before .before .before .before .before .before .before .before .before .before .before .before .before .before .known .ensures) ∙ c .before .before .before .before .before .before .before .before .before .before .before .before .before .before .before .before .before .before .before .before .if1 .left) (c .before .before .before .before .before .before .before .before .before .before .before .before .before .count .result) (c .before .before .before .before .before .before .before .before .before .before .before .before .if3 .left) (c .before .before .before .before .before .before .before .before .before .before .before .before .before .count .ensures .0 .0) d, d .orderly)

@@ -9,9 +9,6 @@ use mathlib.Core.Path.{_≡_, refl, sym, _∙_}
 use Prim.Native.Nat.{_≤_, _-_}
 use Rattle.posting.proofs.gather.Statement.{statement}
 use Rattle.posting.proofs.gather.Tie as tie
-use Rattle.posting.proofs.gather.Reads as reads
-use Rattle.posting.proofs.gather.Lts as lts
-use Rattle.running.proofs.hold.Reads as hold-reads
 
 abbrev Inv-loop : tie.InvT-loop
 Inv-loop line₀ start text held₀ i₀ i-end line held i = (i ≤ length text) × (i-end ≡ length text) × (gatheredIn line₀ start text ≡ rest line held text i)
@@ -19,44 +16,34 @@ Inv-loop line₀ start text held₀ i₀ i-end line held i = (i ≤ length text)
 abbrev μ-loop : tie.MeasureT-loop
 μ-loop line₀ start text held₀ i₀ i-end line held i = length text - i
 
--- src/lib.rt:44:5
 loop-holds : tie.Need-loop-holds Inv-loop μ-loop
 loop-holds c = (omega arith, refl, rest-first _ _ _)
 
--- src/lib.rt:45:12
 shared-slice-read-if1 : tie.Need-shared-slice-read-if1 Inv-loop μ-loop
 shared-slice-read-if1 c = omega arith
 
--- src/lib.rt:48:24
 add-t10 : tie.Need-add-t10 Inv-loop μ-loop
 add-t10 c = omega arith
 
--- src/lib.rt:46:13
 returns : tie.Need-returns Inv-loop μ-loop
 returns c = sym (c .before .before .before .loop .inv .2 ∙ rest-hit _ _ _ _ (omega arith) (c .if1 .taken))
 
--- src/lib.rt:52:33
 shared-slice-read-hold : tie.Need-shared-slice-read-hold Inv-loop μ-loop
 shared-slice-read-hold c = omega arith
 
--- src/lib.rt:52:9
 hold-requires : tie.Need-hold-requires Inv-loop μ-loop
 hold-requires c κs = search needs
 
--- src/lib.rt:44:9
 add-i : tie.Need-add-i Inv-loop μ-loop
 add-i c = omega arith
 
--- src/lib.rt:44:5
 loop-less : tie.Need-loop-less Inv-loop μ-loop
 loop-less c = omega arith
 
--- src/lib.rt:44:5
 loop-again : tie.Need-loop-again Inv-loop μ-loop
 loop-again c = let d = c .before .before .before .before .before .before in
     (omega arith, refl, d .loop .inv .2 ∙ rest-pass _ _ _ _ (omega arith) (c .before .before .before .if1 .left) (c .hold .ensures))
 
--- src/lib.rt:40:1
 returns-2 : tie.Need-returns-2 Inv-loop μ-loop
 returns-2 c = sym (c .before .loop .inv .2 ∙ rest-ends _ _ _ _ (c .loop-test .left) (omega arith))
 

@@ -9,10 +9,6 @@ use mathlib.Core.Path.{_≡_, refl}
 use Prim.Native.Nat.{_-_}
 use Rattle.posting.proofs.take_part.Statement.{statement}
 use Rattle.posting.proofs.take_part.Tie as tie
-use Rattle.posting.proofs.take_part.Reads as reads
-use Rattle.posting.proofs.take_part.Lts as lts
-use Rattle.posting.proofs.gather.Reads as gather-reads
-use Rattle.posting.proofs.take_gathered.Reads as take-gathered-reads
 
 abbrev Inv-loop : tie.InvT-loop
 Inv-loop room₀ functions₀ samples₀ line₀ part posting₀ at₀ room functions samples line posting at =
@@ -22,42 +18,33 @@ Inv-loop room₀ functions₀ samples₀ line₀ part posting₀ at₀ room func
 abbrev μ-loop : tie.MeasureT-loop
 μ-loop room₀ functions₀ samples₀ line₀ part posting₀ at₀ room functions samples line posting at = length part - at
 
--- src/lib.rt:98:5
 loop-holds : tie.Need-loop-holds Inv-loop μ-loop
 loop-holds c = (refl, refl, refl, passed-none (c .before .before .before .before .args .start) _ _ _ _ _ (c .before .before .before .before .pre))
 
--- src/lib.rt:101:38
 sub-gather : tie.Need-sub-gather Inv-loop μ-loop
 sub-gather c = omega (arith, c .before .before .before .loop .inv .3 .within)
 
--- src/lib.rt:101:38
 part-gather-start : tie.Need-part-gather-start Inv-loop μ-loop
 part-gather-start c = search needs
 
--- src/lib.rt:101:38
 part-gather-end : tie.Need-part-gather-end Inv-loop μ-loop
 part-gather-end c = search needs
 
--- src/lib.rt:101:13
 gather-requires : tie.Need-gather-requires Inv-loop μ-loop
 gather-requires c κs = search needs
 
--- src/lib.rt:102:9
 add-at : tie.Need-add-at Inv-loop μ-loop
 add-at c = let l = c .before .before .before .before .before .before in
     let t = taken-some (l .loop .inv .3) (c .before .before .before .before .before .loop-test .taken) _ _ (c .before .gather .ensures) in
     omega (arith, t .1, c .before .before .before .before .before .before .before .before .before .before .before .good .1 .1 .1 .1 .1 .0 .0)
 
--- src/lib.rt:103:9
 take-gathered-requires : tie.Need-take-gathered-requires Inv-loop μ-loop
 take-gathered-requires c κs = c .before .before .before .before .before .before .before .before .before .before .loop .inv .3 .orderly
 
--- src/lib.rt:98:5
 loop-less : tie.Need-loop-less Inv-loop μ-loop
 loop-less c = let t = taken-some (c .before .before .before .before .before .before .before .before .before .before .before .before .before .before .before .before .before .loop .inv .3) (c .before .before .before .before .before .before .before .before .before .before .before .before .before .before .before .before .loop-test .taken) _ _ (c .before .before .before .before .before .before .before .before .before .before .before .before .gather .ensures) in
     omega (arith, t .0, t .1)
 
--- src/lib.rt:98:5
 loop-again : tie.Need-loop-again Inv-loop μ-loop
 loop-again c = (
   search needs,
@@ -66,19 +53,15 @@ loop-again c = (
   passed-more (c .before .before .before .before .before .before .before .before .before .before .before .before .before .before .before .before .before .loop .inv .3) (c .before .before .before .before .before .before .before .before .before .before .before .before .before .before .before .before .loop-test .taken) _ _ (c .before .before .before .before .before .before .before .before .before .before .before .before .gather .ensures) (c .before .before .before .before .before .before .take-gathered .ensures),
 )
 
--- src/lib.rt:84:1
 same-length : tie.Need-same-length Inv-loop μ-loop
 same-length c = search needs
 
--- src/lib.rt:84:1
 same-length-2 : tie.Need-same-length-2 Inv-loop μ-loop
 same-length-2 c = search needs
 
--- src/lib.rt:84:1
 same-length-3 : tie.Need-same-length-3 Inv-loop μ-loop
 same-length-3 c = search needs
 
--- src/lib.rt:84:1
 returns : tie.Need-returns Inv-loop μ-loop
 returns c = passed-all (c .before .loop .inv .3) (c .loop-test .left)
 

@@ -6,52 +6,37 @@ use Rattle.reporting.proofs.Putting.{counts-put}
 use borrow.Author.Needs.{needs}
 use Rattle.reporting.proofs.put_counts.Statement.{statement}
 use Rattle.reporting.proofs.put_counts.Tie as tie
-use Rattle.reporting.proofs.put_counts.Reads as reads
-use Rattle.reporting.proofs.put_counts.Lts as lts
-use Rattle.reporting.proofs.put_functions.Reads as put-functions-reads
-use Rattle.reporting.proofs.put_line.Reads as put-line-reads
 
--- src/lib.rt:68:27
 slice-aggregate-put-line : tie.Need-slice-aggregate-put-line
 slice-aggregate-put-line c = search needs
 
--- src/lib.rt:68:9
 put-line-requires : tie.Need-put-line-requires
 put-line-requires c κs = search needs
 
--- src/lib.rt:69:26
 slice-aggregate-put-line-2 : tie.Need-slice-aggregate-put-line-2
 slice-aggregate-put-line-2 c = search needs
 
--- src/lib.rt:69:9
 put-line-requires-2 : tie.Need-put-line-requires-2
 put-line-requires-2 c κs = search needs
 
--- src/lib.rt:70:9
 put-functions-requires : tie.Need-put-functions-requires
 put-functions-requires c κs = search needs
 
--- src/lib.rt:71:25
 slice-aggregate-put-line-3 : tie.Need-slice-aggregate-put-line-3
 slice-aggregate-put-line-3 c = search needs
 
--- src/lib.rt:71:9
 put-line-requires-3 : tie.Need-put-line-requires-3
 put-line-requires-3 c κs = search needs
 
--- src/lib.rt:72:14
 slice-aggregate-put-line-4 : tie.Need-slice-aggregate-put-line-4
 slice-aggregate-put-line-4 c = search needs
 
--- src/lib.rt:72:5
 put-line-requires-4 : tie.Need-put-line-requires-4
 put-line-requires-4 c κs = search needs
 
--- src/lib.rt:63:1
 same-length : tie.Need-same-length
 same-length c = search needs
 
--- src/lib.rt:63:1
 returns : tie.Need-returns
 returns c = let a = c .before .before .before .before .before .before .before .before .before .before .before .before .before .before .before .before .before .before .before .before .before .before .before .before .before .before .before .before .args in
     counts-put (figuresIn (a .c) (now (a .functions)) (now (a .samples))) (c .before .before .before .before .before .before .before .before .before .before .before .before .before .before .before .before .before .before .before .before .before .put-line .ensures .0) (c .before .before .before .before .before .before .before .before .before .before .before .before .before .before .before .before .put-line2 .ensures .0) (c .before .before .before .before .before .before .before .before .before .before .before .before .put-functions .ensures .0)

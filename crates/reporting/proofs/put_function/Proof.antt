@@ -7,64 +7,46 @@ use native.Mathlib.Omega.{arith}
 use borrow.Author.Needs.{needs}
 use Rattle.reporting.proofs.put_function.Statement.{statement}
 use Rattle.reporting.proofs.put_function.Tie as tie
-use Rattle.reporting.proofs.put_function.Reads as reads
-use Rattle.reporting.proofs.put_function.Lts as lts
-use Rattle.saying.proofs.copy.Reads as copy-reads
-use Rattle.saying.proofs.copy_text.Reads as copy-text-reads
-use Rattle.saying.proofs.tell.Reads as tell-reads
 
--- src/lib.rt:35:27
 slice-aggregate-copy-text : tie.Need-slice-aggregate-copy-text
 slice-aggregate-copy-text c = search needs
 
--- src/lib.rt:35:9
 copy-text-requires : tie.Need-copy-text-requires
 copy-text-requires c κs = search needs
 
--- src/lib.rt:36:9
 tell-requires : tie.Need-tell-requires
 tell-requires c κs = search needs
 
--- src/lib.rt:37:27
 slice-aggregate-copy-text-2 : tie.Need-slice-aggregate-copy-text-2
 slice-aggregate-copy-text-2 c = search needs
 
--- src/lib.rt:37:9
 copy-text-requires-2 : tie.Need-copy-text-requires-2
 copy-text-requires-2 c κs = search needs
 
--- src/lib.rt:38:9
 tell-requires-2 : tie.Need-tell-requires-2
 tell-requires-2 c κs = search needs
 
--- src/lib.rt:39:23
 slice-aggregate-copy-text-3 : tie.Need-slice-aggregate-copy-text-3
 slice-aggregate-copy-text-3 c = search needs
 
--- src/lib.rt:39:9
 copy-text-requires-3 : tie.Need-copy-text-requires-3
 copy-text-requires-3 c κs = search needs
 
--- src/lib.rt:40:10
 array-share-prefix-text : tie.Need-array-share-prefix-text
 array-share-prefix-text c = put-fits (c .copy-text3 .ensures .0)
 
--- src/lib.rt:40:10
 slice-aggregate-copy : tie.Need-slice-aggregate-copy
 slice-aggregate-copy c = put-lent (c .before .copy-text3 .ensures .0)
 
--- src/lib.rt:40:5
 copy-requires : tie.Need-copy-requires
 copy-requires c κs = let p = c .before .before in (
   omega (arith, put-lent (p .copy-text3 .ensures .0)),
   omega (arith, c .before .before .before .before .before .before .before .before .before .before .before .before .before .before .before .before .pre, p .copy-text3 .ensures .1, c .before .before .before .before .before .tell2 .ensures .1, c .before .before .before .before .before .before .before .copy-text2 .ensures .1, c .before .before .before .before .before .before .before .before .before .before .tell .ensures .1, c .before .before .before .before .before .before .before .before .before .before .before .before .copy-text .ensures .1),
 )
 
--- src/lib.rt:30:1
 same-length : tie.Need-same-length
 same-length c = search needs
 
--- src/lib.rt:30:1
 returns : tie.Need-returns
 returns c = let p = c .before .before .before .before .before in
     let q = p .before .before .before .before .before in

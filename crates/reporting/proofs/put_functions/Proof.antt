@@ -1,7 +1,6 @@
 -- `reporting::put_functions` meets its contract.
 -- Assumes nothing.
 use Rattle.reporting.proofs.Putting.{Lines, lines-none, lines-more, lines-all}
-use Rattle.saying.proofs.Puts.{put-length}
 use borrow.Author.Needs.{needs}
 use lib.ListN.{length}
 use native.Mathlib.Omega.{arith}
@@ -9,9 +8,6 @@ use mathlib.Core.Path.{_≡_, refl}
 use Prim.Native.Nat.{_-_, _≤_}
 use Rattle.reporting.proofs.put_functions.Statement.{statement}
 use Rattle.reporting.proofs.put_functions.Tie as tie
-use Rattle.reporting.proofs.put_functions.Reads as reads
-use Rattle.reporting.proofs.put_functions.Lts as lts
-use Rattle.reporting.proofs.put_function.Reads as put-function-reads
 
 abbrev Inv-loop : tie.InvT-loop
 Inv-loop functions samples used out₀ start at₀ i₀ out at i = (i ≤ used) × (length out ≡ length out₀) × Lines functions samples start out₀ i at out
@@ -19,49 +15,38 @@ Inv-loop functions samples used out₀ start at₀ i₀ out at i = (i ≤ used) 
 abbrev μ-loop : tie.MeasureT-loop
 μ-loop functions samples used out₀ start at₀ i₀ out at i = used - i
 
--- src/lib.rt:56:5
 loop-holds : tie.Need-loop-holds Inv-loop μ-loop
 loop-holds c = (omega arith, refl, lines-none _ _ _ _ (omega (arith, c .before .before .before .pre .2)))
 
--- src/lib.rt:57:27
 mul-put-function : tie.Need-mul-put-function Inv-loop μ-loop
 mul-put-function c = search needs
 
--- src/lib.rt:57:27
 shared-slice-read-put-function : tie.Need-shared-slice-read-put-function Inv-loop μ-loop
 shared-slice-read-put-function c = omega (arith, c .before .before .before .before .before .before .pre .0)
 
--- src/lib.rt:57:41
 mul-put-function-2 : tie.Need-mul-put-function-2 Inv-loop μ-loop
 mul-put-function-2 c = search needs
 
--- src/lib.rt:57:41
 shared-slice-read-put-function-2 : tie.Need-shared-slice-read-put-function-2 Inv-loop μ-loop
 shared-slice-read-put-function-2 c = omega (arith, c .before .before .before .before .before .before .before .pre .1)
 
--- src/lib.rt:57:9
 put-function-requires : tie.Need-put-function-requires Inv-loop μ-loop
 put-function-requires c κs = omega (arith, c .before .before .before .before .loop .inv .1, c .before .before .before .before .loop .inv .2 .few, c .before .before .before .before .before .before .before .before .pre .2)
 
--- src/lib.rt:56:9
 add-i : tie.Need-add-i Inv-loop μ-loop
 add-i c = omega arith
 
--- src/lib.rt:56:5
 loop-less : tie.Need-loop-less Inv-loop μ-loop
 loop-less c = omega arith
 
--- src/lib.rt:56:5
 loop-again : tie.Need-loop-again Inv-loop μ-loop
 loop-again c = let l = c .before .before .before .before .before .before .before in
     let p = c .before .before .before .before .before .before .before .before .before .before .before .pre in
     (omega arith, search needs, lines-more _ _ _ _ (l .loop .i) (omega (arith, p .0)) (omega (arith, p .1)) (l .loop .inv .2) (c .before .before .put-function .ensures .0) (c .before .before .put-function .ensures .1))
 
--- src/lib.rt:44:1
 same-length : tie.Need-same-length Inv-loop μ-loop
 same-length c = c .before .loop .inv .1
 
--- src/lib.rt:44:1
 returns : tie.Need-returns Inv-loop μ-loop
 returns c = lines-all _ _ _ _ (c .before .loop .inv .0) (c .loop-test .left) (c .before .loop .inv .2)
 

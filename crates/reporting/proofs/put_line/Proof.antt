@@ -5,32 +5,22 @@ use native.Mathlib.Omega.{arith}
 use borrow.Author.Needs.{needs}
 use Rattle.reporting.proofs.put_line.Statement.{statement}
 use Rattle.reporting.proofs.put_line.Tie as tie
-use Rattle.reporting.proofs.put_line.Reads as reads
-use Rattle.reporting.proofs.put_line.Lts as lts
-use Rattle.saying.proofs.copy.Reads as copy-reads
-use Rattle.saying.proofs.line.Reads as line-reads
 
--- src/lib.rt:25:9
 line-requires : tie.Need-line-requires
 line-requires c κs = search needs
 
--- src/lib.rt:26:10
 array-share-prefix-text : tie.Need-array-share-prefix-text
 array-share-prefix-text c = put-fits (c .line .ensures .0)
 
--- src/lib.rt:26:10
 slice-aggregate-copy : tie.Need-slice-aggregate-copy
 slice-aggregate-copy c = put-lent (c .before .line .ensures .0)
 
--- src/lib.rt:26:5
 copy-requires : tie.Need-copy-requires
 copy-requires c κs = (omega (arith, put-lent (c .before .before .line .ensures .0)), omega (arith, c .before .before .line .ensures .1))
 
--- src/lib.rt:20:1
 same-length : tie.Need-same-length
 same-length c = search needs
 
--- src/lib.rt:20:1
 returns : tie.Need-returns
 returns c = let p = c .before .before .before .before .before in (put-again (p .line .ensures .0) (c .before .before .copy .ensures .0), omega (arith, p .line .ensures .1, c .before .before .copy .ensures .1))
 

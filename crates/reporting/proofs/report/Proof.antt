@@ -8,109 +8,79 @@ use mathlib.Core.Path.{refl}
 use borrow.Author.Needs.{needs}
 use Rattle.reporting.proofs.report.Statement.{statement}
 use Rattle.reporting.proofs.report.Tie as tie
-use Rattle.reporting.proofs.report.Reads as reads
-use Rattle.reporting.proofs.report.Lts as lts
-use Rattle.numbering.proofs.number.Reads as number-reads
-use Rattle.reporting.proofs.put_counts.Reads as put-counts-reads
-use Rattle.reporting.proofs.put_line.Reads as put-line-reads
 
--- src/lib.rt:84:65
 enum-told : tie.Need-enum-told
 enum-told c = search needs
 
--- src/lib.rt:84:26
 put-counts-requires : tie.Need-put-counts-requires
 put-counts-requires c κs = search needs
 
--- src/lib.rt:85:66
 enum-told-2 : tie.Need-enum-told-2
 enum-told-2 c = search needs
 
--- src/lib.rt:85:27
 put-counts-requires-2 : tie.Need-put-counts-requires-2
 put-counts-requires-2 c κs = search needs
 
--- src/lib.rt:86:23
 enum-known-stage : tie.Need-enum-known-stage
 enum-known-stage c = search needs
 
--- src/lib.rt:86:44
 slice-aggregate-put-line : tie.Need-slice-aggregate-put-line
 slice-aggregate-put-line c = search needs
 
--- src/lib.rt:86:54
 number-requires : tie.Need-number-requires
 number-requires c κs = search needs
 
--- src/lib.rt:86:35
 put-line-requires : tie.Need-put-line-requires
 put-line-requires c κs = search needs
 
--- src/lib.rt:87:28
 enum-known-stage-2 : tie.Need-enum-known-stage-2
 enum-known-stage-2 c = search needs
 
--- src/lib.rt:87:49
 slice-aggregate-put-line-2 : tie.Need-slice-aggregate-put-line-2
 slice-aggregate-put-line-2 c = search needs
 
--- src/lib.rt:87:61
 number-requires-2 : tie.Need-number-requires-2
 number-requires-2 c κs = search needs
 
--- src/lib.rt:87:40
 put-line-requires-2 : tie.Need-put-line-requires-2
 put-line-requires-2 c κs = search needs
 
--- src/lib.rt:88:20
 enum-known-stage-3 : tie.Need-enum-known-stage-3
 enum-known-stage-3 c = search needs
 
--- src/lib.rt:88:38
 slice-aggregate-put-line-3 : tie.Need-slice-aggregate-put-line-3
 slice-aggregate-put-line-3 c = search needs
 
--- src/lib.rt:88:29
 put-line-requires-3 : tie.Need-put-line-requires-3
 put-line-requires-3 c κs = search needs
 
--- src/lib.rt:76:1
 same-length : tie.Need-same-length
 same-length c = search needs
 
--- src/lib.rt:76:1
 returns : tie.Need-returns
 returns c = reported _ _ (c .before .before .before .before .enum-told .given .1) (c .before .before .put-counts .ensures)
 
--- src/lib.rt:76:1
 same-length-2 : tie.Need-same-length-2
 same-length-2 c = search needs
 
--- src/lib.rt:76:1
 returns-2 : tie.Need-returns-2
 returns-2 c = reported _ _ (c .before .before .before .before .enum-told2 .given .1) (c .before .before .put-counts2 .ensures)
 
--- src/lib.rt:76:1
 same-length-3 : tie.Need-same-length-3
 same-length-3 c = search needs
 
--- src/lib.rt:76:1
 returns-3 : tie.Need-returns-3
 returns-3 c = reported _ _ (c .before .before .before .before .before .before .before .stage .given .1) (line-put "made" (c .before .before .before .before .number .result) (numberOf (c .before .before .before .before .before .before .before .stage .given .0 .0)) (c .before .before .before .before .number .ensures) (c .before .before .put-line .ensures .0))
 
--- src/lib.rt:76:1
 same-length-4 : tie.Need-same-length-4
 same-length-4 c = search needs
 
--- src/lib.rt:76:1
 returns-4 : tie.Need-returns-4
 returns-4 c = reported _ _ (c .before .before .before .before .before .before .before .stage2 .given .1) (line-put "answer" (c .before .before .before .before .number2 .result) (numberOf (c .before .before .before .before .before .before .before .stage2 .given .0 .0)) (c .before .before .before .before .number2 .ensures) (c .before .before .put-line2 .ensures .0))
 
--- src/lib.rt:76:1
 same-length-5 : tie.Need-same-length-5
 same-length-5 c = search needs
 
--- src/lib.rt:76:1
 returns-5 : tie.Need-returns-5
 returns-5 c = reported _ _ (c .before .before .before .before .before .before .stage3 .given .1) (line-put "bad" (c .before .before .before .before .before .before .stage3 .given .0 .0) (c .before .before .before .before .before .before .stage3 .given .0 .0) refl (c .before .before .put-line3 .ensures .0))
 

@@ -11,7 +11,7 @@ use lib.Seq.{set-set, set-comm}
 use Rattle.rules.specs.Words.{Table, word, taken, GoodHeader, headerOf, flagOf, targetOf, loggedOf, InUse, tokenWord, keyWord, functionWord}
 use Rattle.rules.specs.Words.{placeWord, keyIn, recordIn, tokenOf, keysOf}
 use Rattle.rules.specs.Stores.{Store, clearStores, redoStores, made}
-use Rattle.rules.specs.Soundness.{PlainMap, Before, twins, DoubledTable, FlaggedTable}
+use Rattle.rules.specs.Soundness.{PlainMap, HasMap, Before, twins, DoubledTable, FlaggedTable}
 use Rattle.rules.specs.Calls.{listed, recover, recoverOf, outcome}
 use Rattle.rules.specs.Results.{changeOf, changeResult}
 use Rattle.rules.specs.Histories.{whole, after}
@@ -27,7 +27,7 @@ use Rattle.rules.proofs.Carrying.Touched.{Near, touched}
 use Rattle.rules.proofs.Carrying.StoreKinds.{SlotWritten}
 use Rattle.rules.proofs.Words.Tokens.{kept-follows}
 use Rattle.rules.proofs.Carrying.SlotChanged.{shown-after, rewrite-carried, written-orderly, placed-here}
-use Rattle.rules.proofs.Tables.Twins.{same-or-twins, twins-ordered}
+use Rattle.rules.proofs.Tables.Twins.{same-or-twins, twins-ordered, before-apart}
 use Rattle.rules.proofs.Tables.Findings.{KindOf, kind-found, recover-passes}
 use Rattle.rules.proofs.Carrying.Moving.{Only, map-value}
 use Rattle.rules.proofs.Calls.MadeLists.{storesOf, after-whole}
@@ -55,6 +55,19 @@ twin-doubled t m x y w order = record {
   equal = map-value t m (w .map) x y (w .first) (w .second) (sym (w .same));
   only = w .only;
 }
+
+-- and a doubled table with a map is a twin
+pub doubled-twin : (t : Table) (m : PlainMap) (x y : Slot) → DoubledTable t x y → HasMap t m → Mends t m
+doubled-twin t m x y d has =
+    asTwin x y (record {
+      orderly = d .orderly;
+      map = has;
+      first = d .first;
+      second = d .later;
+      apart = λ e. before-apart x y (d .order) (sym e);
+      same = sym (d .key);
+      only = d .only;
+    })
 
 twin-ordered : (t : Table) (m : PlainMap) (x y : Slot) → TwinMap t m x y → Before x y ⊎ Before y x
 twin-ordered t m x y w = go (same-or-twins t x y (w .first) (w .second) (sym (w .same)))

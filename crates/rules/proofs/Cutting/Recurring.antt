@@ -29,7 +29,7 @@ use Rattle.rules.proofs.Carrying.Moving.{Nothing, Only, copied-map}
 use Rattle.rules.proofs.Calls.MadeLists.{storesOf, after-whole, after-cut, accepted-lists}
 use Rattle.rules.proofs.Cutting.Cuts.{cut-after}
 use Rattle.rules.proofs.Carrying.Putting.{SoundMap, clear-writes, clear-carries, good-cleared}
-use Rattle.rules.proofs.Cutting.Mending.{Mends, asSound, asTwin, asRedo, mends, recovered}
+use Rattle.rules.proofs.Cutting.Mending.{Mends, asSound, asRedo, doubled-twin, mends, recovered}
 
 -- ---- what recovery brings a map back from is one of the three kinds, with that map
 
@@ -43,15 +43,7 @@ module _ (t : Table) (m : PlainMap) where
       let still = carried-stays t u (Only y) Nothing carried (headerOf t .c) (good-cleared t o y (d .later))
       (clear-writes t o y (d .later) .near .header) x (d .first) (before-apart x y (d .order)) in
       let stands : m (keyIn t y) ≡ some (recordIn t y) = ap m (sym (still .1 ∙ d .key)) ∙ has .stands x (still .0) ∙ ap some (still .2 ∙ d .equal) in
-      asTwin x y (record {
-        orderly = o;
-        map = copied-map u t (headerOf t .c) (o .header .state) m has y (carried-back t u (Only y) carried) stands;
-        first = d .first;
-        second = d .later;
-        apart = λ e. before-apart x y (d .order) (sym e);
-        same = sym (d .key);
-        only = d .only;
-      })
+      doubled-twin t m x y d (copied-map u t (headerOf t .c) (o .header .state) m has y (carried-back t u (Only y) carried) stands)
 
   recovered-mends : Recovered t m → Mends t m
   recovered-mends r = go (finding t) (finding-means t) (sym (recover-passes t 20 header (omega arith)) ∙ answer)

@@ -21,7 +21,6 @@ use Rattle.rules.specs.declared.Refusal.the-variants.{ShortList}
 use Rattle.rules.proofs.Words.Headers.{header-fits}
 use Rattle.rules.proofs.Words.Made.{made-kept, made-left}
 use Rattle.rules.proofs.Tables.Maps.{record-map, sound-map}
-use Rattle.rules.proofs.Tables.Twins.{before-apart}
 use Rattle.rules.proofs.Tables.Findings.{KindOf, finding-means, recover-passes}
 use Rattle.rules.proofs.Carrying.Touched.{Touched, touched, unseen, unseen-orderly}
 use Rattle.rules.proofs.Carrying.Carried.{carried-alone}
@@ -31,21 +30,12 @@ use Rattle.rules.proofs.Calls.Checked.{checked-passed}
 use Rattle.rules.proofs.Calls.Inside.{accepted-header}
 use Rattle.rules.proofs.Calls.MadeLists.{accepted-lists}
 use Rattle.rules.proofs.Calls.StoreLists.{never-listed}
-use Rattle.rules.proofs.Cutting.Mending.{Mends, asSound, asTwin, asRedo, still-flagged, recovered}
+use Rattle.rules.proofs.Cutting.Mending.{Mends, asSound, asRedo, doubled-twin, still-flagged, recovered}
 
 -- ---- a key that stands twice with equal records
 
 doubled-mends : (t : Table) (x y : Slot) → DoubledTable t x y → Mends t (mapOf t)
-doubled-mends t x y d =
-    asTwin x y (record {
-      orderly = d .orderly;
-      map = record-map t (λ a b p q k. same (d .only a b p q k));
-      first = d .first;
-      second = d .later;
-      apart = λ e. before-apart x y (d .order) (sym e);
-      same = sym (d .key);
-      only = d .only;
-    })
+doubled-mends t x y d = doubled-twin t (mapOf t) x y d (record-map t (λ a b p q k. same (d .only a b p q k)))
   where
     same : {a b : Slot} → (a ≡ b) ⊎ (((a ≡ x) × (b ≡ y)) ⊎ ((a ≡ y) × (b ≡ x))) → recordIn t a ≡ recordIn t b
     same (inl e) = ap (recordIn t) e

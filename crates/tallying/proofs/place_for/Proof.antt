@@ -1,10 +1,9 @@
 -- `tallying::place_for` meets its contract: the place is never before `low` and never behind `high`.
 -- Assumes nothing.
 use Prim.Native.Nat.{_-_, _≤_}
-use mathlib.Core.Path.{_≡_}
 use native.Mathlib.Omega.{arith}
 use denote.Ref.{now}
-use lib.ListN.{length, take}
+use lib.ListN.{take}
 use borrow.Author.Needs.{needs}
 use Rattle.tallying.specs.Functions.{placeFor}
 use Rattle.tallying.proofs.Searching.{half-above, half-below, place-used}
