@@ -7,7 +7,7 @@ use mathlib.Core.List.{List, [], _∷_, _++_}
 use mathlib.Core.Logic.{⊎-elim, inl, inr}
 use native.Mathlib.Nat.{zero-add}
 use native.Mathlib.Omega.{arith}
-use lib.ListN.{length, take, length-append}
+use lib.ListN.{length, take}
 use lib.Dec.{ltb, eqb}
 use lib.Seq.{length-take-le}
 use borrow.Author.Tests.{eqb-false}
@@ -15,8 +15,8 @@ use denote.Enum.Declared.{tagOf}
 use types.Run.{OneOf, miss}
 use Rattle.tallying.specs.Credits.{Orderly}
 use Rattle.replaying.specs.Rooms.{RoomFor}
-use Rattle.running.specs.Runs.{together}
-use Rattle.running.proofs.Parts.{together-last}
+use Rattle.running.specs.Runs.{together, Behind}
+use Rattle.running.proofs.Parts.{behind-nothing, behind-part}
 use Rattle.saying.proofs.Puts.{put-text}
 use Rattle.crediting.specs.Books.{figuresIn, atEnd, reportAt, reportIn, knownAt, Turned}
 use Rattle.crediting.specs.declared.Ledger.{Ledger}
@@ -26,7 +26,7 @@ use Rattle.posting.proofs.Whole.{bytesReportedAsLines, partsArePosted, knownSta
 use Rattle.reporting.specs.Texts.{reportText}
 use Rattle.reporting.specs.Promises.{Reported}
 use Rattle.ledger.specs.Outputs.{outputTo}
-use Rattle.ledger.specs.Parts.{writtenAfter, PartsWritten, KnownPartsWritten, Took, ReadSome, Behind, Fronted, Ran}
+use Rattle.ledger.specs.Parts.{writtenAfter, PartsWritten, KnownPartsWritten, Took, ReadSome, Fronted, Ran}
 use Rattle.ledger.specs.declared.Turn.{Turn}
 use Rattle.ledger.specs.declared.Outcome.{Outcome}
 use Rattle.ledger.specs.declared.Outcome.the-variants.{Going, Known, Ended, Unread}
@@ -149,30 +149,22 @@ read-onward {x} {input} {r} {u} t = go (knownAt (x .book .stage)) refl
 -- ---- all parts
 
 pub behind-none : (p : Posting) (room f s line : List ℕ) → ((room f s line : List ℕ) → postOf p room f s line ≡ begun room line)
-    → Behind (begun room line) 0 (postOf p room f s line)
-behind-none p room f s line e = record { parts = []; post = e room f s line ∙ sym (after-none (begun room line)); long = omega arith }
+    → Behind afterBytes (begun room line) 0 (postOf p room f s line)
+behind-none p room f s line e = rw (e room f s line) (behind-nothing afterBytes (begun room line) (after-none (begun room line)))
 
--- one part more
-behind-more : {x u v : Post} {n : ℕ} {r : Turn} → Behind x n u → (o : Onward u r v) → (m : ℕ) → m ≤ n + length (o .part) → Behind x m v
-behind-more {x} b o m few =
-    let all = together-last (b .parts) (o .part) in
-    record {
-      parts = b .parts ++ (o .part ∷ []);
-      post = o .post ∙ ap (λ (y : Post). afterBytes y (o .part)) (b .post) ∙ sym (partsArePosted x (together (b .parts)) (o .part))
-          ∙ ap (afterBytes x) (sym all);
-      long = omega (arith, few, b .long, ap length all ∙ length-append (together (b .parts)) (o .part));
-    }
+behind-more : {x u v : Post} {n : ℕ} {r : Turn} → Behind afterBytes x n u → (o : Onward u r v) → (m : ℕ) → m ≤ n + length (o .part) → Behind afterBytes x m v
+behind-more b o m few = behind-part afterBytes partsArePosted b (o .part) (o .post) m few
 
-pub behind-next : {x u v : Post} {n : ℕ} {input : List ℕ} {r : Turn} → Behind x n u → ReadSome u input r v → r .outcome ≡ Going → Behind x (n + 1) v
+pub behind-next : {x u v : Post} {n : ℕ} {input : List ℕ} {r : Turn} → Behind afterBytes x n u → ReadSome u input r v → r .outcome ≡ Going → Behind afterBytes x (n + 1) v
 behind-next {n = n} b t e = let o = read-onward t in behind-more b o (n + 1) (omega (arith, o .some e))
 
-pub ran : {x u v : Post} {n : ℕ} {input : List ℕ} {r : Turn} → RoomFor (x .book .room) → Behind x n u → ReadSome u input r v → (r .outcome ≡ Going → ⊥)
+pub ran : {x u v : Post} {n : ℕ} {input : List ℕ} {r : Turn} → RoomFor (x .book .room) → Behind afterBytes x n u → ReadSome u input r v → (r .outcome ≡ Going → ⊥)
     → Ran x (r .outcome) v
 ran {n = n} fits b t stops =
     let o = read-onward t in
     record { count = n; behind = behind-more b o n (omega arith); rightly = o .rightly; never = λ e. absurd (stops e); room = fits }
 
-pub ran-on : {x u : Post} {n : ℕ} → RoomFor (x .book .room) → Behind x n u → 2 ^ 64 ≤ n + 1 → Ran x Going u
+pub ran-on : {x u : Post} {n : ℕ} → RoomFor (x .book .room) → Behind afterBytes x n u → 2 ^ 64 ≤ n + 1 → Ran x Going u
 ran-on {n = n} fits b e = record { count = n; behind = b; rightly = λ k. absurd (differ Going Known refl k); never = λ _. e; room = fits }
 
 pub orderly-none : {used : ℕ} → used ≡ 0 → (f s : List ℕ) → length f ≡ 512 → length s ≡ 512 → Orderly used f s

@@ -8,7 +8,7 @@ use mathlib.Core.Logic.{_⊎_}
 use lib.ListN.{length, take}
 use Rattle.tallying.specs.Credits.{Orderly}
 use Rattle.replaying.specs.Rooms.{RoomFor}
-use Rattle.running.specs.Runs.{lineRoom, together}
+use Rattle.running.specs.Runs.{lineRoom, together, Behind}
 use Rattle.crediting.specs.Books.{knownAt}
 use Rattle.posting.specs.Posts.{Post, begun, afterBytes, reportAfter, postOf}
 use Rattle.reporting.specs.Texts.{reportText}
@@ -49,12 +49,6 @@ pub record ReadSome (x : Post) (input : List ℕ) (r : Turn) (u : Post) : Type 0
   pub stops : knownAt (x .book .stage) ≡ true → (r .outcome ≡ Known) × (u ≡ x)
   pub reads : knownAt (x .book .stage) ≡ false → ((r .outcome ≡ Unread) × (u ≡ x)) ⊎ ((n : ℕ) × (n ≤ length input) × Took x (take n input) r u)
 
--- so many bytes or more were read, in parts, and the ledger stands behind them
-pub record Behind (x : Post) (count : ℕ) (u : Post) : Type 0 where
-  pub parts : List (List ℕ)
-  pub post : u ≡ afterBytes x (together parts)
-  pub long : count ≤ length (together parts)
-
 -- a text stands at the front of a buffer
 abbrev pub Fronted : List ℕ → List ℕ → Type 0
 Fronted out text = take (length text) out ≡ text
@@ -70,7 +64,7 @@ OrderlyTurn r f s = Orderly (r .posting .ledger .counts .tally .used) f s
 -- behind 2^64 − 1 bytes or more. Its room has the words of every table that it may be asked for
 pub record Ran (x : Post) (outcome : Outcome) (u : Post) : Type 0 where
   pub count : ℕ
-  pub behind : Behind x count u
+  pub behind : Behind afterBytes x count u
   pub rightly : outcome ≡ Known → knownAt (u .book .stage) ≡ true
   pub never : outcome ≡ Going → 2 ^ 64 ≤ count + 1
   pub room : RoomFor (x .book .room)

@@ -1,11 +1,11 @@
 -- An input in parts is answered as the whole of it, and nothing more is said once the answer is known.
 -- Assumes nothing.
-use Prim.Native.Nat.{ℕ}
+use Prim.Native.Nat.{ℕ, _+_, _≤_}
 use mathlib.Core.Path.{_≡_, refl, sym, ap, _∙_}
 use mathlib.Core.Bool.{Bool, true, false, cond}
 use mathlib.Core.List.{List, [], _∷_, _++_, append-assoc, append-nil}
 use native.Mathlib.Omega.{arith}
-use lib.ListN.{take}
+use lib.ListN.{length, take, length-append}
 use lib.Dec.{eqb, ltb}
 use Rattle.lines.specs.Lines.{lineOf}
 use Rattle.lines.specs.declared.Line.{Line}
@@ -21,7 +21,7 @@ use Rattle.replaying.specs.declared.Answer.{Answer}
 use Rattle.replaying.specs.declared.Answer.the-variants.{Nothing}
 use Rattle.replaying.specs.declared.Replay.{Replay}
 use Rattle.running.specs.Runs.{heldAfter, After, byteTaken, overAt, endOf, fed, silent, spoken, KnownIsAll, UnknownIsNotAll, Stand}
-use Rattle.running.specs.Runs.{afterByte, afterBytes, answersIn, together, PartsAreFed}
+use Rattle.running.specs.Runs.{afterByte, afterBytes, answersIn, together, PartsAreFed, Behind}
 
 -- ---- parts
 
@@ -43,6 +43,25 @@ pub answers-more : (s : Stand) (xs ys : List ℕ) → answersIn s (xs ++ ys) ≡
 unfolding afterBytes answersIn
 answers-more s [] ys = refl
 answers-more s (b ∷ bs) ys = ap (λ (rest : List Answer). byteTaken (s .run) (s .room) (s .line) b .answer ∷ rest) (answers-more (afterByte s b) bs ys)
+
+-- ---- many parts
+
+module _ {S : Type 0} (take-part : S → List ℕ → S) where
+  pub behind-nothing : (x : S) → take-part x [] ≡ x → Behind take-part x 0 x
+  behind-nothing x e = record { parts = []; stand = sym e; long = omega arith }
+
+  -- one part more
+  pub behind-part : ((x : S) (xs ys : List ℕ) → take-part x (xs ++ ys) ≡ take-part (take-part x xs) ys) → {x u v : S} {n : ℕ} → Behind take-part x n u
+      → (part : List ℕ) → v ≡ take-part u part
+      → (m : ℕ) → m ≤ n + length part
+      → Behind take-part x m v
+  behind-part more {x} b part e m few =
+      let all = together-last (b .parts) part in
+      record {
+        parts = b .parts ++ (part ∷ []);
+        stand = e ∙ ap (λ (y : S). take-part y part) (b .stand) ∙ sym (more x (together (b .parts)) part) ∙ ap (take-part x) (sym all);
+        long = omega (arith, few, b .long, ap length all ∙ length-append (together (b .parts)) part);
+      }
 
 -- ---- the answer is known
 

@@ -1,6 +1,6 @@
 -- Document 01, "Script program": a run, byte by byte and as a whole.
 -- Assumes nothing.
-use Prim.Native.Nat.{ℕ, _+_}
+use Prim.Native.Nat.{ℕ, _+_, _≤_}
 use mathlib.Core.Path.{_≡_}
 use mathlib.Core.Bool.{Bool, true, false, cond}
 use mathlib.Core.List.{List, [], _∷_, _++_, map}
@@ -183,3 +183,9 @@ together (p ∷ ps) = p ++ together ps
 abbrev pub PartsAreFed : Type 0
 PartsAreFed = (s : Stand) (part later : List ℕ) → fed (s .run) (s .room) (s .line) (part ++ later)
     ≡ answersIn s part ++ fed (afterBytes s part .run) (afterBytes s part .room) (afterBytes s part .line) later
+
+-- so many bytes or more were read, in parts, and what is made of them stands behind them all: of a run, or of whatever else takes parts
+pub record Behind {S : Type 0} (take-part : S → List ℕ → S) (x : S) (count : ℕ) (u : S) : Type 0 where
+  pub parts : List (List ℕ)
+  pub stand : u ≡ take-part x (together parts)
+  pub long : count ≤ length (together parts)

@@ -16,16 +16,16 @@ use denote.Enum.Declared.{tagOf}
 use types.Run.{OneOf}
 use Rattle.replaying.specs.declared.Answer.{Answer}
 use Rattle.replaying.specs.Rooms.{RoomFor}
-use Rattle.running.specs.Runs.{lineRoom, ready, byteTaken, TakenIs, known, endOf, fed, Stand, afterByte, afterBytes, answersIn, together}
+use Rattle.running.specs.Runs.{lineRoom, ready, byteTaken, TakenIs, known, endOf, fed, Stand, afterByte, afterBytes, answersIn, together, Behind}
 use Rattle.running.specs.declared.Run.{Run}
 use Rattle.running.specs.declared.Taken.{Taken}
-use Rattle.running.proofs.Parts.{partsAreFed, together-last, after-more, answers-more, knownIsAll}
+use Rattle.running.proofs.Parts.{partsAreFed, after-more, answers-more, behind-nothing, behind-part, knownIsAll}
 use Rattle.saying.specs.Texts.{textOf}
 use Rattle.saying.specs.Writing.{Put}
 use Rattle.saying.proofs.Puts.{put-length, put-text}
 use Rattle.script.specs.Outputs.{outputTo}
 use Rattle.script.specs.Parts.{begun, textIn, pauses, texts, PartsWritten, KnownPartsWritten, TookSome, TookPart, WentOn}
-use Rattle.script.specs.Parts.{ReadSome, Behind, Ran}
+use Rattle.script.specs.Parts.{ReadSome, Ran}
 use Rattle.script.specs.declared.Took.{Took}
 use Rattle.script.specs.declared.Part.{Part}
 use Rattle.script.specs.declared.Turn.{Turn}
@@ -344,28 +344,20 @@ read-onward {s} {input} {r} {u} t = go (known (s .run)) refl
 
 -- ---- all parts
 
-pub behind-none : (room line : List ℕ) {run : Run} → run ≡ ready → Behind (begun room line) 0 (record { run = run; room = room; line = line })
-behind-none room line e = record { parts = []; stand = rw e (sym (after-none (begun room line))); long = omega arith }
+pub behind-none : (room line : List ℕ) {run : Run} → run ≡ ready → Behind afterBytes (begun room line) 0 (record { run = run; room = room; line = line })
+behind-none room line e = rw e (behind-nothing afterBytes (begun room line) (after-none (begun room line)))
 
--- one part more
-behind-more : {s u v : Stand} {n : ℕ} {r : Turn} → Behind s n u → (o : Onward u r v) → (m : ℕ) → m ≤ n + length (o .part) → Behind s m v
-behind-more {s} {u} {v} {n} b o m few =
-    let all = together-last (b .parts) (o .part) in
-    record {
-      parts = b .parts ++ (o .part ∷ []);
-      stand = o .stand ∙ ap (λ (x : Stand). afterBytes x (o .part)) (b .stand) ∙ sym (after-more s (together (b .parts)) (o .part))
-          ∙ ap (afterBytes s) (sym all);
-      long = omega (arith, few, b .long, ap length all ∙ length-append (together (b .parts)) (o .part));
-    }
+behind-more : {s u v : Stand} {n : ℕ} {r : Turn} → Behind afterBytes s n u → (o : Onward u r v) → (m : ℕ) → m ≤ n + length (o .part) → Behind afterBytes s m v
+behind-more b o m few = behind-part afterBytes after-more b (o .part) (o .stand) m few
 
-pub behind-next : {s u v : Stand} {n : ℕ} {input : List ℕ} {r : Turn} → Behind s n u → ReadSome u input r v → r .outcome ≡ Going → Behind s (n + 1) v
+pub behind-next : {s u v : Stand} {n : ℕ} {input : List ℕ} {r : Turn} → Behind afterBytes s n u → ReadSome u input r v → r .outcome ≡ Going → Behind afterBytes s (n + 1) v
 behind-next {n = n} b t e = let o = read-onward t in behind-more b o (n + 1) (omega (arith, o .some e))
 
-pub ran : {s u v : Stand} {n : ℕ} {input : List ℕ} {r : Turn} → RoomFor (s .room) → Behind s n u → ReadSome u input r v → (r .outcome ≡ Going → ⊥)
+pub ran : {s u v : Stand} {n : ℕ} {input : List ℕ} {r : Turn} → RoomFor (s .room) → Behind afterBytes s n u → ReadSome u input r v → (r .outcome ≡ Going → ⊥)
     → Ran s (r .outcome) v
 ran {n = n} fits b t stops =
     let o = read-onward t in
     record { count = n; behind = behind-more b o n (omega arith); rightly = o .rightly; never = λ e. absurd (stops e); room = fits }
 
-pub ran-on : {s u : Stand} {n : ℕ} → RoomFor (s .room) → Behind s n u → 2 ^ 64 ≤ n + 1 → Ran s Going u
+pub ran-on : {s u : Stand} {n : ℕ} → RoomFor (s .room) → Behind afterBytes s n u → 2 ^ 64 ≤ n + 1 → Ran s Going u
 ran-on {n = n} fits b e = record { count = n; behind = b; rightly = λ k. absurd (differ Going Known refl k); never = λ _. e; room = fits }

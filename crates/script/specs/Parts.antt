@@ -8,7 +8,7 @@ use mathlib.Core.Logic.{_⊎_}
 use lib.ListN.{length, take}
 use lib.Dec.{ltb}
 use Rattle.replaying.specs.Rooms.{RoomFor}
-use Rattle.running.specs.Runs.{lineRoom, ready, known, endOf, Stand, afterBytes, answersIn, together}
+use Rattle.running.specs.Runs.{lineRoom, ready, known, endOf, Stand, afterBytes, answersIn, together, Behind}
 use Rattle.running.specs.declared.Run.{Run}
 use Rattle.saying.specs.Texts.{textOf}
 use Rattle.script.specs.Outputs.{outputTo}
@@ -85,17 +85,11 @@ pub record ReadSome (s : Stand) (input : List ℕ) (r : Turn) (u : Stand) : Type
   pub stops : known (s .run) ≡ true → (r .outcome ≡ Known) × (u ≡ s)
   pub reads : known (s .run) ≡ false → ((r .outcome ≡ Unread) × (u ≡ s)) ⊎ ((n : ℕ) × (n ≤ length input) × WentOn s (take n input) r u)
 
--- so many bytes or more were read, in parts, and the run stands behind them
-pub record Behind (s : Stand) (count : ℕ) (u : Stand) : Type 0 where
-  pub parts : List (List ℕ)
-  pub stand : u ≡ afterBytes s (together parts)
-  pub long : count ≤ length (together parts)
-
 -- All parts are taken, in their order. The answer is said to be known only where it is, and the program stops while it could go on
 -- only behind 2^64 − 1 bytes or more. Its room has the words of every table that it may be asked for
 pub record Ran (s : Stand) (outcome : Outcome) (u : Stand) : Type 0 where
   pub count : ℕ
-  pub behind : Behind s count u
+  pub behind : Behind afterBytes s count u
   pub rightly : outcome ≡ Known → known (u .run) ≡ true
   pub never : outcome ≡ Going → 2 ^ 64 ≤ count + 1
   pub room : RoomFor (s .room)

@@ -1,8 +1,8 @@
 -- `ledger::read_all` meets its contract.
 -- Assumes nothing.
 use Rattle.ledger.proofs.Parts.{behind-none, behind-next, not-going, ran, ran-on, orderly-none}
-use Rattle.ledger.specs.Parts.{Behind}
-use Rattle.posting.specs.Posts.{begun, postOf}
+use Rattle.running.specs.Runs.{Behind}
+use Rattle.posting.specs.Posts.{begun, afterBytes, postOf}
 use Rattle.replaying.proofs.Enough.{roomIsEnough}
 use Rattle.tallying.specs.Credits.{Orderly}
 use borrow.Author.Needs.{needs}
@@ -17,7 +17,7 @@ abbrev Inv-loop : tie.InvT-loop
 Inv-loop room₀ functions₀ samples₀ line₀ input₀ posting₀ parts₀ room functions samples line input posting parts =
     (length room ≡ length room₀) × (length functions ≡ length functions₀) × (length samples ≡ length samples₀) × (length input ≡ length input₀)
     × (parts < 2 ^ 64) × Orderly (posting .ledger .counts .tally .used) functions samples
-    × Behind (begun room₀ line₀) parts (postOf posting room functions samples line)
+    × Behind afterBytes (begun room₀ line₀) parts (postOf posting room functions samples line)
 
 abbrev μ-loop : tie.MeasureT-loop
 μ-loop room₀ functions₀ samples₀ line₀ input₀ posting₀ parts₀ room functions samples line input posting parts =

@@ -5,7 +5,8 @@ use mathlib.Core.Path.{_≡_, refl}
 use native.Mathlib.Omega.{arith}
 use lib.ListN.{length}
 use borrow.Author.Needs.{needs}
-use Rattle.script.specs.Parts.{begun, Behind}
+use Rattle.running.specs.Runs.{afterBytes, Behind}
+use Rattle.script.specs.Parts.{begun}
 use Rattle.script.proofs.Parts.{behind-none, behind-next, not-going, ran, ran-on}
 use Rattle.replaying.proofs.Enough.{roomIsEnough}
 use Rattle.script.proofs.read_all.Statement.{statement}
@@ -14,7 +15,7 @@ use Rattle.script.proofs.read_all.Tie as tie
 abbrev Inv-loop : tie.InvT-loop
 Inv-loop room₀ line₀ input₀ out₀ run₀ parts₀ room line input out run parts =
     (length room ≡ length room₀) × (length input ≡ length input₀) × (length out ≡ length out₀) × (parts < 2 ^ 64)
-    × Behind (begun room₀ line₀) parts (record { run = run; room = room; line = line })
+    × Behind afterBytes (begun room₀ line₀) parts (record { run = run; room = room; line = line })
 
 abbrev μ-loop : tie.MeasureT-loop
 μ-loop room₀ line₀ input₀ out₀ run₀ parts₀ room line input out run parts = 2 ^ 64 - parts
