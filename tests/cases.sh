@@ -38,6 +38,14 @@ answers() { # NAME
     bad=$((bad + 1))
 }
 
+# a program that answers ends with status 0 and says nothing on standard error
+quiet() { # NAME
+    [ ! -s "$work/said" ] && return
+    echo "$1: on standard error"
+    head -n 5 "$work/said"
+    bad=$((bad + 1))
+}
+
 # A row is a name, a colon, the lines of the input, an arrow, the lines of the answer. Lines are joined by commas, as in document 01, and
 # each is ended by a newline, but for an input that ends in '~': its last line is torn. '\r' is a carriage return.
 try_cases() { # FILE LEAST EDITS-OF-SED: what a row's short words stand for
@@ -50,7 +58,8 @@ try_cases() { # FILE LEAST EDITS-OF-SED: what a row's short words stand for
         lines=$(printf '%s\n' "${lines% }" | sed "$3")
         spread "$lines" >"$work/input"
         spread "${rest#*-> }" >"$work/expected"
-        run "$program" <"$work/input" >"$work/answered"
+        run "$program" <"$work/input" >"$work/answered" 2>"$work/said" || echo "it ended with status $?" >>"$work/said"
+        quiet "$name"
         answers "$name"
     done <"$1"
     [ "$seen" -ge "$2" ] || fail "$1 has only $seen cases"

@@ -31,6 +31,7 @@ END {
     if (lines > rows) wrong("more than " rows " rows")
     if (!summed) wrong("no sum at the end")
     for (i = 1; i <= lines; i++) {
+        if (longest && bar[i] < 1) wrong("no bar for " count[i])
         off = bar[i] - longest * count[i] / most
         if (longest && bar[i] != 1 && (off > 0.57 || off < -0.57)) wrong("a bar of " bar[i] " for " count[i])
     }

@@ -1,13 +1,13 @@
 # Draws the report of a sample ledger as bars in text: the functions with the most samples, the rest in one row, then the samples of
 # functions that are not counted ('other') and of keys without a record ('none').
 #   LC_ALL=C awk -f host/chart/chart.awk -v width=80 -v rows=20 -v blocks=1 REPORT
-# width: no line is wider; 20 columns at least. rows: so many bars at most, 4 at least. blocks: bars of eighth blocks in UTF-8, else of '#'.
+# width: no line of a drawing is wider; 20 columns at least. rows: so many bars at most, 4 at least. blocks: bars of eighth blocks in UTF-8, else of '#'.
 # LC_ALL=C lets every awk count bytes, and all that is measured here is ASCII.
 # Exit status: 0; 1, there is no report to draw, and standard error says why.
 #
 # Counts stay text, since they may be larger than 2^53, up to which an awk's numbers are exact. They are compared and added as text. Only
-# their shares are numbers: of the first 12 digits. So a thousand times one, or the eighths of the widest bar, stay below 2^53, and no
-# share is off by as much as can be seen.
+# their shares are numbers: of the first 12 digits. So a thousand times one stays below 2^53, and no share or bar is off by as much as can
+# be seen.
 
 BEGIN {
     FS = "="

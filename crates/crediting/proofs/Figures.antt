@@ -57,7 +57,8 @@ module _ (m : PlainMap) (looked : ℕ → ℕ) (keys : List ℕ) (key : ℕ) whe
   unfolding figuresOf one-more
   figures-by (some r) e a (n, k) count =
       let c : n ≡ looked key = sym (ap countOf k) ∙ count in
-      let named : namedIn m one-more ≡ namedIn m keys ++ (r .function ∷ []) = named-more m keys key ∙ ap (λ (x : Option Record). namedIn m keys ++ functionOf x) e in
+      let named : namedIn m one-more ≡ namedIn m keys ++ (r .function ∷ []) = named-more m keys key
+      ∙ ap (λ (x : Option Record). namedIn m keys ++ functionOf x) e in
       let none-same : noneIn m one-more ≡ noneIn m keys = omega (arith, missing-more (some r) e) in
       rw k (same samples-more (rw none-same) (sym (credits-more (namedIn m keys) (r .function)) ∙ ap creditsOf (sym named)) (buckets-more n c))
   figures-by none e a (n, k) count =

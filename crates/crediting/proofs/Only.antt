@@ -26,7 +26,8 @@ module _ {l m : Ledger} {room left f s g v : List ℕ} (same : bookOf l room f s
     (b : Orderly (m .counts .tally .used) g v) where
   tally-same : l .counts .tally ≡ m .counts .tally
   tally-same =
-      let used = used-is (l .counts .tally) f s a ∙ ap (λ (x : Book). length (x .figures .credits .functions)) same ∙ sym (used-is (m .counts .tally) g v b) in
+      let used = used-is (l .counts .tally) f s a ∙ ap (λ (x : Book). length (x .figures .credits .functions)) same
+      ∙ sym (used-is (m .counts .tally) g v b) in
       tally-one (l .counts .tally) (m .counts .tally) used (ap (λ (x : Book). x .figures .credits .other) same)
 
   book-one : (l ≡ m) × (room ≡ left) × (take (l .counts .tally .used) f ≡ take (m .counts .tally .used) g)

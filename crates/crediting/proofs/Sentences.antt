@@ -44,16 +44,18 @@ use Rattle.replaying.specs.declared.Replay.{Replay}
 use Rattle.crediting.specs.Ledgers.{sumOf, withoutRecord, noneIn, functionOf, namedIn, Figures, figuresOf, Report, unmade, unrecovered, badLine, counts}
 use Rattle.crediting.specs.Ledgers.{keysIn, allGood, lineBehind, onceRecovered, noSampleYet, samplesReport, eventAt, eventDue, startsSample}
 use Rattle.crediting.specs.Ledgers.{samplesBegin, unlessEnded, reportFrom, reportOf}
-use Rattle.crediting.specs.Sentences.{NoSample, GoesOn, Read, nothing, line, BadLinesEnd, BadEnd, RefusedTablesEnd, tableLeft, finalTable}
+use Rattle.crediting.specs.Sentences.{NoSample, GoesOn, Read, nothing, line, BadLinesEnd, BadEnd, RefusedTablesEnd, finalTable}
 use Rattle.crediting.specs.Sentences.{FinalMap, UnrecoveredEnds, UnrecoveredAtEnd, Words, finalFigures, numberBehind, SamplesReported}
-use Rattle.crediting.specs.Sentences.{OtherLinesEnd, TornSamplesEnd, BadFirstSampleEnds, MissingCounted, NamedInOrder, BucketsAdded, SumIsSamples}
+use Rattle.crediting.specs.Sentences.{OtherLinesEnd, TornSamplesEnd, BadFirstSampleEnds, EndsAreKnown, CountsExact, MissingCounted}
+use Rattle.crediting.specs.Sentences.{NamedInOrder, BucketsAdded, SumIsSamples}
+use Rattle.crediting.specs.Books.{reportAt, reportIn, knownAt}
+use Rattle.crediting.specs.declared.Stage.{Stage}
+use Rattle.crediting.specs.declared.Stage.the-variants.{Script as InScript, Samples, Unmade, Unrecovered, Bad as BadStage}
 use Rattle.crediting.proofs.Figures.{lookedIn}
 use Rattle.crediting.proofs.Counting.{linesCounted}
+use Rattle.crediting.proofs.Whole.{false-true, either-way}
 
 -- ---- where the samples begin
-
-false-true : {A : Type 0} → false ≡ true → A
-false-true e = let z : _≡_ {A = ℕ} 0 1 = ap (λ (b : Bool). cond b 1 0) e in absurd (omega (arith, z))
 
 due-means : (s : Script) → eventDue s ≡ true → EventDue s
 due-means s e = let both = go (s .due) (s .cut) e in record { due = both .0; cut = both .1 }
@@ -125,7 +127,7 @@ accepted (Refused e) k = let z : _≡_ {A = ℕ} 0 1 = cc in absurd (omega arith
 
 pub finalMap : FinalMap
 finalMap p left a =
-    let s = recovery-restores (tableLeft p left) lent (accepted _ (a .1)) in
+    let s = recovery-restores (tableOf p left) lent (accepted _ (a .1)) in
     (s, sound-map (finalTable p left) s)
 
 -- the report of samples, by what recovery answers
@@ -135,22 +137,18 @@ report-by r whole keys good n =
     (badLine (lineBehind n (length keys)))))
 
 module _ (left : List ℕ) (p : Replay) where
-  samples-by : (ls : List (List ℕ)) (torn : Bool) → samplesReport (tableLeft p left) (p .script .lines) ls torn
-      ≡ report-by (changeResult (tableLeft p left) lent recover .0) (counts (finalFigures p left (keysIn ls))) (keysIn ls) (allGood ls torn) (p .script .lines)
+  samples-by : (ls : List (List ℕ)) (torn : Bool) → samplesReport (tableOf p left) (p .script .lines) ls torn
+      ≡ report-by (changeResult (tableOf p left) lent recover .0) (counts (finalFigures p left (keysIn ls))) (keysIn ls) (allGood ls torn) (p .script .lines)
   unfolding samplesReport report-by answerTo tableAfter
   samples-by ls torn = refl
 
   first-sample : EventDue (p .script) → (l : List ℕ) (later : List (List ℕ)) (torn : Bool) → startsSample (sampleOf l) ≡ true
-      → reportFrom left p (l ∷ later) torn ≡ samplesReport (tableLeft p left) (p .script .lines) (l ∷ later) torn
+      → reportFrom left p (l ∷ later) torn ≡ samplesReport (tableOf p left) (p .script .lines) (l ∷ later) torn
   first-sample d l later torn s = rw (samples-begin p l d s)
 
-  no-sample : EventDue (p .script) → reportFrom left p [] false ≡ samplesReport (tableLeft p left) (p .script .lines) [] false
+  no-sample : EventDue (p .script) → reportFrom left p [] false ≡ samplesReport (tableOf p left) (p .script .lines) [] false
   unfolding finishOf endingOf
   no-sample d = rw (d .due, d .cut)
-
-either-way : (good : Bool) (r : Report) → cond good r r ≡ r
-either-way true r = refl
-either-way false r = refl
 
 text-starts : (key : ℕ) → key < 2 ^ 64 → startsSample (sampleOf (sampleText key)) ≡ true
 text-starts key k = rw (sampleTextsSay key k)
@@ -249,6 +247,38 @@ badFirstSampleEnds room left ls p ready l e later torn =
     never : {k : ℕ} → BadSample ≡ Key k → ⊥
     never f = let z : _≡_ {A = ℕ} 0 1 = cc in omega arith
 
+-- ---- counts are no end
+
+module _ (x : Figures) where
+  not-bad : {A : Type 0} {n : ℕ} → badLine n ≡ counts x → A
+  not-bad e = let z : _≡_ {A = ℕ} 0 1 = cc in absurd (omega arith)
+
+  not-unrecovered : {A : Type 0} {e : Refusal} → unrecovered e ≡ counts x → A
+  not-unrecovered e = let z : _≡_ {A = ℕ} 0 1 = cc in absurd (omega arith)
+
+  not-unmade : {A : Type 0} {e : Refusal} → unmade e ≡ counts x → A
+  not-unmade e = let z : _≡_ {A = ℕ} 0 1 = cc in absurd (omega arith)
+
+-- ---- where nothing more is read
+
+pub endsAreKnown : EndsAreKnown
+unfolding reportIn
+endsAreKnown b = go (b .stage)
+  where
+    Known : Stage → Type 0
+    Known s = ((n : ℕ) → reportAt s (b .figures) ≡ badLine n → knownAt s ≡ true) × ((e : Refusal) → reportAt s (b .figures) ≡ unmade e → knownAt s ≡ true)
+        × ((e : Refusal) → reportAt s (b .figures) ≡ unrecovered e → knownAt s ≡ true)
+
+    still : Known Samples
+    still = (λ n e. not-bad (b .figures) (sym e), λ k e. not-unmade (b .figures) (sym e), λ k e. not-unrecovered (b .figures) (sym e))
+
+    go : (s : Stage) → Known s
+    go InScript = still
+    go Samples = still
+    go (Unmade e) = (λ n k. refl, λ f k. refl, λ f k. refl)
+    go (Unrecovered e) = (λ n k. refl, λ f k. refl, λ f k. refl)
+    go (BadStage n) = (λ m k. refl, λ f k. refl, λ f k. refl)
+
 -- ---- what each sample adds
 
 sum-between : (number : ℕ → ℕ) (before behind : List ℕ) (key : ℕ) → sumOf number (before ++ (key ∷ behind)) ≡ sumOf number (before ++ behind) + number key
@@ -270,6 +300,10 @@ named-after m (k ∷ before) behind =
 
 pub namedInOrder : NamedInOrder
 namedInOrder m before behind key = (refl, λ e. named-after m before (key ∷ behind) ∙ rw e, λ r e. named-after m before (key ∷ behind) ∙ rw e)
+
+pub countsExact : CountsExact
+unfolding figuresOf
+countsExact m looked keys = (λ few. omega arith, λ few. omega arith, λ few. omega arith)
 
 -- ---- the total
 
@@ -310,17 +344,8 @@ keys-few (l ∷ ls) = go (sampleOf l) refl (keys-few ls)
     go Other e f = rw e (omega arith)
 
 module _ (x : Figures) where
-  not-bad : {A : Type 0} {n : ℕ} → badLine n ≡ counts x → A
-  not-bad e = let z : _≡_ {A = ℕ} 0 1 = cc in absurd (omega arith)
-
-  not-unrecovered : {A : Type 0} {e : Refusal} → unrecovered e ≡ counts x → A
-  not-unrecovered e = let z : _≡_ {A = ℕ} 0 1 = cc in absurd (omega arith)
-
-  not-unmade : {A : Type 0} {e : Refusal} → unmade e ≡ counts x → A
-  not-unmade e = let z : _≡_ {A = ℕ} 0 1 = cc in absurd (omega arith)
-
   once : (a : Answer) (r : Report) → onceRecovered a r ≡ counts x → r ≡ counts x
-  once (Changed (Refused e)) r k = not-unrecovered k
+  once (Changed (Refused e)) r k = not-unrecovered x k
   once (Changed (Listed n)) r k = k
   once Nothing r k = k
   once (Created v) r k = k
@@ -330,9 +355,9 @@ module _ (x : Figures) where
   once (Bad n) r k = k
 
   unless : (a : Answer) (r : Report) → unlessEnded a r ≡ counts x → r ≡ counts x
-  unless (Created (Denied e)) r k = not-unmade k
+  unless (Created (Denied e)) r k = not-unmade x k
   unless (Created Done) r k = k
-  unless (Bad n) r k = not-bad k
+  unless (Bad n) r k = not-bad x k
   unless Nothing r k = k
   unless (Changed c) r k = k
   unless (Kept c n) r k = k
@@ -360,8 +385,8 @@ module _ (x : Figures) where
 
       go : (good yet : Bool) → cond good (onceRecovered a (counts y)) (cond yet bad (onceRecovered a bad)) ≡ counts x → y ≡ x
       go true yet k = same (once a (counts y) k)
-      go false true k = not-bad k
-      go false false k = not-bad (once a bad k)
+      go false true k = not-bad x k
+      go false false k = not-bad x (once a bad k)
 
       figures-are : y ≡ x
       figures-are = go (allGood ls torn) (noSampleYet (keysIn ls)) e

@@ -8,11 +8,10 @@ use native.Mathlib.Omega.{arith}
 use lib.ListN.{length, take}
 use Rattle.rules.specs.Words.{Table}
 use Rattle.rules.specs.Results.{queryResult}
+use Rattle.rules.specs.Demands.{countOf}
 use Rattle.rules.specs.declared.ScriptCall.the-variants.{Recover}
 use Rattle.rules.specs.declared.Query.{Query}
 use Rattle.rules.specs.declared.Query.the-variants.{Known, Unknown}
-use Rattle.rules.specs.declared.Record.{Record}
-use Rattle.rules.specs.declared.Refusal.{Refusal}
 use Rattle.rules.proofs.Calls.Meanings.{query-one}
 use Rattle.querying.specs.Promises.{Queried}
 use Rattle.tallying.specs.Credits.{Credited, Orderly}
@@ -29,9 +28,12 @@ use Rattle.replaying.specs.declared.Answer.the-variants.{Bad as BadAnswer}
 use Rattle.replaying.specs.declared.Turn.{Turn}
 use Rattle.replaying.proofs.Rooms.{take-least}
 use Rattle.crediting.specs.Ledgers.{lineBehind, eventDue}
-use Rattle.crediting.specs.Books.{Book, figuresWith, figuresIn, bookOf, spoilt, sampled, recoveredBook, stageRecovered, whenRecovered, firstSampled}
-use Rattle.crediting.specs.Books.{stageAfter, scriptLine, sampleWhere, firstSaid, laterSaid, scriptRead, sampleRead, lineAt, withLine, scriptEnd, endAt, atEnd}
+use Rattle.crediting.specs.Books.{Book, creditOf, figuresWith, figuresIn, bookOf, spoilt, sampled, recoveredBook, stageRecovered, whenRecovered}
+use Rattle.crediting.specs.Books.{firstSampled}
+use Rattle.crediting.specs.Books.{stageAfter, scriptLine, sampleWhere, firstSaid, laterSaid, scriptRead, sampleRead, lineAt, withLine}
+use Rattle.crediting.specs.Books.{scriptEnd, endAt, atEnd}
 use Rattle.crediting.specs.Books.{CountsAre, LedgerIs, Turned}
+use Rattle.crediting.specs.declared.Credit.the-variants.{Function, Nobody}
 use Rattle.crediting.specs.declared.Counts.{Counts}
 use Rattle.crediting.specs.declared.Ledger.{Ledger}
 use Rattle.crediting.specs.declared.Stage.{Stage}
@@ -40,19 +42,26 @@ use Rattle.crediting.specs.declared.Stage.the-variants.{Samples, Bad}
 -- ---- a sample
 
 module _ (c : Counts) (f s : List ℕ) where
-  pub known-counted : (r : Record) (looked : ℕ) {answer : Query} → answer ≡ Known r looked → {tally : Tally} {g v : List ℕ}
-      → Credited (r .function) (c .tally) f s tally g v
+  pub known-counted : (answer : Query) (function : ℕ) → creditOf answer ≡ Function function → {tally : Tally} {g v : List ℕ}
+      → Credited function (c .tally) f s tally g v
       → {n b : ℕ} → n ≡ (c .samples + 1) % 2 ^ 64
-      → b ≡ (c .buckets + looked) % 2 ^ 64
+      → b ≡ (c .buckets + countOf answer) % 2 ^ 64
       → CountsAre (figuresWith (figuresIn c f s) answer) (record { samples = n; missing = c .missing; buckets = b; tally = tally }) g v
-  known-counted r looked e d p q = rw e (record { figures = rw (p, q, d .held); orderly = d .orderly })
+  known-counted (Known r looked) function e {tally} {g} {v} d p q =
+      let own : Credited (r .function) (c .tally) f s tally g v = rw (named e) d in
+      record { figures = rw (p, q, own .held); orderly = d .orderly }
+    where
+      named : Function (r .function) ≡ Function function → r .function ≡ function
+      named k = cc
+  known-counted (Unknown k looked) function e d p q = let z : _≡_ {A = ℕ} 0 1 = cc in absurd (omega arith)
 
-  pub unknown-counted : (e : Refusal) (looked : ℕ) {answer : Query} → answer ≡ Unknown e looked → {n m b : ℕ} → n ≡ (c .samples + 1) % 2 ^ 64
+  pub unknown-counted : (answer : Query) → creditOf answer ≡ Nobody → {n m b : ℕ} → n ≡ (c .samples + 1) % 2 ^ 64
       → m ≡ (c .missing + 1) % 2 ^ 64
-      → b ≡ (c .buckets + looked) % 2 ^ 64
+      → b ≡ (c .buckets + countOf answer) % 2 ^ 64
       → Orderly (c .tally .used) f s
       → CountsAre (figuresWith (figuresIn c f s) answer) (record { samples = n; missing = m; buckets = b; tally = c .tally }) f s
-  unknown-counted e looked k p m q o = rw k (record { figures = rw (p, m, q); orderly = o })
+  unknown-counted (Known r looked) e p m q o = let z : _≡_ {A = ℕ} 0 1 = cc in absurd (omega arith)
+  unknown-counted (Unknown k looked) e p m q o = record { figures = rw (p, m, q); orderly = o }
 
 pub sample-taken : (l : Ledger) (room f s : List ℕ) (key : ℕ) {lent : ℕ} → lent ≡ min (l .replay .words) (length room) → (answer : Query) {u : Table}
     → Queried (take lent room) key answer u

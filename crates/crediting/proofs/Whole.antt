@@ -47,7 +47,7 @@ use Rattle.crediting.proofs.Figures.{lookedIn, figures-more, figures-no
 
 -- ---- where the report is known
 
-false-true : {A : Type 0} → false ≡ true → A
+pub false-true : {A : Type 0} → false ≡ true → A
 false-true e = let z : _≡_ {A = ℕ} 0 1 = ap (λ (b : Bool). cond b 1 0) e in absurd (omega (arith, z))
 
 line-stays : (s : Stage) → knownAt s ≡ true → (line : List ℕ) (b : Book) → lineAt s line b ≡ b
@@ -140,7 +140,8 @@ module _ (p : Replay) (room : List ℕ) (u : Table) (table : tableOf p room ≡ 
       go (Key key) e later =
           let more : keysIn (l ∷ ls) ≡ key ∷ keysIn ls = rw e in
           let rest = later (keys ++ (key ∷ [])) in
-          let long : length (keys ++ (key ∷ [])) + length (keysIn ls) ≡ length keys + suc (length (keysIn ls)) = omega (arith, length-append keys (key ∷ [])) in
+          let long : length (keys ++ (key ∷ [])) + length (keysIn ls)
+          ≡ length keys + suc (length (keysIn ls)) = omega (arith, length-append keys (key ∷ [])) in
           let said : laterSaid (sampleOf l) (book keys) ≡ book (keys ++ (key ∷ [])) = rw e (book-more keys key) in
           let last : right (key ∷ keysIn ls) (allGood ls torn) ≡ right (keysIn (l ∷ ls)) (allGood (l ∷ ls) torn) = rw (more-good key l ls torn more, more) in
           ap (λ (b : Book). reportBehind b ls torn) said ∙ rest ∙ rw (append-assoc keys (key ∷ []) (keysIn ls), long) last
@@ -148,6 +149,10 @@ module _ (p : Replay) (room : List ℕ) (u : Table) (table : tableOf p room ≡ 
       go Other e later = spoils (rw e) (rw e)
 
 -- ---- recovery before the first sample
+
+pub either-way : (good : Bool) (r : Report) → cond good r r ≡ r
+either-way true r = refl
+either-way false r = refl
 
 -- the table in the first words, with as many words as before
 kept-room : (n : ℕ) (room t : List ℕ) → length t ≡ length (take n room) → take n (t ++ drop n room) ≡ t
@@ -209,7 +214,8 @@ module _ (p : Replay) (room : List ℕ) where
       let b = book (counted p (p .script)) words recovered kept sound in
       let none : b [] ≡ stage-book Samples = ap (λ (x : Figures). record { replay = counted p (p .script); room = words; stage = Samples; figures = x })
       (figures-none (mapOf recovered) (lookedIn recovered)) in
-      let one : sampled key (stage-book Samples) ≡ b (key ∷ []) = ap (sampled key) (sym none) ∙ book-more (counted p (p .script)) words recovered kept sound [] key in
+      let one : sampled key (stage-book Samples) ≡ b (key ∷ []) = ap (sampled key) (sym none)
+      ∙ book-more (counted p (p .script)) words recovered kept sound [] key in
       ap (λ (x : Book). reportBehind x ls torn) one ∙ samples-behind (counted p (p .script)) words recovered kept sound ls torn (key ∷ [])
 
   told : Change
@@ -223,7 +229,8 @@ module _ (p : Replay) (room : List ℕ) where
       ≡ first-report key ls torn (stageRecovered (Changed told))
   unfolding firstSampled first-report stage-book
   first-is key ls torn =
-      ap (λ (b : Book). reportBehind (whenRecovered (b .stage) key b) ls torn) recovered-book ∙ ap (λ (a : Answer). first-report key ls torn (stageRecovered a)) answered
+      ap (λ (b : Book). reportBehind (whenRecovered (b .stage) key b) ls torn) recovered-book
+      ∙ ap (λ (a : Answer). first-report key ls torn (stageRecovered a)) answered
 
   counted-keys : List ℕ → Report
   counted-keys keys = counts (figuresOf (mapOf recovered) (lookedIn recovered) keys)
@@ -237,10 +244,6 @@ module _ (p : Replay) (room : List ℕ) where
   unfolding samplesReport report-by behind counted-keys recovered told answerTo
   samples-by ls torn = refl
 
-  either-way : (good : Bool) (r : Report) → cond good r r ≡ r
-  either-way true r = refl
-  either-way false r = refl
-
   first-behind : (l : List ℕ) (ls : List (List ℕ)) (torn : Bool) (key : ℕ) → sampleOf l ≡ Key key
       → reportBehind (firstSampled key scriptBook) ls torn ≡ samplesReport before (p .script .lines) (l ∷ ls) torn
   unfolding report-by counted-keys first-report stage-book reportIn
@@ -250,7 +253,8 @@ module _ (p : Replay) (room : List ℕ) where
     where
       go : (r : Change) → ((n : ℕ) → r ≡ Listed n → SoundTable recovered) → first-report key ls torn (stageRecovered (Changed r))
           ≡ report-by r (key ∷ keysIn ls) (allGood ls torn)
-      go (Listed n) sound = first-counted (sound n refl) key ls torn ∙ ap (λ (x : ℕ). cond (allGood ls torn) (counted-keys (key ∷ keysIn ls)) (behind x)) (omega arith)
+      go (Listed n) sound = first-counted (sound n refl) key ls torn
+          ∙ ap (λ (x : ℕ). cond (allGood ls torn) (counted-keys (key ∷ keysIn ls)) (behind x)) (omega arith)
       go (Refused f) sound = known-behind (stage-book (Unrecovered f)) refl ls torn ∙ sym (either-way (allGood ls torn) (unrecovered f))
 
   bad-first : (l : List ℕ) (ls : List (List ℕ)) (torn : Bool) → sampleOf l ≡ BadSample → reportBehind (spoilt scriptBook) ls torn

@@ -24,6 +24,8 @@ use Rattle.replaying.specs.declared.Replay.{Replay}
 use Rattle.crediting.specs.Ledgers.{Figures, Report, unmade, unrecovered, badLine, counts, lineBehind, eventDue, reportOf}
 use Rattle.crediting.specs.declared.Stage.{Stage}
 use Rattle.crediting.specs.declared.Stage.the-variants.{Script, Samples, Unmade, Unrecovered, Bad}
+use Rattle.crediting.specs.declared.Credit.{Credit}
+use Rattle.crediting.specs.declared.Credit.the-variants.{Function, Nobody}
 use Rattle.crediting.specs.declared.Counts.{Counts}
 use Rattle.crediting.specs.declared.Ledger.{Ledger}
 
@@ -38,6 +40,11 @@ pub record Book : Type 0 where
 
 abbrev pub oneMore : ℕ → ℕ
 oneMore n = (n + 1) % 2 ^ 64
+
+-- whom it is credited to
+abbrev pub creditOf : Query → Credit
+creditOf (Known r looked) = Function (r .function)
+creditOf (Unknown e looked) = Nobody
 
 abbrev pub figuresWith : Figures → Query → Figures
 figuresWith x (Known r looked) =

@@ -116,7 +116,7 @@ onceRecovered (Found q) report = report
 onceRecovered (Events n) report = report
 onceRecovered (Bad n) report = report
 
--- "when the first good sample line has been read, or the input has ended": where neither comes, a bad line is the first
+-- "when the first good sample line has been read, or the input has ended": a bad first sample line comes before both
 abbrev pub noSampleYet : List ℕ → Bool
 noSampleYet [] = true
 noSampleYet (key ∷ keys) = false

@@ -27,6 +27,7 @@ use Rattle.replaying.specs.Replays.{begun, tableOf, turnOf, finishOf}
 use Rattle.replaying.specs.declared.Answer.{Answer}
 use Rattle.replaying.specs.declared.Answer.the-variants.{Created, Bad}
 use Rattle.replaying.specs.declared.Replay.{Replay}
+use Rattle.crediting.specs.Books.{Book, reportIn, knownAt}
 use Rattle.crediting.specs.Ledgers.{noneIn, namedIn, bucketsIn, Figures, figuresOf, unmade, unrecovered, badLine, counts, reportOf}
 
 -- ---- the script
@@ -75,19 +76,16 @@ pub record Ready (room : List ℕ) (ls : List (List ℕ)) (left : List ℕ) (p :
   pub read : Read room begun ls left p
   pub due : EventDue (p .script)
 
--- the table that the script has left, and what recovery makes of it
-abbrev pub tableLeft : Replay → List ℕ → Table
-tableLeft p left = tableOf p left
-
+-- what recovery makes of the table that the script has left
 abbrev pub finalTable : Replay → List ℕ → Table
-finalTable p left = after (tableLeft p left) (whole recover lent)
+finalTable p left = after (tableOf p left) (whole recover lent)
 
 -- it is refused, or accepted
 abbrev pub Refuses : Replay → List ℕ → Refusal → Type 0
-Refuses p left e = changeResult (tableLeft p left) lent recover .0 ≡ Refused e
+Refuses p left e = changeResult (tableOf p left) lent recover .0 ≡ Refused e
 
 abbrev pub Accepts : Replay → List ℕ → Type 0
-Accepts p left = (stores : ℕ) × (changeResult (tableLeft p left) lent recover .0 ≡ Listed stores)
+Accepts p left = (stores : ℕ) × (changeResult (tableOf p left) lent recover .0 ≡ Listed stores)
 
 -- "and the final map": the table is then sound, and has a map
 abbrev pub FinalMap : Type 0
@@ -141,6 +139,14 @@ abbrev pub BadFirstSampleEnds : Type 0
 BadFirstSampleEnds = (room left : List ℕ) (ls : List (List ℕ)) (p : Replay) → Ready room ls left p → (l : List ℕ) → sampleOf l ≡ BadSample
     → (later : List (List ℕ)) (torn : Bool) → reportOf room (ls ++ (l ∷ later)) torn ≡ badLine (numberBehind ls [])
 
+-- ---- where nothing more is read
+
+-- a bad line, a refused table and a refused recovery are known as soon as they are told, so that no later line is read
+abbrev pub EndsAreKnown : Type 0
+EndsAreKnown = (b : Book) → ((n : ℕ) → reportIn b ≡ badLine n → knownAt (b .stage) ≡ true)
+    × ((e : Refusal) → reportIn b ≡ unmade e → knownAt (b .stage) ≡ true)
+    × ((e : Refusal) → reportIn b ≡ unrecovered e → knownAt (b .stage) ≡ true)
+
 -- ---- what each sample adds
 
 -- "samples with no record": one more for a key that the map has not, wherever it stands, and none for one that it has
@@ -159,6 +165,12 @@ NamedInOrder = (m : PlainMap) (before behind : List ℕ) (key : ℕ) → (namedI
 abbrev pub BucketsAdded : Type 0
 BucketsAdded = (looked : ℕ → ℕ) (before behind : List ℕ) (key : ℕ) → (bucketsIn looked [] ≡ 0)
     × (bucketsIn looked (before ++ (key ∷ behind)) ≡ bucketsIn looked (before ++ behind) + looked key)
+
+-- "exact whole numbers": a number below 2^64 is told as it is
+abbrev pub CountsExact : Type 0
+CountsExact = (m : PlainMap) (looked : ℕ → ℕ) (keys : List ℕ) → (length keys < 2 ^ 64 → figuresOf m looked keys .samples ≡ length keys)
+    × (noneIn m keys < 2 ^ 64 → figuresOf m looked keys .missing ≡ noneIn m keys)
+    × (bucketsIn looked keys < 2 ^ 64 → figuresOf m looked keys .buckets ≡ bucketsIn looked keys)
 
 -- "The total of all printed function counts, `other` and no-record equals the samples read"
 abbrev pub SumIsSamples : Type 0

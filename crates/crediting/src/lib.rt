@@ -25,10 +25,11 @@ use tallying::nothing;
 ghost use Prim.Native.Nat.{ℕ};
 ghost use mathlib.Core.Path.{_≡_};
 ghost use mathlib.Core.List.{List};
+ghost use Rattle.rules.specs.Demands.{countOf};
 ghost use Rattle.tallying.specs.Credits.{Orderly};
 ghost use Rattle.replaying.specs.Replays.{finishOf};
 ghost use Rattle.crediting.specs.Ledgers.{eventDue};
-ghost use Rattle.crediting.specs.Books.{figuresWith, figuresIn, bookOf, spoilt, sampled as sampledBook, recoveredBook, stageRecovered};
+ghost use Rattle.crediting.specs.Books.{creditOf, figuresWith, figuresIn, bookOf, spoilt, sampled as sampledBook, recoveredBook, stageRecovered};
 ghost use Rattle.crediting.specs.Books.{firstSampled, stageAfter, scriptLine, sampleWhere, scriptRead, sampleRead, withLine, scriptEnd, atEnd};
 ghost use Rattle.crediting.specs.Books.{knownAt, CountsAre, LedgerIs, Turned, emptyBook};
 
@@ -74,6 +75,31 @@ pub fn opened() -> Ledger
     }
 }
 
+// Whom a sample is credited to: the function of its key's record, or nobody.
+enum Credit {
+    Function(u64),
+    Nobody,
+}
+
+fn credit_of(answer: Query) -> Credit
+    ensures { λ r. ⌜ r ≡ creditOf answer ⌝ }
+{
+    match answer {
+        Query::Known(record, _) => Credit::Function(record.function),
+        Query::Unknown(_, _) => Credit::Nobody,
+    }
+}
+
+// The buckets that a query looked at, whatever it answers.
+fn looked_at(answer: Query) -> u64
+    ensures { λ r. ⌜ r ≡ countOf answer ⌝ }
+{
+    match answer {
+        Query::Known(_, looked) => looked,
+        Query::Unknown(_, searched) => searched,
+    }
+}
+
 // One sample more, by what a query of its key answers.
 fn counted(c: Counts, answer: Query, functions: &mut [u64], samples: &mut [u64]) -> Counts
     requires { ⌜ Orderly (c .tally .used) (now functions) (now samples) ⌝ }
@@ -81,20 +107,22 @@ fn counted(c: Counts, answer: Query, functions: &mut [u64], samples: &mut [u64])
         (now (samples .exit)) ⌝ }
 {
     let tally = c.tally;
-    match answer {
-        Query::Known(record, looked) => {
-            let credited = credit(tally, functions, samples, record.function);
+    let looked = looked_at(answer);
+    let credited = credit_of(answer);
+    match credited {
+        Credit::Function(function) => {
+            let next = credit(tally, functions, samples, function);
             Counts {
                 samples: wrapping_add_u64(c.samples, 1),
                 missing: c.missing,
                 buckets: wrapping_add_u64(c.buckets, looked),
-                tally: credited,
+                tally: next,
             }
         }
-        Query::Unknown(_, searched) => Counts {
+        Credit::Nobody => Counts {
             samples: wrapping_add_u64(c.samples, 1),
             missing: wrapping_add_u64(c.missing, 1),
-            buckets: wrapping_add_u64(c.buckets, searched),
+            buckets: wrapping_add_u64(c.buckets, looked),
             tally,
         },
     }

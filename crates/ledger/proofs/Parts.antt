@@ -59,7 +59,8 @@ pub report-fronted : (p : Posting) (room f s line : List ℕ) {l : Ledger} {left
     → Fronted m (writtenAfter (postOf p room f s line))
 unfolding writtenAfter reportAfter reportIn
 report-fronted p room f s line {l} {left} d {m = m} r =
-    let own : reportText (reportAt (l .stage) (figuresIn (l .counts) f s)) ≡ writtenAfter (postOf p room f s line) = ap (λ b. reportText (reportIn b)) (d .book f s) in
+    let own : reportText (reportAt (l .stage) (figuresIn (l .counts) f s))
+    ≡ writtenAfter (postOf p room f s line) = ap (λ b. reportText (reportIn b)) (d .book f s) in
     let size = r .put .next ∙ zero-add _ in
     let front = rw size at (put-text (r .put)) in
     rw own at front
@@ -73,13 +74,16 @@ pub not-going : (o : Outcome) → OneOf (1 ∷ 2 ∷ 3 ∷ []) (tagOf the-type o
 not-going o k e = miss (1 ∷ 2 ∷ 3 ∷ []) 0 tt (rw e at k)
 
 module _ (p : Posting) (room f s line input : List ℕ) where
-  pub read-known : knownAt (p .ledger .stage) ≡ true → ReadSome (postOf p room f s line) input (record { posting = p; outcome = Known }) (postOf p room f s line)
+  pub read-known : knownAt (p .ledger .stage) ≡ true → ReadSome (postOf p room f s line) input (record { posting = p; outcome = Known })
+      (postOf p room f s line)
   read-known k = record { stops = λ _. (refl, refl); reads = λ e. absurd (true-false (sym k ∙ e)) }
 
-  pub read-failed : knownAt (p .ledger .stage) ≡ false → ReadSome (postOf p room f s line) input (record { posting = p; outcome = Unread }) (postOf p room f s line)
+  pub read-failed : knownAt (p .ledger .stage) ≡ false → ReadSome (postOf p room f s line) input (record { posting = p; outcome = Unread })
+      (postOf p room f s line)
   read-failed k = record { stops = λ e. absurd (true-false (sym e ∙ k)); reads = λ _. inl (refl, refl) }
 
-  pub read-ended : knownAt (p .ledger .stage) ≡ false → ReadSome (postOf p room f s line) input (record { posting = p; outcome = Ended }) (postOf p room f s line)
+  pub read-ended : knownAt (p .ledger .stage) ≡ false → ReadSome (postOf p room f s line) input (record { posting = p; outcome = Ended })
+      (postOf p room f s line)
   read-ended k =
       record {
         stops = λ e. absurd (true-false (sym e ∙ k));
@@ -155,10 +159,12 @@ behind-none p room f s line e = rw (e room f s line) (behind-nothing afterBytes 
 behind-more : {x u v : Post} {n : ℕ} {r : Turn} → Behind afterBytes x n u → (o : Onward u r v) → (m : ℕ) → m ≤ n + length (o .part) → Behind afterBytes x m v
 behind-more b o m few = behind-part afterBytes partsArePosted b (o .part) (o .post) m few
 
-pub behind-next : {x u v : Post} {n : ℕ} {input : List ℕ} {r : Turn} → Behind afterBytes x n u → ReadSome u input r v → r .outcome ≡ Going → Behind afterBytes x (n + 1) v
+pub behind-next : {x u v : Post} {n : ℕ} {input : List ℕ} {r : Turn} → Behind afterBytes x n u → ReadSome u input r v → r .outcome ≡ Going
+    → Behind afterBytes x (n + 1) v
 behind-next {n = n} b t e = let o = read-onward t in behind-more b o (n + 1) (omega (arith, o .some e))
 
-pub ran : {x u v : Post} {n : ℕ} {input : List ℕ} {r : Turn} → RoomFor (x .book .room) → Behind afterBytes x n u → ReadSome u input r v → (r .outcome ≡ Going → ⊥)
+pub ran : {x u v : Post} {n : ℕ} {input : List ℕ} {r : Turn} → RoomFor (x .book .room) → Behind afterBytes x n u → ReadSome u input r v
+    → (r .outcome ≡ Going → ⊥)
     → Ran x (r .outcome) v
 ran {n = n} fits b t stops =
     let o = read-onward t in

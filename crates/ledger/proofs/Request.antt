@@ -6,7 +6,8 @@ use Rattle.replaying.proofs.Enough.{roomIsEnough, roomMakesAll}
 use Rattle.crediting.proofs.Whole.{reportsAreOne}
 use Rattle.crediting.proofs.Counting.{linesCounted}
 use Rattle.crediting.proofs.Sentences.{badLinesEnd, badEnd, refusedTablesEnd, finalMap, unrecoveredEnds, unrecoveredAtEnd, samplesReported, otherLinesEnd}
-use Rattle.crediting.proofs.Sentences.{tornSamplesEnd, badFirstSampleEnds, missingCounted, namedInOrder, bucketsAdded, sumIsSamples}
+use Rattle.crediting.proofs.Sentences.{tornSamplesEnd, badFirstSampleEnds, endsAreKnown, missingCounted, namedInOrder, bucketsAdded, countsExact}
+use Rattle.crediting.proofs.Sentences.{sumIsSamples}
 use Rattle.posting.proofs.Whole.{bytesReportedAsLines, partsArePosted, knownStays}
 use Rattle.ledger.specs.Request.{SampleLedger}
 use Rattle.ledger.proofs.Parts.{partsWritten, knownPartsWritten}
@@ -32,6 +33,7 @@ sampleLedger =
             otherLinesEnd = otherLinesEnd;
             tornSamplesEnd = tornSamplesEnd;
             badFirstSampleEnds = badFirstSampleEnds;
+            endsAreKnown = endsAreKnown;
           };
       counts =
           record {
@@ -40,6 +42,7 @@ sampleLedger =
             missingCounted = missingCounted;
             namedInOrder = namedInOrder;
             bucketsAdded = bucketsAdded;
+            countsExact = countsExact;
           };
       functions =
           record {

@@ -85,7 +85,7 @@ cases =
     ∷ (smallest "op=query\nsample=1\n", "bad=6\n")
     ∷ (smallest "op=cut\nsample=1\n", "bad=6\n")
     ∷ (smallest "op=cut\nafter=1\nsample=1\n", "bad=5\n")
-    -- "The table is recovered before the first sample": an update cut within its record is made whole, and is one event of no one's
+    -- "The table is recovered before the first sample": an update that was cut within its record is made whole, and one that was cut before the flag is not made
     ∷ (full "op=cut\nafter=5\nop=update\nkey=1\nfn=7\nat=8\nsample=1\n", "samples=1\nnone=0\nfn7=1\nother=0\nbuckets=1\n")
     ∷ (full "op=cut\nafter=3\nop=update\nkey=1\nfn=7\nat=8\nsample=1\n", "samples=1\nnone=0\nfn30=1\nother=0\nbuckets=1\n")
     -- "if that is refused, `answer=12` is the whole report", and no later line is read; also where the input has ended
@@ -105,5 +105,6 @@ unfolding productOf hashOf flatMap wordsFor stateOf stateWord atRest headerOf fl
     flagClear changingTests queryTests recoverTests beginTests beginOf interimSlots interimItems interimBucket itemsFrom hasPlace stepItem stepTests
     stepOf endTests endOf outcome changeResult queryResult createTests created createResult makeTests makeResult decimalOf lineOf digitsIn decimalText
     readingOf endingOf answerTo tableAfter turnOf finishOf
-    keysOf targetOf loggedOf lowestFree sampleOf countedOf timesIn furtherIn ascending creditsOf figuresOf samplesReport reportOf reportTo functionText functionTexts countsText outputTo
+    keysOf targetOf loggedOf lowestFree sampleOf countedOf timesIn furtherIn ascending creditsOf figuresOf samplesReport reportOf reportTo
+    functionText functionTexts countsText outputTo
 cases-computed = refl

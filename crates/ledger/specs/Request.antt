@@ -6,7 +6,7 @@ use Rattle.replaying.specs.Rooms.{RoomIsEnough, RoomMakesAll}
 use Rattle.crediting.specs.Books.{ReportsAreOne}
 use Rattle.crediting.specs.Sentences.{LinesCounted, BadLinesEnd, BadEnd, RefusedTablesEnd, FinalMap, UnrecoveredEnds, UnrecoveredAtEnd}
 use Rattle.crediting.specs.Sentences.{SamplesReported, OtherLinesEnd, TornSamplesEnd, BadFirstSampleEnds, MissingCounted, NamedInOrder, BucketsAdded}
-use Rattle.crediting.specs.Sentences.{SumIsSamples}
+use Rattle.crediting.specs.Sentences.{EndsAreKnown, CountsExact, SumIsSamples}
 use Rattle.posting.specs.Posts.{BytesReportedAsLines, PartsArePosted, KnownStays}
 use Rattle.ledger.specs.Parts.{PartsWritten, KnownPartsWritten}
 
@@ -28,6 +28,7 @@ pub record Ends : Type 0 where
   pub otherLinesEnd : OtherLinesEnd
   pub tornSamplesEnd : TornSamplesEnd
   pub badFirstSampleEnds : BadFirstSampleEnds
+  pub endsAreKnown : EndsAreKnown
 
 -- "each count is defined from the input lines and the final map"
 pub record CountsByTheMap : Type 0 where
@@ -36,6 +37,7 @@ pub record CountsByTheMap : Type 0 where
   pub missingCounted : MissingCounted
   pub namedInOrder : NamedInOrder
   pub bucketsAdded : BucketsAdded
+  pub countsExact : CountsExact
 
 -- "The first 512 different functions in input order are counted; samples of further ones count as `other`", and the total
 pub record FunctionsCounted : Type 0 where

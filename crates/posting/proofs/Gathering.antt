@@ -154,7 +154,8 @@ module _ {x : Post} {part : List ℕ} {at : ℕ} {p : Posting} {room f s line : 
       let rest : drop (got .taken - 0) (drop at part) ≡ drop (at + got .taken) part = rw all (drop-drop (got .taken) at part) in
       record {
         within = taken-some .1;
-        same = ap (λ (y : Post). afterBytes y (drop (at + got .taken) part)) (n .post) ∙ ap (afterBytes (afterGathered (bookOf (p .ledger) room f s) got held))
+        same = ap (λ (y : Post). afterBytes y (drop (at + got .taken) part)) (n .post)
+            ∙ ap (afterBytes (afterGathered (bookOf (p .ledger) room f s) got held))
             (sym rest) ∙ sym (r .post) ∙ d .same;
         orderly = n .orderly;
       }

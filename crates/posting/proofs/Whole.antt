@@ -71,7 +71,8 @@ posted-lines (b ∷ bs) book held line read h =
 
     go : (d : Bool)
         → ((next : Book)
-        → reportAfter (afterBytes (record { book = next; line = line; held = 0 }) bs) ≡ reportBehind next (prefixed [] (split bs) .0) (prefixed [] (split bs) .1))
+        → reportAfter (afterBytes (record { book = next; line = line; held = 0 }) bs)
+        ≡ reportBehind next (prefixed [] (split bs) .0) (prefixed [] (split bs) .1))
         → reportAfter (afterBytes (byteHeld x b) bs)
         ≡ reportBehind book (prefixed (read ++ (b ∷ [])) (split bs) .0) (prefixed (read ++ (b ∷ [])) (split bs) .1)
         → reportAfter (afterBytes (cond d (lineEnded x) (byteHeld x b)) bs) ≡ reportBehind book (prefixed read (lines d) .0) (prefixed read (lines d) .1)

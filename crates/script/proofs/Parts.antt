@@ -78,7 +78,8 @@ module _ (room line : List ℕ) (long : length line ≡ lineRoom) where
       ap (λ (x : List ℕ). x ++ textOf (endOf (afterBytes s (together parts) .run))) (texts-together s parts)
       ∙ rw (append-nil, append-nil) at whole
 
-  over : (parts : List (List ℕ)) (later : List ℕ) → known (afterBytes s (together parts) .run) ≡ true → texts s parts ≡ outputTo room (together parts ++ later)
+  over : (parts : List (List ℕ)) (later : List ℕ) → known (afterBytes s (together parts) .run) ≡ true → texts s parts
+      ≡ outputTo room (together parts ++ later)
   unfolding later-text flatMap
   over parts later k =
       let u = afterBytes s (together parts) in
@@ -350,7 +351,8 @@ behind-none room line e = rw e (behind-nothing afterBytes (begun room line) (aft
 behind-more : {s u v : Stand} {n : ℕ} {r : Turn} → Behind afterBytes s n u → (o : Onward u r v) → (m : ℕ) → m ≤ n + length (o .part) → Behind afterBytes s m v
 behind-more b o m few = behind-part afterBytes after-more b (o .part) (o .stand) m few
 
-pub behind-next : {s u v : Stand} {n : ℕ} {input : List ℕ} {r : Turn} → Behind afterBytes s n u → ReadSome u input r v → r .outcome ≡ Going → Behind afterBytes s (n + 1) v
+pub behind-next : {s u v : Stand} {n : ℕ} {input : List ℕ} {r : Turn} → Behind afterBytes s n u → ReadSome u input r v → r .outcome ≡ Going
+    → Behind afterBytes s (n + 1) v
 behind-next {n = n} b t e = let o = read-onward t in behind-more b o (n + 1) (omega (arith, o .some e))
 
 pub ran : {s u v : Stand} {n : ℕ} {input : List ℕ} {r : Turn} → RoomFor (s .room) → Behind afterBytes s n u → ReadSome u input r v → (r .outcome ≡ Going → ⊥)

@@ -72,7 +72,8 @@ module _ (f used other : ℕ) (functions samples : List ℕ) (o : Orderly used f
       go true h =
           let there = has-at f (take used functions) (o .order) h in
           let within : at < used = rw place (omega (arith, there .0, fs-long)) in
-          absurd (missing used at f functions miss within (sym (getD-take used functions at 0 within) ∙ ap (λ (i : ℕ). getD (take used functions) i 0) place ∙ there .1))
+          absurd (missing used at f functions miss within (sym (getD-take used functions at 0 within)
+          ∙ ap (λ (i : ℕ). getD (take used functions) i 0) place ∙ there .1))
 
   pub full : standsAt used at f functions ≡ false → used ≡ 512
       → Credited f (record { used = used; other = other }) functions samples (record { used = used; other = (other + 1) % 2 ^ 64 }) functions samples

@@ -1,9 +1,10 @@
 -- A function's place among ascending ones, found by halving.
 -- Assumes nothing.
-use Prim.Native.Nat.{ℕ, zero, suc, _+_, _≤_, _<_}
+use Prim.Native.Nat.{ℕ, zero, suc, _+_, _≤_, _<_, _-_, _/_, _^_}
 use mathlib.Core.Path.{_≡_, refl, sym, ap}
 use mathlib.Core.Bool.{Bool, true, false, cond}
 use mathlib.Core.List.{List, [], _∷_}
+use native.Mathlib.Nat.{pow-suc}
 use native.Mathlib.Omega.{arith}
 use lib.ListN.{length, take, getD}
 use lib.Dec.{eqb, ltb}
@@ -111,3 +112,17 @@ module _ (functions : List ℕ) (used f : ℕ) (long : used ≤ length functions
 
   pub place-used : placeFor f (take used functions) ≤ used
   place-used = omega (arith, place-within f (take used functions), length-take-le used functions long)
+
+-- ---- ten halvings leave nothing of 512
+
+halved : (n d e : ℕ) → d < 2 ^ suc n → e ≤ d / 2 → e < 2 ^ n
+halved n d e l h = omega (arith, h, (rw (pow-suc 2 n) at l))
+
+pub halvings-first : (d : ℕ) → d ≤ 512 → d < 2 ^ (10 - 0)
+halvings-first d l = omega arith
+
+pub halvings-next : (i d e : ℕ) → i < 10 → d < 2 ^ (10 - i) → e ≤ d / 2 → e < 2 ^ (10 - (i + 1))
+halvings-next i d e l b h = let more : 10 - i ≡ suc (10 - (i + 1)) = omega arith in halved (10 - (i + 1)) d e (rw more at b) h
+
+pub halvings-all : (i d : ℕ) → 10 ≤ i → d < 2 ^ (10 - i) → d ≡ 0
+halvings-all i d l b = let none : 10 - i ≡ 0 = omega arith in let one : d < 2 ^ 0 = rw none at b in omega (arith, one)

@@ -12,7 +12,8 @@ use lib.Seq.{take-append-le, take-append-add}
 use borrow.Author.Tests.{eqb-true, eqb-false, eq-eqb, ne-eqb}
 use Rattle.tallying.specs.Functions.{has, withNew, differentFrom, countedOf, timesIn, furtherIn, ascending}
 use Rattle.tallying.specs.Credits.{creditsOf, Ascending}
-use Rattle.tallying.specs.Sentences.{Distinct, FewerNamed, FirstAreCounted, OnlyNamedAreCounted, FunctionsAscend, EachSampleCounts, SamplesOfEach, total}
+use Rattle.tallying.specs.Sentences.{Distinct, FewerNamed, FirstAreCounted, OnlyNamedAreCounted, FunctionsAscend, EachSampleCounts}
+use Rattle.tallying.specs.Sentences.{SamplesOfEach, total}
 use Rattle.tallying.specs.Sentences.{AllSamplesCount}
 use Rattle.tallying.proofs.Searching.{true-false, below-has}
 use Rattle.tallying.proofs.Counting.{either, has-append, has-different, has-last, has-ascending, counted-ascend}

@@ -39,7 +39,7 @@ credited f x =
 
 -- ---- what the code promises
 
--- each is below all that follow it
+-- a function is below all of these, and in ascending order each is below all that follow it
 abbrev pub Below : ℕ → List ℕ → Type 0
 Below f [] = Unit {0}
 Below f (g ∷ gs) = (f < g) × Below f gs
@@ -47,6 +47,17 @@ Below f (g ∷ gs) = (f < g) × Below f gs
 abbrev pub Ascending : List ℕ → Type 0
 Ascending [] = Unit {0}
 Ascending (f ∷ fs) = Below f fs × Ascending fs
+
+-- among the first of these words, which ascend, a function is looked for
+pub record Searched (functions : List ℕ) (used function : ℕ) : Type 0 where
+  pub long : used ≤ length functions
+  pub order : Ascending (take used functions)
+
+-- its place is not before one end and not behind the other
+pub record Between (function : ℕ) (counted : List ℕ) (used low high : ℕ) : Type 0 where
+  pub behind : low ≤ placeFor function counted
+  pub before : placeFor function counted ≤ high
+  pub within : high ≤ used
 
 -- 512 words are lent for the functions and for their samples, and so many are used, in order
 pub record Orderly (used : ℕ) (functions samples : List ℕ) : Type 0 where

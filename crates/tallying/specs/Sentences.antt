@@ -17,7 +17,7 @@ abbrev pub Distinct : List ℕ → Type 0
 Distinct [] = Unit {0}
 Distinct (f ∷ fs) = (has f fs ≡ false) × Distinct fs
 
--- so many different functions are not named: no such list of them is as long
+-- fewer than n different functions are named: every list of different named ones is shorter
 abbrev pub FewerNamed : ℕ → List ℕ → Type 0
 FewerNamed n named = (fs : List ℕ) → Distinct fs → ((f : ℕ) → has f fs ≡ true → has f named ≡ true) → length fs < n
 

@@ -1,11 +1,11 @@
 // How many samples each function has. The functions that are counted stand in ascending order at the front of lent words, and the samples
 // of each stand at the same place of other lent words. So a function is found by halving, and the report needs no sorting.
 use std::num::wrapping_add_u64;
-ghost use Prim.Native.Nat.{_+_, _≤_, _<_};
+ghost use Prim.Native.Nat.{_+_, _-_, _/_, _≤_, _<_};
 ghost use mathlib.Core.Path.{_≡_};
 ghost use lib.ListN.{length, take};
 ghost use Rattle.tallying.specs.Functions.{placeFor};
-ghost use Rattle.tallying.specs.Credits.{Ascending, standsAt, Inserted, Credited, Orderly};
+ghost use Rattle.tallying.specs.Credits.{Searched, Between, standsAt, Inserted, Credited, Orderly};
 
 // "The first 512 different functions in input order are counted"
 pub const MOST: usize = 512;
@@ -23,22 +23,45 @@ pub fn nothing() -> Tally
     Tally { used: 0, other: 0 }
 }
 
-// How many of the counted functions are below this one: the place where it stands, or would stand. What is looked at is halved each time.
+// As many halvings leave nothing of 512 functions to look at.
+const HALVINGS: usize = 10;
+
+// What is left to look at: the place that is looked for is not before `low` and not behind `high`.
+struct Range {
+    low: usize,
+    high: usize,
+}
+
+// Looks at the function in the middle, and leaves half at most.
+fn halve(functions: &[u64], used: usize, range: Range, function: u64) -> Range
+    requires { ⌜ Searched (now functions) used function × Between function (take used (now functions)) used (range .low) (range .high) ⌝ }
+    ensures { λ r. ⌜ Between function (take used (now (functions .entry))) used (r .low) (r .high) × (r .high - r .low ≤ (range .high - range .low) / 2) ⌝ }
+{
+    let low = range.low;
+    let high = range.high;
+    if high <= low {
+        return range;
+    }
+    let middle = low + (high - low) / 2;
+    if functions[middle] < function {
+        return Range {
+            low: middle + 1,
+            high,
+        };
+    }
+    Range { low, high: middle }
+}
+
+// How many of the counted functions are below this one: the place where it stands, or would stand.
 fn place_for(functions: &[u64], used: usize, function: u64) -> usize
-    requires { ⌜ (used ≤ length (now functions)) × Ascending (take used (now functions)) ⌝ }
+    requires { ⌜ Searched (now functions) used function × (used ≤ 512) ⌝ }
     ensures { λ r. ⌜ (r ≡ placeFor function (take used (now (functions .entry)))) × (r ≤ used) ⌝ }
 {
-    let mut low = 0;
-    let mut high = used;
-    while low < high {
-        let middle = low + (high - low) / 2;
-        if functions[middle] < function {
-            low = middle + 1;
-        } else {
-            high = middle;
-        }
+    let mut range = Range { low: 0, high: used };
+    for _ in 0..HALVINGS {
+        range = halve(functions, used, range, function);
     }
-    low
+    range.low
 }
 
 // Whether the function stands at its place.

@@ -16,11 +16,17 @@ same-length : tie.Need-same-length
 same-length c = search needs
 
 returns : tie.Need-returns
-returns c = first-refused _ (c .before .before .before .recovered .result) _ _ _ _ (c .before .before .before .recovered .ensures) _
-    (stays-unrecovered (c .before .before .before .recovered .result .stage) (c .match .keys2) (c .before .before .before .before .before .before .before .before .args .key)) (c .before .before .before .before .before .before .before .before .pre)
+returns c =
+    let at-recovered = c .before .before .before in
+    let start = at-recovered .before .before .before .before .before in
+    first-refused _ (at-recovered .recovered .result) _ _ _ _ (at-recovered .recovered .ensures) _
+    (stays-unrecovered (at-recovered .recovered .result .stage) (c .match .keys2) (start .args .key)) (start .pre)
 
 sampled-requires : tie.Need-sampled-requires
-sampled-requires c κs = turned-orderly (c .before .before .before .before .before .before .before .recovered .ensures) (c .before .before .before .before .before .before .before .before .before .before .before .before .pre)
+sampled-requires c κs =
+    let at-recovered = c .before .before .before .before .before .before .before in
+    let start = at-recovered .before .before .before .before .before in
+    turned-orderly (at-recovered .recovered .ensures) (start .pre)
 
 same-length-2 : tie.Need-same-length-2
 same-length-2 c = search needs
@@ -32,7 +38,12 @@ same-length-4 : tie.Need-same-length-4
 same-length-4 c = search needs
 
 returns-2 : tie.Need-returns-2
-returns-2 c = first-taken _ (c .before .before .before .before .before .before .before .before .before .before .before .before .recovered .result) _ _ _ _ (c .before .before .before .before .before .before .before .before .before .before .before .before .recovered .ensures) _ (c .before .before .before .before .before .before .before .before .enum-told .given .1) (c .before .before .before .before .sampled .ensures)
+returns-2 c =
+    let at-sampled = c .before .before .before .before in
+    let at-enum-told = at-sampled .before .before .before .before in
+    let at-recovered = at-enum-told .before .before .before .before in
+    first-taken _ (at-recovered .recovered .result) _ _ _ _ (at-recovered .recovered .ensures) _ (at-enum-told .enum-told .given .1)
+    (at-sampled .sampled .ensures)
 
 pub first-sampled-spec : {M : Type 1} → statement M
 first-sampled-spec =

@@ -1,8 +1,6 @@
 -- `crediting::read_sample` meets its contract.
 -- Assumes nothing.
 use Rattle.crediting.specs.Books.{bookOf}
--- `crediting::read_sample` meets its contract.
--- Assumes nothing.
 use Rattle.crediting.proofs.Steps.{turned-is, ledger-as, sample-read}
 use Rattle.crediting.proofs.Stages.{no-key-spoils}
 use borrow.Author.Needs.{needs}
@@ -19,8 +17,13 @@ spoiled-requires : tie.Need-spoiled-requires
 spoiled-requires c κs = search needs
 
 returns : tie.Need-returns
-returns c = ledger-as (sample-read _ _ (c .before .before .parse-sample .ensures .answer) (no-key-spoils (c .before .before .parse-sample .result) (c .before .match .keys2) (bookOf (c .before .before .before .before .before .before .before .args .l) _ _ _)))
-    (turned-is (c .spoiled .ensures _) _ _ (c .before .before .before .before .before .before .before .pre))
+returns c =
+    let at-match = c .before in
+    let at-parse-sample = at-match .before in
+    let start = at-parse-sample .before .before .before .before .before in
+    ledger-as (sample-read _ _ (at-parse-sample .parse-sample .ensures .answer)
+    (no-key-spoils (at-parse-sample .parse-sample .result) (at-match .match .keys2) (bookOf (start .args .l) _ _ _)))
+    (turned-is (c .spoiled .ensures _) _ _ (start .pre))
 
 sampled-requires : tie.Need-sampled-requires
 sampled-requires c κs = search needs
@@ -32,7 +35,11 @@ same-length-2 : tie.Need-same-length-2
 same-length-2 c = search needs
 
 returns-2 : tie.Need-returns-2
-returns-2 c = ledger-as (sample-read _ _ (c .before .before .before .before .before .before .before .before .before .before .parse-sample .ensures .answer) (rw (c .before .before .before .before .before .before .before .before .said .given .1))) (c .before .before .before .before .sampled .ensures)
+returns-2 c =
+    let at-sampled = c .before .before .before .before in
+    let at-said = at-sampled .before .before .before .before in
+    let at-parse-sample = at-said .before .before in
+    ledger-as (sample-read _ _ (at-parse-sample .parse-sample .ensures .answer) (rw (at-said .said .given .1))) (at-sampled .sampled .ensures)
 
 pub read-sample-spec : {M : Type 1} → statement M
 read-sample-spec =

@@ -39,18 +39,35 @@ same-length-3 : tie.Need-same-length-3
 same-length-3 c = search needs
 
 returns : tie.Need-returns
-returns c = ledger-as (script-read _ _ (c .before .before .before .before .before .before .before .before .before .before .before .before .before .before .event-due .ensures) (c .before .before .before .before .before .before .before .before .before .before .before .before .before .sample-where .ensures) (rw (c .before .before .before .before .before .before .before .before .before .before .before .said .given .1))) (c .before .before .before .before .before .before .first-sampled .ensures)
+returns c =
+    let at-first-sampled = c .before .before .before .before .before .before in
+    let at-said = at-first-sampled .before .before .before .before .before in
+    let at-sample-where = at-said .before .before in
+    let at-event-due = at-sample-where .before in
+    ledger-as (script-read _ _ (at-event-due .event-due .ensures) (at-sample-where .sample-where .ensures) (rw (at-said .said .given .1)))
+    (at-first-sampled .first-sampled .ensures)
 
 returns-2 : tie.Need-returns-2
-returns-2 c = ledger-as (script-read _ _ (c .before .before .before .before .event-due .ensures) (c .before .before .before .sample-where .ensures) (rw (c .before .enum-told .given .1)))
-    (turned-is (c .spoiled .ensures _) _ _ (c .before .before .before .before .before .before .before .before .before .before .before .pre))
+returns-2 c =
+    let at-enum-told = c .before in
+    let at-sample-where = at-enum-told .before .before in
+    let at-event-due = at-sample-where .before in
+    let start = at-event-due .before .before .before .before .before .before .before in
+    ledger-as (script-read _ _ (at-event-due .event-due .ensures) (at-sample-where .sample-where .ensures) (rw (at-enum-told .enum-told .given .1)))
+    (turned-is (c .spoiled .ensures _) _ _ (start .pre))
 
 same-length-4 : tie.Need-same-length-4
 same-length-4 c = search needs
 
 returns-3 : tie.Need-returns-3
-returns-3 c = ledger-as (script-read _ _ (c .before .before .before .before .before .before .before .event-due .ensures) (c .before .before .before .before .before .before .sample-where .ensures) (rw (c .before .before .before .before .enum-told2 .given .1)))
-    (turned-is (c .before .before .script-line .ensures) _ _ (c .before .before .before .before .before .before .before .before .before .before .before .before .before .before .pre))
+returns-3 c =
+    let at-script-line = c .before .before in
+    let at-enum-told2 = at-script-line .before .before in
+    let at-sample-where = at-enum-told2 .before .before in
+    let at-event-due = at-sample-where .before in
+    let start = at-event-due .before .before .before .before .before .before .before in
+    ledger-as (script-read _ _ (at-event-due .event-due .ensures) (at-sample-where .sample-where .ensures)
+    (rw (at-enum-told2 .enum-told2 .given .1))) (turned-is (at-script-line .script-line .ensures) _ _ (start .pre))
 
 pub read-script-spec : {M : Type 1} → statement M
 read-script-spec =

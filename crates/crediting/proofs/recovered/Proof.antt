@@ -15,7 +15,10 @@ same-length : tie.Need-same-length
 same-length c = search needs
 
 returns : tie.Need-returns
-returns c = room-recovered (c .before .before .before .before .before .before .before .before .before .before .args .l) _ (c .before .before .before .before .evented .result) (c .before .before .before .before .evented .ensures) (c .stage-recovered .ensures)
+returns c =
+    let at-evented = c .before .before .before .before in
+    let start = at-evented .before .before .before .before .before .before in
+    room-recovered (start .args .l) _ (at-evented .evented .result) (at-evented .evented .ensures) (c .stage-recovered .ensures)
 
 pub recovered-spec : {M : Type 1} → statement M
 recovered-spec = tie.close (tie.spec evented-requires stage-recovered-requires same-length returns)

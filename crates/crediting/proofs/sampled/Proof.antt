@@ -25,7 +25,12 @@ same-length-2 : tie.Need-same-length-2
 same-length-2 c = search needs
 
 returns : tie.Need-returns
-returns c = sample-taken (c .before .before .before .before .before .before .before .before .before .before .before .before .before .before .before .args .l) _ _ _ _ (c .before .before .before .before .before .before .before .before .before .least .ensures) (c .before .before .before .before .before .before .before .query .result) (c .before .before .before .before .before .before .before .query .ensures) (c .before .before .before .before .counted .ensures)
+returns c =
+    let at-counted = c .before .before .before .before in
+    let at-query = at-counted .before .before .before in
+    let at-least = at-query .before .before in
+    let start = at-least .before .before .before .before .before .before in
+    sample-taken (start .args .l) _ _ _ _ (at-least .least .ensures) (at-query .query .result) (at-query .query .ensures) (at-counted .counted .ensures)
 
 pub sampled-spec : {M : Type 1} → statement M
 sampled-spec =

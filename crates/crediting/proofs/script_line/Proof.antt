@@ -18,7 +18,12 @@ same-length : tie.Need-same-length
 same-length c = search needs
 
 returns : tie.Need-returns
-returns c = line-replayed (c .before .before .before .before .before .before .before .before .before .before .before .args .l) _ _ _ (c .before .before .before .before .before .before .parse .ensures .answer) (c .before .before .before .before .take-line .result) (c .before .before .before .before .take-line .ensures) (c .stage-after .ensures)
+returns c =
+    let at-take-line = c .before .before .before .before in
+    let at-parse = at-take-line .before .before in
+    let start = at-parse .before .before .before .before .before in
+    line-replayed (start .args .l) _ _ _ (at-parse .parse .ensures .answer) (at-take-line .take-line .result) (at-take-line .take-line .ensures)
+    (c .stage-after .ensures)
 
 pub script-line-spec : {M : Type 1} → statement M
 script-line-spec =

@@ -37,7 +37,10 @@ same-length-3 : tie.Need-same-length-3
 same-length-3 c = search needs
 
 returns : tie.Need-returns
-returns c = ledger-as (at-stage _ _ (c .before .before .before .before .before .before .before .before .before .before .enum-told .given .1)) (c .before .before .before .before .before .before .read-script .ensures)
+returns c =
+    let at-read-script = c .before .before .before .before .before .before in
+    let at-enum-told = at-read-script .before .before .before .before in
+    ledger-as (at-stage _ _ (at-enum-told .enum-told .given .1)) (at-read-script .read-script .ensures)
 
 same-length-4 : tie.Need-same-length-4
 same-length-4 c = search needs
@@ -49,7 +52,10 @@ same-length-6 : tie.Need-same-length-6
 same-length-6 c = search needs
 
 returns-2 : tie.Need-returns-2
-returns-2 c = ledger-as (at-stage _ _ (c .before .before .before .before .before .before .before .before .enum-told2 .given .1)) (c .before .before .before .before .read-sample .ensures)
+returns-2 c =
+    let at-read-sample = c .before .before .before .before in
+    let at-enum-told2 = at-read-sample .before .before .before .before in
+    ledger-as (at-stage _ _ (at-enum-told2 .enum-told2 .given .1)) (at-read-sample .read-sample .ensures)
 
 returns-3 : tie.Need-returns-3
 returns-3 c = ledger-as (at-stage _ _ (c .enum-told3 .given .1)) (record { book = refl; orderly = c .before .before .before .before .before .before .pre })

@@ -27,8 +27,18 @@ ready-requires : tie.Need-ready-requires Inv-loop μ-loop
 ready-requires c κs = search needs
 
 loop-holds : tie.Need-loop-holds Inv-loop μ-loop
-loop-holds c = let p = c .before .before .before .before .before .pre in
-    (refl, refl, refl, refl, omega arith, orderly-none (c .ready .ensures .1) _ _ (p .1) (p .2), behind-none (c .ready .result) _ _ _ _ (c .ready .ensures .0))
+loop-holds c =
+    let start = c .before .before .before .before .before in
+    let p = start .pre in (
+      refl,
+      refl,
+      refl,
+      refl,
+      omega arith,
+      orderly-none (c .ready .ensures .1) _ _ (p .1) (p .2),
+      behind-none
+          (c .ready .result) _ _ _ _ (c .ready .ensures .0),
+    )
 
 read-some-requires : tie.Need-read-some-requires Inv-loop μ-loop
 read-some-requires c κs = c .before .before .before .before .before .before .loop .inv .5
@@ -49,8 +59,15 @@ same-length-4 : tie.Need-same-length-4 Inv-loop μ-loop
 same-length-4 c = search needs
 
 returns : tie.Need-returns Inv-loop μ-loop
-returns c = let d = c .before .before .before .before .before .before .before .before .before .before in
-    (ran (roomIsEnough _ (c .before .before .before .before .before .before .before .before .before .before .before .before .before .before .before .before .before .before .before .before .before .before .before .pre .0)) (c .before .before .before .before .before .before .before .before .before .before .before .before .before .before .before .before .before .loop .inv .6) (d .read-some .ensures .0) (not-going (d .read-some .result .outcome) (c .match .keys2)), d .read-some .ensures .1)
+returns c =
+    let at-before = c .before .before .before .before .before .before .before .before .before in
+    let at-loop = at-before .before .before .before .before .before .before .before .before in
+    let start = at-loop .before .before .before .before .before .before in
+    let d = at-before .before in (
+      ran (roomIsEnough _ (start .pre .0)) (at-loop .loop .inv .6) (d .read-some .ensures .0)
+          (not-going (d .read-some .result .outcome) (c .match .keys2)),
+      d .read-some .ensures .1,
+    )
 
 add-parts : tie.Need-add-parts Inv-loop μ-loop
 add-parts c = search needs
@@ -59,14 +76,16 @@ loop-less : tie.Need-loop-less Inv-loop μ-loop
 loop-less c = search needs
 
 loop-again : tie.Need-loop-again Inv-loop μ-loop
-loop-again c = let d = c .before .before .before .before .before .before .before .before .before .before .before in (
+loop-again c = (
   search needs,
   search needs,
   search needs,
   search needs,
   omega (arith, c .before .before .before .before .before .before .before .before .before .before .before .before .before .before .before .before .before .loop-test .taken),
-  d .read-some .ensures .1,
-  behind-next (c .before .before .before .before .before .before .before .before .before .before .before .before .before .before .before .before .before .before .loop .inv .6) (d .read-some .ensures .0) (c .enum-told .given .1),
+  c .before .before .before .before .before .before .before .before .before .before .before .read-some .ensures .1,
+  let at-read-some = c .before .before .before .before .before .before .before .before .before .before .before in
+      let at-loop = at-read-some .before .before .before .before .before .before .before in
+      behind-next (at-loop .loop .inv .6) (at-read-some .read-some .ensures .0) (c .enum-told .given .1),
 )
 
 same-length-5 : tie.Need-same-length-5 Inv-loop μ-loop

@@ -10,7 +10,10 @@ known-requires : tie.Need-known-requires
 known-requires c κs = search needs
 
 returns : tie.Need-returns
-returns c = (read-known (c .before .before .before .before .before .before .before .args .p) _ _ _ _ _ (sym (c .before .known .ensures) ∙ c .if1 .taken), c .before .before .before .before .before .before .before .pre)
+returns c =
+    let at-known = c .before in
+    let start = at-known .before .before .before .before .before .before in
+    (read-known (start .args .p) _ _ _ _ _ (sym (at-known .known .ensures) ∙ c .if1 .taken), start .pre)
 
 read-requires : tie.Need-read-requires
 read-requires c κs = search needs
@@ -19,7 +22,11 @@ same-length : tie.Need-same-length
 same-length c = search needs
 
 returns-2 : tie.Need-returns-2
-returns-2 c = (read-failed (c .before .before .before .before .before .before .before .before .before .before .before .before .args .p) _ _ _ _ _ (sym (c .before .before .before .before .before .before .known .ensures) ∙ c .before .before .before .before .before .if1 .left), c .before .before .before .before .before .before .before .before .before .before .before .before .pre)
+returns-2 c =
+    let at-if1 = c .before .before .before .before .before in
+    let at-known = at-if1 .before in
+    let start = at-known .before .before .before .before .before .before in
+    (read-failed (start .args .p) _ _ _ _ _ (sym (at-known .known .ensures) ∙ at-if1 .if1 .left), start .pre)
 
 count-requires : tie.Need-count-requires
 count-requires c κs = search needs
@@ -28,7 +35,11 @@ same-length-2 : tie.Need-same-length-2
 same-length-2 c = search needs
 
 returns-3 : tie.Need-returns-3
-returns-3 c = (read-ended (c .before .before .before .before .before .before .before .before .before .before .before .before .before .before .before .args .p) _ _ _ _ _ (sym (c .before .before .before .before .before .before .before .before .before .known .ensures) ∙ c .before .before .before .before .before .before .before .before .if1 .left), c .before .before .before .before .before .before .before .before .before .before .before .before .before .before .before .pre)
+returns-3 c =
+    let at-if1 = c .before .before .before .before .before .before .before .before in
+    let at-known = at-if1 .before in
+    let start = at-known .before .before .before .before .before .before in
+    (read-ended (start .args .p) _ _ _ _ _ (sym (at-known .known .ensures) ∙ at-if1 .if1 .left), start .pre)
 
 slice-reshare-prefix-take-part : tie.Need-slice-reshare-prefix-take-part
 slice-reshare-prefix-take-part c = search needs
@@ -52,8 +63,18 @@ same-length-6 : tie.Need-same-length-6
 same-length-6 c = search needs
 
 returns-4 : tie.Need-returns-4
-returns-4 c = let d = c .before .before .before .before .before .before .take-part .ensures in
-    (read-taken (c .before .before .before .before .before .before .before .before .before .before .before .before .before .before .before .before .before .before .before .before .before .before .before .before .before .before .before .args .p) _ _ _ _ _ (sym (c .before .before .before .before .before .before .before .before .before .before .before .before .before .before .before .before .before .before .before .before .before .known .ensures) ∙ c .before .before .before .before .before .before .before .before .before .before .before .before .before .before .before .before .before .before .before .before .if1 .left) (c .before .before .before .before .before .before .before .before .before .before .before .before .before .count .result) (c .before .before .before .before .before .before .before .before .before .before .before .before .if3 .left) (c .before .before .before .before .before .before .before .before .before .before .before .before .before .count .ensures .0 .0) d, d .orderly)
+returns-4 c =
+    let at-take-part = c .before .before .before .before .before .before in
+    let at-if3 = at-take-part .before .before .before .before .before .before in
+    let at-count = at-if3 .before in
+    let at-if1 = at-count .before .before .before .before .before .before .before in
+    let at-known = at-if1 .before in
+    let start = at-known .before .before .before .before .before .before in
+    let d = at-take-part .take-part .ensures in (
+      read-taken (start .args .p) _ _ _ _ _ (sym (at-known .known .ensures) ∙ at-if1 .if1 .left)
+          (at-count .count .result) (at-if3 .if3 .left) (at-count .count .ensures .0 .0) d,
+      d .orderly,
+    )
 
 pub read-some-spec : {M : Type 1} → statement M
 read-some-spec =

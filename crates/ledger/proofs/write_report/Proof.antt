@@ -11,7 +11,10 @@ end-requires : tie.Need-end-requires
 end-requires c κs = search needs
 
 report-requires : tie.Need-report-requires
-report-requires c κs = (turned-orderly (c .before .before .before .end .ensures) (c .before .before .before .before .before .before .before .before .before .pre .0), omega (arith, c .before .before .before .before .before .before .before .before .before .pre .1))
+report-requires c κs =
+    let at-end = c .before .before .before in
+    let start = at-end .before .before .before .before .before .before in
+    (turned-orderly (at-end .end .ensures) (start .pre .0), omega (arith, start .pre .1))
 
 slice-reshare-prefix-write-all : tie.Need-slice-reshare-prefix-write-all
 slice-reshare-prefix-write-all c = search needs
@@ -29,7 +32,11 @@ same-length-2 : tie.Need-same-length-2
 same-length-2 c = search needs
 
 returns : tie.Need-returns
-returns c = λ line. report-fronted (c .before .before .before .before .before .before .before .before .before .before .before .before .before .before .args .p) _ _ _ line (c .before .before .before .before .before .before .before .before .end .ensures) (c .before .before .before .before .report .ensures)
+returns c =
+    let at-report = c .before .before .before .before in
+    let at-end = at-report .before .before .before .before in
+    let start = at-end .before .before .before .before .before .before in
+    λ line. report-fronted (start .args .p) _ _ _ line (at-end .end .ensures) (at-report .report .ensures)
 
 pub write-report-spec : {M : Type 1} → statement M
 write-report-spec =

@@ -34,13 +34,21 @@ returns-2 : tie.Need-returns-2
 returns-2 c =
     let d = c .before .before .before in
     let s = d .before .before in
-    record { answer = sample-key _ (s .before .before .starts .ensures) (s .start .given .1) (d .read-decimal .ensures) (c .before .number .given .1); stays = refl }
+    record {
+      answer = sample-key _ (s .before .before .starts .ensures) (s .start .given .1) (d .read-decimal .ensures)
+          (c .before .number .given .1);
+      stays = refl;
+    }
 
 returns-3 : tie.Need-returns-3
 returns-3 c =
     let d = c .before .before in
     let s = d .before .before in
-    record { answer = sample-bad _ (s .before .before .starts .ensures) (s .start .given .1) (d .read-decimal .ensures) (c .enum-told2 .given .1); stays = refl }
+    record {
+      answer = sample-bad _ (s .before .before .starts .ensures) (s .start .given .1) (d .read-decimal .ensures)
+          (c .enum-told2 .given .1);
+      stays = refl;
+    }
 
 pub parse-sample-spec : {M : Type 1} → statement M
 parse-sample-spec =

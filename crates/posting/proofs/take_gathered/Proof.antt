@@ -1,8 +1,6 @@
 -- `posting::take_gathered` meets its contract.
 -- Assumes nothing.
 use denote.Ref.{now}
--- `posting::take_gathered` meets its contract.
--- Assumes nothing.
 use Rattle.posting.proofs.Gathering.{line-taken, line-goes-on}
 use Rattle.replaying.proofs.Rooms.{least-fits}
 use borrow.Author.Needs.{needs}
@@ -28,12 +26,17 @@ same-length-3 : tie.Need-same-length-3
 same-length-3 c = search needs
 
 returns : tie.Need-returns
-returns c = let a = c .before .before .before .before .before .before .before .before .before .before .before .before .before .before .before .before .before in
-    line-taken (a .args .l) (now (a .args .room)) (now (a .args .functions)) (now (a .args .samples)) (now (a .args .line)) (a .args .got)
-    (c .before .before .before .before .before .before .before .before .before .before .before .before .before .if1 .taken) _ (c .before .before .before .before .before .before .before .before .before .before .before .least .ensures) (c .before .before .before .before .before .before .take-line .ensures)
+returns c =
+    let at-take-line = c .before .before .before .before .before .before in
+    let at-least = at-take-line .before .before .before .before .before in
+    let at-if1 = at-least .before .before in
+    let a = at-if1 .before .before .before .before in line-taken (a .args .l) (now (a .args .room)) (now (a .args .functions)) (now (a .args .samples))
+    (now (a .args .line)) (a .args .got) (at-if1 .if1 .taken) _ (at-least .least .ensures) (at-take-line .take-line .ensures)
 
 returns-2 : tie.Need-returns-2
-returns-2 c = line-goes-on (c .before .before .before .before .args .l) _ _ _ _ (c .before .before .before .before .args .got) (c .if1 .left) (c .before .before .before .before .pre)
+returns-2 c =
+    let start = c .before .before .before .before in
+    line-goes-on (start .args .l) _ _ _ _ (start .args .got) (c .if1 .left) (start .pre)
 
 pub take-gathered-spec : {M : Type 1} → statement M
 take-gathered-spec =

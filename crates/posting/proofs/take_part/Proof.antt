@@ -42,16 +42,23 @@ take-gathered-requires : tie.Need-take-gathered-requires Inv-loop μ-loop
 take-gathered-requires c κs = c .before .before .before .before .before .before .before .before .before .before .loop .inv .3 .orderly
 
 loop-less : tie.Need-loop-less Inv-loop μ-loop
-loop-less c = let t = taken-some (c .before .before .before .before .before .before .before .before .before .before .before .before .before .before .before .before .before .loop .inv .3) (c .before .before .before .before .before .before .before .before .before .before .before .before .before .before .before .before .loop-test .taken) _ _ (c .before .before .before .before .before .before .before .before .before .before .before .before .gather .ensures) in
-    omega (arith, t .0, t .1)
+loop-less c =
+    let at-gather = c .before .before .before .before .before .before .before .before .before .before .before .before in
+    let at-loop-test = at-gather .before .before .before .before in
+    let at-loop = at-loop-test .before in
+    let t = taken-some (at-loop .loop .inv .3) (at-loop-test .loop-test .taken) _ _ (at-gather .gather .ensures) in omega (arith, t .0, t .1)
 
 loop-again : tie.Need-loop-again Inv-loop μ-loop
-loop-again c = (
-  search needs,
-  search needs,
-  search needs,
-  passed-more (c .before .before .before .before .before .before .before .before .before .before .before .before .before .before .before .before .before .loop .inv .3) (c .before .before .before .before .before .before .before .before .before .before .before .before .before .before .before .before .loop-test .taken) _ _ (c .before .before .before .before .before .before .before .before .before .before .before .before .gather .ensures) (c .before .before .before .before .before .before .take-gathered .ensures),
-)
+loop-again c =
+    let at-take-gathered = c .before .before .before .before .before .before in
+    let at-gather = at-take-gathered .before .before .before .before .before .before in
+    let at-loop-test = at-gather .before .before .before .before in
+    let at-loop = at-loop-test .before in (
+      search needs,
+      search needs,
+      search needs,
+      passed-more (at-loop .loop .inv .3) (at-loop-test .loop-test .taken) _ _ (at-gather .gather .ensures) (at-take-gathered .take-gathered .ensures),
+    )
 
 same-length : tie.Need-same-length Inv-loop μ-loop
 same-length c = search needs

@@ -38,9 +38,16 @@ same-length : tie.Need-same-length
 same-length c = search needs
 
 returns : tie.Need-returns
-returns c = let a = c .before .before .before .before .before .before .before .before .before .before .before .before .before .before .before .before .before .before .before .before .before .before .before .before .before .before .before .before .args in
-    counts-put (figuresIn (a .c) (now (a .functions)) (now (a .samples))) (c .before .before .before .before .before .before .before .before .before .before .before .before .before .before .before .before .before .before .before .before .before .put-line .ensures .0) (c .before .before .before .before .before .before .before .before .before .before .before .before .before .before .before .before .put-line2 .ensures .0) (c .before .before .before .before .before .before .before .before .before .before .before .before .put-functions .ensures .0)
-    (c .before .before .before .before .before .before .before .put-line3 .ensures .0) (c .before .before .put-line4 .ensures .0)
+returns c =
+    let at-put-line4 = c .before .before in
+    let at-put-line3 = at-put-line4 .before .before .before .before .before in
+    let at-put-functions = at-put-line3 .before .before .before .before .before in
+    let at-put-line2 = at-put-functions .before .before .before .before in
+    let at-put-line = at-put-line2 .before .before .before .before .before in
+    let start = at-put-line .before .before .before .before .before .before .before in
+    let a = start .args in counts-put (figuresIn (a .c) (now (a .functions)) (now (a .samples))) (at-put-line .put-line .ensures .0)
+    (at-put-line2 .put-line2 .ensures .0) (at-put-functions .put-functions .ensures .0) (at-put-line3 .put-line3 .ensures .0)
+    (at-put-line4 .put-line4 .ensures .0)
 
 pub put-counts-spec : {M : Type 1} → statement M
 put-counts-spec =

@@ -1,8 +1,6 @@
 -- `reporting::put_function` meets its contract.
 -- Assumes nothing.
 use Rattle.reporting.proofs.Putting.{put-fits, put-lent, put-again, function-put}
--- `reporting::put_function` meets its contract.
--- Assumes nothing.
 use native.Mathlib.Omega.{arith}
 use borrow.Author.Needs.{needs}
 use Rattle.reporting.proofs.put_function.Statement.{statement}
@@ -39,19 +37,45 @@ slice-aggregate-copy : tie.Need-slice-aggregate-copy
 slice-aggregate-copy c = put-lent (c .before .copy-text3 .ensures .0)
 
 copy-requires : tie.Need-copy-requires
-copy-requires c κs = let p = c .before .before in (
-  omega (arith, put-lent (p .copy-text3 .ensures .0)),
-  omega (arith, c .before .before .before .before .before .before .before .before .before .before .before .before .before .before .before .before .pre, p .copy-text3 .ensures .1, c .before .before .before .before .before .tell2 .ensures .1, c .before .before .before .before .before .before .before .copy-text2 .ensures .1, c .before .before .before .before .before .before .before .before .before .before .tell .ensures .1, c .before .before .before .before .before .before .before .before .before .before .before .before .copy-text .ensures .1),
-)
+copy-requires c κs =
+    let at-tell2 = c .before .before .before .before .before in
+    let at-copy-text2 = at-tell2 .before .before in
+    let at-tell = at-copy-text2 .before .before .before in
+    let at-copy-text = at-tell .before .before in
+    let start = at-copy-text .before .before .before .before in
+    let p = c .before .before in (
+      omega (arith, put-lent (p .copy-text3 .ensures .0)),
+      omega (
+        arith,
+        start .pre,
+        p .copy-text3 .ensures .1,
+        at-tell2 .tell2 .ensures .1,
+        at-copy-text2 .copy-text2 .ensures .1,
+        at-tell .tell .ensures .1,
+        at-copy-text .copy-text .ensures .1,
+      ),
+    )
 
 same-length : tie.Need-same-length
 same-length c = search needs
 
 returns : tie.Need-returns
-returns c = let p = c .before .before .before .before .before in
-    let q = p .before .before .before .before .before in
-    let whole = function-put _ _ (q .before .before .before .before .before .copy-text .ensures .0) (q .before .before .before .tell .ensures .0) (q .copy-text2 .ensures .0) (p .before .before .before .tell2 .ensures .0) (p .copy-text3 .ensures .0) in
-    (put-again whole (c .before .before .copy .ensures .0), omega (arith, c .before .before .copy .ensures .1, p .copy-text3 .ensures .1, p .before .before .before .tell2 .ensures .1, q .copy-text2 .ensures .1, q .before .before .before .tell .ensures .1, q .before .before .before .before .before .copy-text .ensures .1))
+returns c =
+    let at-copy = c .before .before in
+    let p = at-copy .before .before .before in let q = p .before .before .before .before .before in let whole = function-put _ _
+    (q .before .before .before .before .before .copy-text .ensures .0) (q .before .before .before .tell .ensures .0) (q .copy-text2 .ensures .0)
+    (p .before .before .before .tell2 .ensures .0) (p .copy-text3 .ensures .0) in (
+      put-again whole (at-copy .copy .ensures .0),
+      omega (
+        arith,
+        at-copy .copy .ensures .1,
+        p .copy-text3 .ensures .1,
+        p .before .before .before .tell2 .ensures .1,
+        q .copy-text2 .ensures .1,
+        q .before .before .before .tell .ensures .1,
+        q .before .before .before .before .before .copy-text .ensures .1,
+      ),
+    )
 
 pub put-function-spec : {M : Type 1} → statement M
 put-function-spec =

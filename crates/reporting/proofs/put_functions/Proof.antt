@@ -31,7 +31,10 @@ shared-slice-read-put-function-2 : tie.Need-shared-slice-read-put-function-2 Inv
 shared-slice-read-put-function-2 c = omega (arith, c .before .before .before .before .before .before .before .pre .1)
 
 put-function-requires : tie.Need-put-function-requires Inv-loop μ-loop
-put-function-requires c κs = omega (arith, c .before .before .before .before .loop .inv .1, c .before .before .before .before .loop .inv .2 .few, c .before .before .before .before .before .before .before .before .pre .2)
+put-function-requires c κs =
+    let at-loop = c .before .before .before .before in
+    let start = at-loop .before .before .before .before in
+    omega (arith, at-loop .loop .inv .1, at-loop .loop .inv .2 .few, start .pre .2)
 
 add-i : tie.Need-add-i Inv-loop μ-loop
 add-i c = omega arith
@@ -40,9 +43,15 @@ loop-less : tie.Need-loop-less Inv-loop μ-loop
 loop-less c = omega arith
 
 loop-again : tie.Need-loop-again Inv-loop μ-loop
-loop-again c = let l = c .before .before .before .before .before .before .before in
-    let p = c .before .before .before .before .before .before .before .before .before .before .before .pre in
-    (omega arith, search needs, lines-more _ _ _ _ (l .loop .i) (omega (arith, p .0)) (omega (arith, p .1)) (l .loop .inv .2) (c .before .before .put-function .ensures .0) (c .before .before .put-function .ensures .1))
+loop-again c =
+    let at-put-function = c .before .before in
+    let start = at-put-function .before .before .before .before .before .before .before .before .before in
+    let l = at-put-function .before .before .before .before .before in let p = start .pre in (
+      omega arith,
+      search needs,
+      lines-more _ _ _ _ (l .loop .i) (omega (arith, p .0))
+          (omega (arith, p .1)) (l .loop .inv .2) (at-put-function .put-function .ensures .0) (at-put-function .put-function .ensures .1),
+    )
 
 same-length : tie.Need-same-length Inv-loop μ-loop
 same-length c = c .before .loop .inv .1

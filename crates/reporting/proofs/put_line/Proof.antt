@@ -22,7 +22,10 @@ same-length : tie.Need-same-length
 same-length c = search needs
 
 returns : tie.Need-returns
-returns c = let p = c .before .before .before .before .before in (put-again (p .line .ensures .0) (c .before .before .copy .ensures .0), omega (arith, p .line .ensures .1, c .before .before .copy .ensures .1))
+returns c =
+    let at-copy = c .before .before in
+    let p = at-copy .before .before .before in
+    (put-again (p .line .ensures .0) (at-copy .copy .ensures .0), omega (arith, p .line .ensures .1, at-copy .copy .ensures .1))
 
 pub put-line-spec : {M : Type 1} → statement M
 put-line-spec =

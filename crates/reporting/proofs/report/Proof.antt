@@ -3,8 +3,6 @@
 use Rattle.reporting.proofs.Putting.{reported, line-put}
 use Rattle.rules.specs.Answers.{numberOf}
 use mathlib.Core.Path.{refl}
--- `reporting::report` meets its contract.
--- Assumes nothing.
 use borrow.Author.Needs.{needs}
 use Rattle.reporting.proofs.report.Statement.{statement}
 use Rattle.reporting.proofs.report.Tie as tie
@@ -70,19 +68,34 @@ same-length-3 : tie.Need-same-length-3
 same-length-3 c = search needs
 
 returns-3 : tie.Need-returns-3
-returns-3 c = reported _ _ (c .before .before .before .before .before .before .before .stage .given .1) (line-put "made" (c .before .before .before .before .number .result) (numberOf (c .before .before .before .before .before .before .before .stage .given .0 .0)) (c .before .before .before .before .number .ensures) (c .before .before .put-line .ensures .0))
+returns-3 c =
+    let at-put-line = c .before .before in
+    let at-number = at-put-line .before .before in
+    let at-stage = at-number .before .before .before in
+    reported _ _ (at-stage .stage .given .1)
+    (line-put "made" (at-number .number .result) (numberOf (at-stage .stage .given .0 .0)) (at-number .number .ensures) (at-put-line .put-line .ensures .0))
 
 same-length-4 : tie.Need-same-length-4
 same-length-4 c = search needs
 
 returns-4 : tie.Need-returns-4
-returns-4 c = reported _ _ (c .before .before .before .before .before .before .before .stage2 .given .1) (line-put "answer" (c .before .before .before .before .number2 .result) (numberOf (c .before .before .before .before .before .before .before .stage2 .given .0 .0)) (c .before .before .before .before .number2 .ensures) (c .before .before .put-line2 .ensures .0))
+returns-4 c =
+    let at-put-line2 = c .before .before in
+    let at-number2 = at-put-line2 .before .before in
+    let at-stage2 = at-number2 .before .before .before in
+    reported _ _ (at-stage2 .stage2 .given .1)
+    (line-put "answer" (at-number2 .number2 .result) (numberOf (at-stage2 .stage2 .given .0 .0)) (at-number2 .number2 .ensures)
+    (at-put-line2 .put-line2 .ensures .0))
 
 same-length-5 : tie.Need-same-length-5
 same-length-5 c = search needs
 
 returns-5 : tie.Need-returns-5
-returns-5 c = reported _ _ (c .before .before .before .before .before .before .stage3 .given .1) (line-put "bad" (c .before .before .before .before .before .before .stage3 .given .0 .0) (c .before .before .before .before .before .before .stage3 .given .0 .0) refl (c .before .before .put-line3 .ensures .0))
+returns-5 c =
+    let at-put-line3 = c .before .before in
+    let at-stage3 = at-put-line3 .before .before .before .before in
+    reported _ _ (at-stage3 .stage3 .given .1)
+    (line-put "bad" (at-stage3 .stage3 .given .0 .0) (at-stage3 .stage3 .given .0 .0) refl (at-put-line3 .put-line3 .ensures .0))
 
 pub report-spec : {M : Type 1} → statement M
 report-spec =

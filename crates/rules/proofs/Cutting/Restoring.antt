@@ -76,7 +76,8 @@ module _ (t : Table) (x : Slot) (f : FlaggedTable t x) where
       let orderly = unseen-orderly (headerOf t .c) t u x near good (f .named .used) token (λ q. item) 1 0 (f .orderly) flag in
       record {
         orderly = orderly;
-        alone = carried-alone t u Nothing Nothing carried _ (orderly .header .state) (λ a b p q g h e. f .alone a b p q e) (λ a b n. absurd n) (λ a b n. absurd n);
+        alone = carried-alone t u Nothing Nothing carried _ (orderly .header .state) (λ a b p q g h e. f .alone a b p q e) (λ a b n. absurd n)
+            (λ a b n. absurd n);
       }
 
 flagged-mends : (t : Table) (x : Slot) → FlaggedTable t x → Mends t (mapOf (made t (redoStores x (loggedOf t))))

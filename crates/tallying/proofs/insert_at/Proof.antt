@@ -10,7 +10,8 @@ use Rattle.tallying.proofs.insert_at.Statement.{statement}
 use Rattle.tallying.proofs.insert_at.Tie as tie
 
 abbrev Inv-loop : tie.InvT-loop
-Inv-loop words₀ used at word carried₀ moved₀ moved-end words carried moved = (moved-end ≡ used - at + 1) × (moved ≤ moved-end) × (length words ≡ length words₀) × Moving words₀ at word moved carried words
+Inv-loop words₀ used at word carried₀ moved₀ moved-end words carried moved = (moved-end ≡ used - at + 1) × (moved ≤ moved-end)
+    × (length words ≡ length words₀) × Moving words₀ at word moved carried words
 
 abbrev μ-loop : tie.MeasureT-loop
 μ-loop words₀ used at word carried₀ moved₀ moved-end words carried moved = moved-end - moved
@@ -50,9 +51,13 @@ loop-less c = search needs
 
 loop-again : tie.Need-loop-again Inv-loop μ-loop
 loop-again c =
-    let l = c .before .before in
-    let v = l .loop .inv in
-    (v .0, omega (arith, c .before .loop-test .taken), simp length-set (v .2), moving-next (v .3) (omega (arith, c .before .loop-test .taken, v .0, l .before .pre)))
+    let l = c .before .before in let v = l .loop .inv in (
+      v .0,
+      omega (arith, c .before .loop-test .taken),
+      simp length-set (v .2),
+      moving-next
+          (v .3) (omega (arith, c .before .loop-test .taken, v .0, l .before .pre)),
+    )
 
 same-length : tie.Need-same-length Inv-loop μ-loop
 same-length c = search needs

@@ -1,87 +1,58 @@
--- `tallying::place_for` meets its contract: the place is never before `low` and never behind `high`.
+-- `tallying::place_for` meets its contract.
 -- Assumes nothing.
-use Prim.Native.Nat.{_-_, _≤_}
-use native.Mathlib.Omega.{arith}
-use denote.Ref.{now}
-use lib.ListN.{take}
+use Rattle.tallying.proofs.Searching.{place-used, halvings-first, halvings-next, halvings-all}
+use Rattle.tallying.specs.Credits.{Between}
 use borrow.Author.Needs.{needs}
-use Rattle.tallying.specs.Functions.{placeFor}
-use Rattle.tallying.proofs.Searching.{half-above, half-below, place-used}
+use lib.ListN.{take}
+use denote.Ref.{now}
+use native.Mathlib.Omega.{arith}
+use Prim.Native.Nat.{_-_, _^_, _≤_, _<_}
 use Rattle.tallying.proofs.place_for.Statement.{statement}
 use Rattle.tallying.proofs.place_for.Tie as tie
 
 abbrev Inv-loop : tie.InvT-loop
-Inv-loop functions used function low₀ high₀ low high =
-    (low ≤ placeFor function (take used functions)) × (placeFor function (take used functions) ≤ high) × (high ≤ used)
+Inv-loop functions used function range₀ counter₀ range counter = (counter ≤ 10)
+    × Between function (take used functions) used (range .low) (range .high) × (range .high - range .low < 2 ^ (10 - counter))
 
 abbrev μ-loop : tie.MeasureT-loop
-μ-loop functions used function low₀ high₀ low high = high - low
+μ-loop functions used function range₀ counter₀ range counter = 10 - counter
 
 loop-holds : tie.Need-loop-holds Inv-loop μ-loop
-loop-holds c = (
-  omega arith,
-  place-used (now (c .args .functions)) (c .args .used) (c .args .function) (c .pre .0) (c .pre .1),
-  omega arith,
-)
+loop-holds c = let a = c .before .args in
+    let p = c .before .pre in (
+      omega arith,
+      record {
+        behind = omega arith;
+        before = place-used (now (a .functions)) (a .used) (a .function) (p .0 .long) (p .0 .order);
+        within = omega arith;
+      },
+      halvings-first _ (omega (arith, p .1)),
+    )
 
-sub-middle : tie.Need-sub-middle Inv-loop μ-loop
-sub-middle c = search needs
+halve-requires : tie.Need-halve-requires Inv-loop μ-loop
+halve-requires c κs = (c .before .before .before .pre .0, c .before .loop .inv .1)
 
-add-middle : tie.Need-add-middle Inv-loop μ-loop
-add-middle c = omega (arith, c .before .loop .inv, c .before .before .pre .0)
-
-mul-if1 : tie.Need-mul-if1 Inv-loop μ-loop
-mul-if1 c = omega (arith, c .before .loop .inv, c .before .before .pre .0)
-
-shared-slice-read-if1 : tie.Need-shared-slice-read-if1 Inv-loop μ-loop
-shared-slice-read-if1 c = search needs
-
-add-low : tie.Need-add-low Inv-loop μ-loop
-add-low c = search needs
+add-counter : tie.Need-add-counter Inv-loop μ-loop
+add-counter c = omega arith
 
 loop-less : tie.Need-loop-less Inv-loop μ-loop
-loop-less c = search needs
+loop-less c = omega arith
 
 loop-again : tie.Need-loop-again Inv-loop μ-loop
 loop-again c =
-    let l = c .before .before .before in
-    let s = l .before in (
-      half-above (now (s .args .functions)) (s .args .used) (s .args .function) (s .pre .0) (s .pre .1) _
-          (omega (arith, l .loop .inv, c .before .before .loop-test .taken)) (c .if1 .taken),
-      l .loop .inv .1,
-      l .loop .inv .2,
-    )
-
-loop-less-2 : tie.Need-loop-less-2 Inv-loop μ-loop
-loop-less-2 c = search needs
-
-loop-again-2 : tie.Need-loop-again-2 Inv-loop μ-loop
-loop-again-2 c =
-    let l = c .before .before .before in
-    let s = l .before in (
-      l .loop .inv .0,
-      half-below (now (s .args .functions)) (s .args .used) (s .args .function) (s .pre .0) (s .pre .1) _
-          (omega (arith, l .loop .inv, c .before .before .loop-test .taken)) (c .if1 .left),
-      omega (arith, l .loop .inv, c .before .before .loop-test .taken),
+    let l = c .before .before in let h = c .halve .ensures in (
+      omega (arith, c .before .loop-test .taken),
+      h .0,
+      halvings-next (l .loop .counter) _ _ (omega (arith, c .before .loop-test .taken))
+          (l .loop .inv .2) (h .1),
     )
 
 returns : tie.Need-returns Inv-loop μ-loop
-returns c = let v = c .before .loop .inv in (omega (arith, v, c .loop-test .left), omega (arith, v))
+returns c = let v = c .before .loop .inv in
+    let none = halvings-all _ _ (c .loop-test .left) (v .2) in
+    (omega (arith, none, v .1 .behind, v .1 .before), omega (arith, none, v .1 .behind, v .1 .before, v .1 .within))
 
 pub place-for-spec : {M : Type 1} → statement M
 place-for-spec =
     tie.close
-    (tie.spec
-    Inv-loop
-    μ-loop
-    loop-holds
-    sub-middle
-    add-middle
-    mul-if1
-    shared-slice-read-if1
-    add-low
-    loop-less
-    loop-again
-    loop-less-2
-    loop-again-2
-    returns)
+    (tie.spec Inv-loop μ-loop loop-holds halve-requires add-counter loop-less loop-again returns)
