@@ -63,7 +63,8 @@ module _ (m : PlainMap) (looked : ℕ → ℕ) (keys : List ℕ) (key : ℕ) whe
       rw k (same samples-more (rw none-same) (sym (credits-more (namedIn m keys) (r .function)) ∙ ap creditsOf (sym named)) (buckets-more n c))
   figures-by none e a (n, k) count =
       let c : n ≡ looked key = sym (ap countOf k) ∙ count in
-      let named : namedIn m one-more ≡ namedIn m keys = named-more m keys key ∙ ap (λ (x : Option Record). namedIn m keys ++ functionOf x) e ∙ append-nil _ in
+      let named : namedIn m one-more ≡ namedIn m keys = named-more m keys key
+      ∙ ap (λ (x : Option Record). namedIn m keys ++ functionOf x) e ∙ append-nil _ in
       rw k (same samples-more (wrapped (noneIn m keys) 1 _ (missing-more none e)) (ap creditsOf (sym named)) (buckets-more n c))
 
 -- ---- on a sound table

@@ -41,7 +41,8 @@ use Rattle.replaying.specs.Replays.{begun, tableOf, turnOf, finishOf}
 use Rattle.replaying.specs.declared.Answer.{Answer}
 use Rattle.replaying.specs.declared.Answer.the-variants.{Nothing, Created, Changed, Kept, Found, Events, Bad}
 use Rattle.replaying.specs.declared.Replay.{Replay}
-use Rattle.crediting.specs.Ledgers.{sumOf, withoutRecord, noneIn, functionOf, namedIn, Figures, figuresOf, Report, unmade, unrecovered, badLine, counts}
+use Rattle.crediting.specs.Ledgers.{sumOf, withoutRecord, noneIn, functionOf, namedIn, Figures, figuresOf, Report, unmade}
+use Rattle.crediting.specs.Ledgers.{unrecovered, badLine, counts}
 use Rattle.crediting.specs.Ledgers.{keysIn, allGood, lineBehind, onceRecovered, noSampleYet, samplesReport, eventAt, eventDue, startsSample}
 use Rattle.crediting.specs.Ledgers.{samplesBegin, unlessEnded, reportFrom, reportOf}
 use Rattle.crediting.specs.Sentences.{NoSample, GoesOn, Read, nothing, line, BadLinesEnd, BadEnd, RefusedTablesEnd, finalTable}
@@ -138,7 +139,8 @@ report-by r whole keys good n =
 
 module _ (left : List ℕ) (p : Replay) where
   samples-by : (ls : List (List ℕ)) (torn : Bool) → samplesReport (tableOf p left) (p .script .lines) ls torn
-      ≡ report-by (changeResult (tableOf p left) lent recover .0) (counts (finalFigures p left (keysIn ls))) (keysIn ls) (allGood ls torn) (p .script .lines)
+      ≡ report-by (changeResult (tableOf p left) lent recover .0) (counts (finalFigures p left (keysIn ls))) (keysIn ls)
+      (allGood ls torn) (p .script .lines)
   unfolding samplesReport report-by answerTo tableAfter
   samples-by ls torn = refl
 
@@ -224,7 +226,8 @@ otherLinesEnd room left ls p ready a key keys w l no-key later torn =
     behind room left ls p (ready .read) lines torn
     ∙ first-sample left p (ready .due) (sampleText key) (map sampleText keys ++ (l ∷ later)) torn (text-starts key (w .0))
     ∙ samples-by left p lines torn
-    ∙ rw (a .1, not-good l no-key later (key ∷ keys) w torn, keys-until l no-key later (key ∷ keys) w) (ap badLine (told-behind room left ls p (ready .read)
+    ∙ rw (a .1, not-good l no-key later (key ∷ keys) w torn, keys-until l no-key later (key ∷ keys) w)
+    (ap badLine (told-behind room left ls p (ready .read)
     (key ∷ keys)))
 
 pub tornSamplesEnd : TornSamplesEnd
@@ -266,7 +269,8 @@ unfolding reportIn
 endsAreKnown b = go (b .stage)
   where
     Known : Stage → Type 0
-    Known s = ((n : ℕ) → reportAt s (b .figures) ≡ badLine n → knownAt s ≡ true) × ((e : Refusal) → reportAt s (b .figures) ≡ unmade e → knownAt s ≡ true)
+    Known s = ((n : ℕ) → reportAt s (b .figures) ≡ badLine n → knownAt s ≡ true)
+        × ((e : Refusal) → reportAt s (b .figures) ≡ unmade e → knownAt s ≡ true)
         × ((e : Refusal) → reportAt s (b .figures) ≡ unrecovered e → knownAt s ≡ true)
 
     still : Known Samples
@@ -281,7 +285,8 @@ endsAreKnown b = go (b .stage)
 
 -- ---- what each sample adds
 
-sum-between : (number : ℕ → ℕ) (before behind : List ℕ) (key : ℕ) → sumOf number (before ++ (key ∷ behind)) ≡ sumOf number (before ++ behind) + number key
+sum-between : (number : ℕ → ℕ) (before behind : List ℕ) (key : ℕ) → sumOf number (before ++ (key ∷ behind))
+    ≡ sumOf number (before ++ behind) + number key
 sum-between number [] behind key = omega arith
 sum-between number (k ∷ before) behind key = omega (arith, sum-between number before behind key)
 
@@ -400,7 +405,8 @@ module _ (x : Figures) where
       longer : Counted x (length ls) → Counted x (length (l ∷ ls))
       longer c = record { map-of = c .map-of; looked = c .looked; keys = c .keys; figures = c .figures; few = omega (arith, c .few) }
 
-      go : (b : Bool) {r q : Report} → (r ≡ counts x → Counted x (length (l ∷ ls))) → (q ≡ counts x → Counted x (length (l ∷ ls))) → cond b r q ≡ counts x
+      go : (b : Bool) {r q : Report} → (r ≡ counts x → Counted x (length (l ∷ ls)))
+          → (q ≡ counts x → Counted x (length (l ∷ ls))) → cond b r q ≡ counts x
           → Counted x (length (l ∷ ls))
       go true f g k = f k
       go false f g k = g k

@@ -63,7 +63,8 @@ module _ (c : Counts) (f s : List ℕ) where
   unknown-counted (Known r looked) e p m q o = let z : _≡_ {A = ℕ} 0 1 = cc in absurd (omega arith)
   unknown-counted (Unknown k looked) e p m q o = record { figures = rw (p, m, q); orderly = o }
 
-pub sample-taken : (l : Ledger) (room f s : List ℕ) (key : ℕ) {lent : ℕ} → lent ≡ min (l .replay .words) (length room) → (answer : Query) {u : Table}
+pub sample-taken : (l : Ledger) (room f s : List ℕ) (key : ℕ) {lent : ℕ} → lent ≡ min (l .replay .words) (length room)
+    → (answer : Query) {u : Table}
     → Queried (take lent room) key answer u
     → {next : Counts} {g v : List ℕ}
     → CountsAre (figuresWith (figuresIn (l .counts) f s) answer) next g v
@@ -85,11 +86,13 @@ unfolding recoveredBook
 room-recovered l room turn d e = record { book = λ f s. rw (e, d .answer, d .replay, d .room); counts = refl }
 
 -- what changes no count keeps the order
-pub turned-is : {g : Book → Book} {l r : Ledger} {room left : List ℕ} → Turned g l room r left → (f s : List ℕ) → Orderly (l .counts .tally .used) f s
+pub turned-is : {g : Book → Book} {l r : Ledger} {room left : List ℕ} → Turned g l room r left → (f s : List ℕ)
+    → Orderly (l .counts .tally .used) f s
     → LedgerIs (g (bookOf l room f s)) r left f s
 turned-is {l = l} {r} d f s o = record { book = d .book f s; orderly = rw (d .counts) o }
 
-pub turned-orderly : {g : Book → Book} {l r : Ledger} {room left : List ℕ} → Turned g l room r left → {f s : List ℕ} → Orderly (l .counts .tally .used) f s
+pub turned-orderly : {g : Book → Book} {l r : Ledger} {room left : List ℕ} → Turned g l room r left → {f s : List ℕ}
+    → Orderly (l .counts .tally .used) f s
     → Orderly (r .counts .tally .used) f s
 turned-orderly d o = rw (d .counts) o
 
@@ -159,7 +162,8 @@ pub end-stage : (torn : Bool) (b : Book) {stage : Stage} → b .stage ≡ stage 
 unfolding atEnd
 end-stage torn b e = rw e
 
-pub unturned : {h : Book → Book} (l : Ledger) (room : List ℕ) → ((f s : List ℕ) → h (bookOf l room f s) ≡ bookOf l room f s) → Turned h l room l room
+pub unturned : {h : Book → Book} (l : Ledger) (room : List ℕ) → ((f s : List ℕ) → h (bookOf l room f s) ≡ bookOf l room f s)
+    → Turned h l room l room
 unturned l room e = record { book = λ f s. sym (e f s); counts = refl }
 
 pub end-bad : (l : Ledger) (room : List ℕ) (line : ℕ) {answer own : Answer} → answer ≡ own → answer ≡ BadAnswer line

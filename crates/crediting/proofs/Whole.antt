@@ -82,7 +82,8 @@ eqb-next a b = go (eqb a b) refl
     go true e = eq-eqb (suc a) (suc b) (ap suc (eqb-true a b e))
     go false e = ne-eqb (suc a) (suc b) (λ k. eqb-false a b e (omega (arith, k)))
 
-more-good : (key : ℕ) (l : List ℕ) (ls : List (List ℕ)) (torn : Bool) → keysIn (l ∷ ls) ≡ key ∷ keysIn ls → allGood (l ∷ ls) torn ≡ allGood ls torn
+more-good : (key : ℕ) (l : List ℕ) (ls : List (List ℕ)) (torn : Bool) → keysIn (l ∷ ls) ≡ key ∷ keysIn ls → allGood (l ∷ ls) torn
+    ≡ allGood ls torn
 more-good key l ls true e = refl
 more-good key l ls false e = rw e (eqb-next (length (keysIn ls)) (length ls))
 
@@ -143,7 +144,8 @@ module _ (p : Replay) (room : List ℕ) (u : Table) (table : tableOf p room ≡ 
           let long : length (keys ++ (key ∷ [])) + length (keysIn ls)
           ≡ length keys + suc (length (keysIn ls)) = omega (arith, length-append keys (key ∷ [])) in
           let said : laterSaid (sampleOf l) (book keys) ≡ book (keys ++ (key ∷ [])) = rw e (book-more keys key) in
-          let last : right (key ∷ keysIn ls) (allGood ls torn) ≡ right (keysIn (l ∷ ls)) (allGood (l ∷ ls) torn) = rw (more-good key l ls torn more, more) in
+          let last : right (key ∷ keysIn ls) (allGood ls torn)
+          ≡ right (keysIn (l ∷ ls)) (allGood (l ∷ ls) torn) = rw (more-good key l ls torn more, more) in
           ap (λ (b : Book). reportBehind b ls torn) said ∙ rest ∙ rw (append-assoc keys (key ∷ []) (keysIn ls), long) last
       go BadSample e later = spoils (rw e) (rw e)
       go Other e later = spoils (rw e) (rw e)
@@ -249,7 +251,8 @@ module _ (p : Replay) (room : List ℕ) where
   unfolding report-by counted-keys first-report stage-book reportIn
   first-behind l ls torn key e =
       let more : keysIn (l ∷ ls) ≡ key ∷ keysIn ls = rw e in
-      first-is key ls torn ∙ go told (λ n k. recovers n (answered ∙ ap Changed k)) ∙ rw (samples-by (l ∷ ls) torn, more-good key l ls torn more, more)
+      first-is key ls torn ∙ go told (λ n k. recovers n (answered ∙ ap Changed k))
+      ∙ rw (samples-by (l ∷ ls) torn, more-good key l ls torn more, more)
     where
       go : (r : Change) → ((n : ℕ) → r ≡ Listed n → SoundTable recovered) → first-report key ls torn (stageRecovered (Changed r))
           ≡ report-by r (key ∷ keysIn ls) (allGood ls torn)

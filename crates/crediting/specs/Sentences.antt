@@ -65,7 +65,8 @@ BadEnd = (room left : List ℕ) (ls : List (List ℕ)) (p : Replay) → Read roo
 
 -- "A refused header (a cap above 8 too) prints `made=13` alone", whatever comes
 abbrev pub RefusedTablesEnd : Type 0
-RefusedTablesEnd = (room left : List ℕ) (ls : List (List ℕ)) (p : Replay) → Read room begun ls left p → (l : List ℕ) → NoSample p l → (e : Refusal)
+RefusedTablesEnd = (room left : List ℕ) (ls : List (List ℕ)) (p : Replay) → Read room begun ls left p → (l : List ℕ)
+    → NoSample p l → (e : Refusal)
     → turnOf left p (lineOf l) .answer ≡ Created (Denied e)
     → (later : List (List ℕ)) (torn : Bool) → reportOf room (ls ++ (l ∷ later)) torn ≡ unmade e
 
@@ -126,7 +127,8 @@ abbrev pub OtherLinesEnd : Type 0
 OtherLinesEnd = (room left : List ℕ) (ls : List (List ℕ)) (p : Replay) → Ready room ls left p → Accepts p left → (key : ℕ) (keys : List ℕ)
     → Words (key ∷ keys)
     → (l : List ℕ) → ((k : ℕ) → sampleOf l ≡ Key k → ⊥)
-    → (later : List (List ℕ)) (torn : Bool) → reportOf room (ls ++ (map sampleText (key ∷ keys) ++ (l ∷ later))) torn ≡ badLine (numberBehind ls (key ∷ keys))
+    → (later : List (List ℕ)) (torn : Bool) → reportOf room (ls ++ (map sampleText (key ∷ keys) ++ (l ∷ later))) torn
+    ≡ badLine (numberBehind ls (key ∷ keys))
 
 -- and so is a line that no newline ends
 abbrev pub TornSamplesEnd : Type 0

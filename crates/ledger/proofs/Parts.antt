@@ -99,7 +99,8 @@ module _ (p : Posting) (room f s line input : List ℕ) where
         );
       }
 
-  pub read-taken : knownAt (p .ledger .stage) ≡ false → (n : ℕ) → (n ≡ 0 → ⊥) → n ≤ length input → {q : Posting} {left g v held : List ℕ}
+  pub read-taken : knownAt (p .ledger .stage) ≡ false → (n : ℕ) → (n ≡ 0 → ⊥) → n ≤ length input
+      → {q : Posting} {left g v held : List ℕ}
       → PostIs (afterBytes (postOf p room f s line) (take n input)) q left g v held
       → ReadSome (postOf p room f s line) input (record { posting = q; outcome = Going }) (postOf q left g v held)
   read-taken k n some few d =
@@ -156,7 +157,8 @@ pub behind-none : (p : Posting) (room f s line : List ℕ) → ((room f s line :
     → Behind afterBytes (begun room line) 0 (postOf p room f s line)
 behind-none p room f s line e = rw (e room f s line) (behind-nothing afterBytes (begun room line) (after-none (begun room line)))
 
-behind-more : {x u v : Post} {n : ℕ} {r : Turn} → Behind afterBytes x n u → (o : Onward u r v) → (m : ℕ) → m ≤ n + length (o .part) → Behind afterBytes x m v
+behind-more : {x u v : Post} {n : ℕ} {r : Turn} → Behind afterBytes x n u → (o : Onward u r v) → (m : ℕ)
+    → m ≤ n + length (o .part) → Behind afterBytes x m v
 behind-more b o m few = behind-part afterBytes partsArePosted b (o .part) (o .post) m few
 
 pub behind-next : {x u v : Post} {n : ℕ} {input : List ℕ} {r : Turn} → Behind afterBytes x n u → ReadSome u input r v → r .outcome ≡ Going

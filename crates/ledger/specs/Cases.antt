@@ -85,7 +85,8 @@ cases =
     ∷ (smallest "op=query\nsample=1\n", "bad=6\n")
     ∷ (smallest "op=cut\nsample=1\n", "bad=6\n")
     ∷ (smallest "op=cut\nafter=1\nsample=1\n", "bad=5\n")
-    -- "The table is recovered before the first sample": an update that was cut within its record is made whole, and one that was cut before the flag is not made
+    -- "The table is recovered before the first sample": an update that was cut within its record is made whole, and one that was cut before the flag
+    -- is not made
     ∷ (full "op=cut\nafter=5\nop=update\nkey=1\nfn=7\nat=8\nsample=1\n", "samples=1\nnone=0\nfn7=1\nother=0\nbuckets=1\n")
     ∷ (full "op=cut\nafter=3\nop=update\nkey=1\nfn=7\nat=8\nsample=1\n", "samples=1\nnone=0\nfn30=1\nother=0\nbuckets=1\n")
     -- "if that is refused, `answer=12` is the whole report", and no later line is read; also where the input has ended

@@ -47,7 +47,8 @@ pub record Took (x : Post) (part : List ℕ) (r : Turn) (u : Post) : Type 0 wher
 -- as many as `read` answers, and they are taken
 pub record ReadSome (x : Post) (input : List ℕ) (r : Turn) (u : Post) : Type 0 where
   pub stops : knownAt (x .book .stage) ≡ true → (r .outcome ≡ Known) × (u ≡ x)
-  pub reads : knownAt (x .book .stage) ≡ false → ((r .outcome ≡ Unread) × (u ≡ x)) ⊎ ((n : ℕ) × (n ≤ length input) × Took x (take n input) r u)
+  pub reads : knownAt (x .book .stage) ≡ false → ((r .outcome ≡ Unread) × (u ≡ x)) ⊎
+      ((n : ℕ) × (n ≤ length input) × Took x (take n input) r u)
 
 -- a text stands at the front of a buffer
 abbrev pub Fronted : List ℕ → List ℕ → Type 0

@@ -53,7 +53,8 @@ pub record Behind (book : Book) (line : List ℕ) (held n : ℕ) (text : List �
   pub some : 0 < length text → n < g .0 .taken
   pub least : n ≤ g .0 .taken
   pub within : g .0 .taken ≤ n + length text
-  pub post : afterBytes (record { book = book; line = line; held = held }) text ≡ afterBytes (afterGathered book (g .0) (g .1)) (drop (g .0 .taken - n) text)
+  pub post : afterBytes (record { book = book; line = line; held = held }) text
+      ≡ afterBytes (afterGathered book (g .0) (g .1)) (drop (g .0 .taken - n) text)
 
 -- the bytes of a text one after the other
 module _ (x : Post) (b : ℕ) (bs : List ℕ) where
@@ -106,7 +107,8 @@ gathered-in book line held text = gathered-behind book line held 0 text
 -- ---- from what the inner functions do to what a part makes of a posting
 
 -- the line that is held, of which there are as many bytes as are lent
-pub line-taken : (l : Ledger) (room f s line : List ℕ) (got : Gathered) → got .ended ≡ true → (count : ℕ) → count ≡ min (got .held) (length line)
+pub line-taken : (l : Ledger) (room f s line : List ℕ) (got : Gathered) → got .ended ≡ true → (count : ℕ) → count
+    ≡ min (got .held) (length line)
     → {r : Ledger} {left g v : List ℕ} → LedgerIs (withLine (take count line) (bookOf l room f s)) r left g v
     → PostIs (afterGathered (bookOf l room f s) got line) (record { ledger = r; held = 0 }) left g v line
 unfolding afterGathered

@@ -79,7 +79,8 @@ posted-lines (b ∷ bs) book held line read h =
     go true ended more =
         let next = withLine (take held line) book in
         let rest = rw (prefixed-nothing (split bs)) at (ended next) in
-        let said : next ≡ withLine (read ++ []) book = held-line read line held h book ∙ ap (λ (l : List ℕ). withLine l book) (sym (append-nil read)) in
+        let said : next ≡ withLine (read ++ []) book = held-line read line held h book
+        ∙ ap (λ (l : List ℕ). withLine l book) (sym (append-nil read)) in
         rest ∙ ap (λ (k : Book). reportBehind k (split bs .0) (split bs .1)) said
     go false ended more = rw (prefixed-joined read b (split bs)) more
 
@@ -110,7 +111,8 @@ some-lines (b ∷ bs) book line held = go (eqb b 10) (some-lines bs (withLine (t
     Known : Post → Book → Type 0
     Known y k = (ls : List (List ℕ)) × (torn : Bool) × (reportAfter (afterBytes y bs) ≡ reportBehind k ls torn)
 
-    go : (d : Bool) → Known (lineEnded x) (withLine (take held line) book) → Known (byteHeld x b) book → Known (cond d (lineEnded x) (byteHeld x b)) book
+    go : (d : Bool) → Known (lineEnded x) (withLine (take held line) book) → Known (byteHeld x b) book
+        → Known (cond d (lineEnded x) (byteHeld x b)) book
     go true (ls, torn, e) more = (take held line ∷ ls, torn, e)
     go false ended more = more
 

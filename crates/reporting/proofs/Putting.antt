@@ -28,7 +28,8 @@ module _ {text : List ℕ} {from n : ℕ} {l m : List ℕ} (p : Put text from l 
   pub put-lent : n ≡ length (take n m)
   put-lent = sym (length-take-le n m put-fits)
 
-pub put-again : {text : List ℕ} {n : ℕ} {l m : List ℕ} → Put text 0 l n m → {at r : ℕ} {out left : List ℕ} → Put (take n (take n m)) at out r left
+pub put-again : {text : List ℕ} {n : ℕ} {l m : List ℕ} → Put text 0 l n m → {at r : ℕ} {out left : List ℕ}
+    → Put (take n (take n m)) at out r left
     → Put text at out r left
 put-again {n = n} {m = m} p q = let whole : take n (take n m) ≡ _ = take-take n n m (omega arith) ∙ put-text p in rw whole at q
 
@@ -40,7 +41,8 @@ pub function-put : (f n : ℕ) {l m₁ m₂ m₃ m₄ m₅ : List ℕ} {a b c d 
 unfolding functionText
 function-put f n p q r s t = then (then (then (then p q) r) s) t
 
-texts-more : (fs ns : List ℕ) (f n : ℕ) → length fs ≡ length ns → functionTexts (fs ++ (f ∷ [])) (ns ++ (n ∷ [])) ≡ functionTexts fs ns ++ functionText f n
+texts-more : (fs ns : List ℕ) (f n : ℕ) → length fs ≡ length ns → functionTexts (fs ++ (f ∷ [])) (ns ++ (n ∷ []))
+    ≡ functionTexts fs ns ++ functionText f n
 unfolding functionTexts
 texts-more [] [] f n e = append-nil (functionText f n)
 texts-more [] (m ∷ ns) f n e = absurd (omega (arith, e))

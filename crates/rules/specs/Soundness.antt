@@ -72,7 +72,8 @@ pub record OrderlyTable (f : ℕ) (t : Table) : Type 0 where
   pub header : GoodHeader (length t) (headerOf t)
   pub flag : flagOf t ≡ f
   pub tidied : (j : ℕ) → j < 2 ^ (headerOf t .c + 1) - 1 → tokenOf t j ≡ meantOf t (headerOf t) j
-  pub unused : (j : ℕ) → j < 2 ^ (headerOf t .c + 1) - 1 → ((l : Level) → In l (levelsInUse (headerOf t .state)) → InLevel l j → ⊥) → tokenOf t j ≡ 0
+  pub unused : (j : ℕ) → j < 2 ^ (headerOf t .c + 1) - 1 → ((l : Level) → In l (levelsInUse (headerOf t .state)) → InLevel l j
+      → ⊥) → tokenOf t j ≡ 0
   pub placed : (x : Slot) → TakenSlot t x → (p : Place) × In p (placesOf (headerOf t) (keyIn t x)) × (p .bucket ≡ x .bucket)
 
 -- with flag 0, and "no key in two taken slots"
@@ -111,7 +112,8 @@ pub record DoubledTable (t : Table) (x y : Slot) : Type 0 where
   pub order : Before x y
   pub key : keyIn t x ≡ keyIn t y
   pub equal : recordIn t x ≡ recordIn t y
-  pub only : (a b : Slot) → TakenSlot t a → TakenSlot t b → keyIn t a ≡ keyIn t b → (a ≡ b) ⊎ (((a ≡ x) × (b ≡ y)) ⊎ ((a ≡ y) × (b ≡ x)))
+  pub only : (a b : Slot) → TakenSlot t a → TakenSlot t b → keyIn t a ≡ keyIn t b
+      → (a ≡ b) ⊎ (((a ≡ x) × (b ≡ y)) ⊎ ((a ≡ y) × (b ≡ x)))
 
 -- "sound but for flag 1, with word 6 the key word of a taken slot in a level in use": "Bucket j starts at word 9 + 13j", "Slot s
 -- starts at offset 1 + 3s."

@@ -28,7 +28,8 @@ use Rattle.running.specs.Runs.{afterByte, afterBytes, answersIn, togethe
 pub partsAreFed : PartsAreFed
 unfolding afterBytes answersIn
 partsAreFed s [] later = refl
-partsAreFed s (b ∷ bs) later = ap (λ (rest : List Answer). byteTaken (s .run) (s .room) (s .line) b .answer ∷ rest) (partsAreFed (afterByte s b) bs later)
+partsAreFed s (b ∷ bs) later = ap (λ (rest : List Answer). byteTaken (s .run) (s .room) (s .line) b .answer ∷ rest)
+    (partsAreFed (afterByte s b) bs later)
 
 pub together-last : (ps : List (List ℕ)) (p : List ℕ) → together (ps ++ (p ∷ [])) ≡ together ps ++ p
 together-last [] p = append-nil p
@@ -51,7 +52,8 @@ module _ {S : Type 0} (take-part : S → List ℕ → S) where
   behind-nothing x e = record { parts = []; stand = sym e; long = omega arith }
 
   -- one part more
-  pub behind-part : ((x : S) (xs ys : List ℕ) → take-part x (xs ++ ys) ≡ take-part (take-part x xs) ys) → {x u v : S} {n : ℕ} → Behind take-part x n u
+  pub behind-part : ((x : S) (xs ys : List ℕ) → take-part x (xs ++ ys) ≡ take-part (take-part x xs) ys) → {x u v : S} {n : ℕ}
+      → Behind take-part x n u
       → (part : List ℕ) → v ≡ take-part u part
       → (m : ℕ) → m ≤ n + length part
       → Behind take-part x m v

@@ -15,7 +15,8 @@ use Rattle.replaying.specs.Replays.{begun, Turned, turnOf}
 use Rattle.replaying.specs.declared.Answer.{Answer}
 use Rattle.replaying.specs.declared.Answer.the-variants.{Nothing}
 use Rattle.replaying.specs.declared.Replay.{Replay}
-use Rattle.running.specs.Runs.{joined, split, answers, answersTo, lineRoom, heldAfter, After, byteTaken, endOf, fed, silent, spoken, BytesAnswerAsLines}
+use Rattle.running.specs.Runs.{joined, split, answers, answersTo, lineRoom, heldAfter, After, byteTaken, endOf, fed, silent, spoken}
+use Rattle.running.specs.Runs.{BytesAnswerAsLines}
 use Rattle.running.proofs.Lengths.{line-enough}
 
 -- ---- lines whose first begins with bytes that were read before
@@ -71,7 +72,8 @@ holds-more read line held byte h = go (decLe lineRoom held)
     go (no place) =
         let free : held < lineRoom = omega arith in
         let all : take lineRoom read ≡ read = take-all lineRoom read (omega (arith, h .count)) in
-        let both : take lineRoom (read ++ (byte ∷ [])) ≡ read ++ (byte ∷ []) = take-all lineRoom (read ++ (byte ∷ [])) (omega (arith, more, h .count)) in
+        let both : take lineRoom (read ++ (byte ∷ [])) ≡ read ++ (byte ∷ []) = take-all lineRoom (read ++ (byte ∷ []))
+        (omega (arith, more, h .count)) in
         let one : held + 1 ≡ suc held = omega arith in
         let next : take (suc held) (set line held byte) ≡ take held line ++ (byte ∷ []) = take-suc-set line held byte (omega (arith, h .long)) in
         rw (lt-ltb held lineRoom free)

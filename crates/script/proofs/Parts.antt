@@ -132,9 +132,11 @@ one-text : (s : Stand) (b : ℕ) → textIn s (b ∷ []) ≡ textOf (byteTaken (
 unfolding answersIn textIn flatMap
 one-text s b = append-nil (textOf (byteTaken (s .run) (s .room) (s .line) b .answer))
 
-pub taking-next : {s : Stand} {text : List ℕ} {u : Stand} {taken waiting : ℕ} {out : List ℕ} → Taking s text u taken waiting out → taken < length text
+pub taking-next : {s : Stand} {text : List ℕ} {u : Stand} {taken waiting : ℕ} {out : List ℕ} → Taking s text u taken waiting out
+    → taken < length text
     → {r : Taken} {left held : List ℕ} → TakenIs (byteTaken (u .run) (u .room) (u .line) (getD text taken 0)) r left held
-    → {w : ℕ} {m : List ℕ} → Put (textOf (r .answer)) waiting out w m → Taking s text (record { run = r .run; room = left; line = held }) (taken + 1) w m
+    → {w : ℕ} {m : List ℕ} → Put (textOf (r .answer)) waiting out w m
+    → Taking s text (record { run = r .run; room = left; line = held }) (taken + 1) w m
 taking-next {s} {text} {u} {taken} {waiting} {out} t more {r} {left} {held} d {w} {m} p =
     let b = getD text taken 0 in
     let grown = next-take text taken more in
@@ -193,7 +195,8 @@ text-none : (s : Stand) → textIn s [] ≡ []
 unfolding textIn answersIn flatMap
 text-none s = refl
 
-pub some-taken : (u : Stand) (rest : List ℕ) {r : Took} {v : Stand} (out : List ℕ) → TookSome u rest r v out → known (u .run) ≡ false → 0 < length rest
+pub some-taken : (u : Stand) (rest : List ℕ) {r : Took} {v : Stand} (out : List ℕ) → TookSome u rest r v out → known (u .run)
+    ≡ false → 0 < length rest
     → 128 ≤ length out → 0 < r .taken
 some-taken u rest {r} {v} out t k more room = go (r .taken) (t .stand) (t .front) (t .pausing)
   where
@@ -316,7 +319,8 @@ went-onward {s} part {r} {u} k w =
     }
   where
     -- where nothing is taken the run stands as before, and its answer is not known
-    go : (n : ℕ) → n ≤ length part → u ≡ afterBytes s (take n part) → (known (u .run) ≡ false → n ≡ length part) → 0 < length part → 0 < length (take n part)
+    go : (n : ℕ) → n ≤ length part → u ≡ afterBytes s (take n part) → (known (u .run) ≡ false → n ≡ length part)
+        → 0 < length part → 0 < length (take n part)
     go (suc n) within stand all some = omega (arith, length-take-le (suc n) part within)
     go zero within stand all some = absurd (omega (arith, all (ap (λ (x : Stand). known (x .run)) (stand ∙ after-none s) ∙ k), some))
 
@@ -345,17 +349,20 @@ read-onward {s} {input} {r} {u} t = go (known (s .run)) refl
 
 -- ---- all parts
 
-pub behind-none : (room line : List ℕ) {run : Run} → run ≡ ready → Behind afterBytes (begun room line) 0 (record { run = run; room = room; line = line })
+pub behind-none : (room line : List ℕ) {run : Run} → run ≡ ready
+    → Behind afterBytes (begun room line) 0 (record { run = run; room = room; line = line })
 behind-none room line e = rw e (behind-nothing afterBytes (begun room line) (after-none (begun room line)))
 
-behind-more : {s u v : Stand} {n : ℕ} {r : Turn} → Behind afterBytes s n u → (o : Onward u r v) → (m : ℕ) → m ≤ n + length (o .part) → Behind afterBytes s m v
+behind-more : {s u v : Stand} {n : ℕ} {r : Turn} → Behind afterBytes s n u → (o : Onward u r v) → (m : ℕ)
+    → m ≤ n + length (o .part) → Behind afterBytes s m v
 behind-more b o m few = behind-part afterBytes after-more b (o .part) (o .stand) m few
 
 pub behind-next : {s u v : Stand} {n : ℕ} {input : List ℕ} {r : Turn} → Behind afterBytes s n u → ReadSome u input r v → r .outcome ≡ Going
     → Behind afterBytes s (n + 1) v
 behind-next {n = n} b t e = let o = read-onward t in behind-more b o (n + 1) (omega (arith, o .some e))
 
-pub ran : {s u v : Stand} {n : ℕ} {input : List ℕ} {r : Turn} → RoomFor (s .room) → Behind afterBytes s n u → ReadSome u input r v → (r .outcome ≡ Going → ⊥)
+pub ran : {s u v : Stand} {n : ℕ} {input : List ℕ} {r : Turn} → RoomFor (s .room) → Behind afterBytes s n u
+    → ReadSome u input r v → (r .outcome ≡ Going → ⊥)
     → Ran s (r .outcome) v
 ran {n = n} fits b t stops =
     let o = read-onward t in

@@ -116,7 +116,8 @@ has-ascending h fs = has-placed h [] fs
 
 length-inserted : (at f : ℕ) (gs : List ℕ) → length (insertedAt at f gs) ≡ suc (length gs)
 length-inserted at f gs =
-    let both : length (take at gs) + length (drop at gs) ≡ length gs = sym (length-append (take at gs) (drop at gs)) ∙ ap length (take-append-drop at gs) in
+    let both : length (take at gs) + length (drop at gs) ≡ length gs = sym (length-append (take at gs) (drop at gs))
+    ∙ ap length (take-append-drop at gs) in
     omega (arith, length-append (take at gs) (f ∷ drop at gs), both)
 
 length-placed : (placed fs : List ℕ) → length (ascendingFrom placed fs) ≡ length placed + length fs
@@ -147,7 +148,8 @@ module _ (named : List ℕ) (f : ℕ) where
   has-all : has f counted ≡ true → has f different ≡ true
   unfolding different countedOf
   has-all h =
-      sym (ap (has f) (take-append-drop 512 (differentFrom [] named))) ∙ has-append f (take 512 (differentFrom [] named)) (drop 512 (differentFrom [] named))
+      sym (ap (has f) (take-append-drop 512 (differentFrom [] named)))
+      ∙ has-append f (take 512 (differentFrom [] named)) (drop 512 (differentFrom [] named))
       ∙ ap (λ (b : Bool). either b (has f (drop 512 (differentFrom [] named)))) h
 
   pub counted-old : has f counted ≡ true → more ≡ counted
@@ -257,7 +259,8 @@ module _ (named : List ℕ) (f : ℕ) where
   one-changed [] a h = absurd (true-false (sym h))
   one-changed (x ∷ hs) a h = go (eqb x f) refl h (one-changed hs (a .1))
     where
-      go : (b : Bool) → eqb x f ≡ b → cond b true (has f hs) ≡ true → (has f hs ≡ true → map behind hs ≡ added (map before hs) (placeFor f hs))
+      go : (b : Bool) → eqb x f ≡ b → cond b true (has f hs) ≡ true
+          → (has f hs ≡ true → map behind hs ≡ added (map before hs) (placeFor f hs))
           → map behind (x ∷ hs) ≡ added (map before (x ∷ hs)) (placeFor f (x ∷ hs))
       go true e k later = rw (le-ltb x f (omega (arith, eqb-true x f e)), one-time x e, unchanged hs (none-later x hs (a .0) e))
       go false e k later = rw (lt-ltb x f (below-has x f hs (a .0) k), same-times x e, later k)
@@ -281,7 +284,8 @@ unfolding furtherIn
 further-same counted f [] h = refl
 further-same counted f (g ∷ fs) h = go (eqb g f) refl h (further-same counted f fs)
   where
-    go : (b : Bool) → eqb g f ≡ b → cond b true (has f fs) ≡ false → (has f fs ≡ false → furtherIn (counted ++ (f ∷ [])) fs ≡ furtherIn counted fs)
+    go : (b : Bool) → eqb g f ≡ b → cond b true (has f fs) ≡ false
+        → (has f fs ≡ false → furtherIn (counted ++ (f ∷ [])) fs ≡ furtherIn counted fs)
         → cond (has g (counted ++ (f ∷ []))) 0 1 + furtherIn (counted ++ (f ∷ [])) fs ≡ cond (has g counted) 0 1 + furtherIn counted fs
     go true e k later = absurd (true-false k)
     go false e k later =

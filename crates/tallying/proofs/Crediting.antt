@@ -80,7 +80,8 @@ module _ (f used other : ℕ) (functions samples : List ℕ) (o : Orderly used f
   unfolding credited fs
   full miss all = record { held = rw (nowhere miss, eq-eqb (length (take used functions)) 512 (fs-long ∙ all)); rest = (refl, refl); orderly = o }
 
-  pub new : standsAt used at f functions ≡ false → (used ≡ 512 → ⊥) → {g v : List ℕ} → length g ≡ length functions → length v ≡ length samples
+  pub new : standsAt used at f functions ≡ false → (used ≡ 512 → ⊥) → {g v : List ℕ} → length g ≡ length functions → length v
+      ≡ length samples
       → Inserted used at f functions g → Inserted used at 1 samples v
       → Credited f (record { used = used; other = other }) functions samples (record { used = used + 1; other = other }) g v
   unfolding credited fs

@@ -59,7 +59,8 @@ take-behind (x ∷ l) (suc at) n = take-behind l at n ∙ ap (λ (k : ℕ). drop
     same : suc (at + n) ≡ suc at + n
     same = omega arith
 
-pub moved-all : {l : List ℕ} {used at word moved carried : ℕ} {m : List ℕ} → Moving l at word moved carried m → moved ≡ used - at + 1 → at ≤ used
+pub moved-all : {l : List ℕ} {used at word moved carried : ℕ} {m : List ℕ} → Moving l at word moved carried m → moved
+    ≡ used - at + 1 → at ≤ used
     → used < length l → Inserted used at word l m
 moved-all {l} {used} {at} {word} {moved} {carried} {m} v all few room =
     let s = word ∷ drop at l in
@@ -77,6 +78,7 @@ moved-all {l} {used} {at} {word} {moved} {carried} {m} v all few room =
       rest = rw (v .words, behind) (drop-paste l at s moved (omega arith) long);
     }
 
-pub moving-long : {l : List ℕ} {at word moved carried : ℕ} {m : List ℕ} → Moving l at word moved carried m → at + moved ≤ length l → length m ≡ length l
+pub moving-long : {l : List ℕ} {at word moved carried : ℕ} {m : List ℕ} → Moving l at word moved carried m
+    → at + moved ≤ length l → length m ≡ length l
 moving-long {l} {at} {word} {moved} v few =
     ap length (v .words) ∙ length-paste l at (word ∷ drop at l) moved few (omega (arith, source-long l at word (omega arith)))

@@ -29,7 +29,8 @@ has-front f zero fs h = refl
 has-front f (suc n) [] h = refl
 has-front f (suc n) (g ∷ fs) h = go (eqb g f) h (has-front f n fs)
   where
-    go : (b : Bool) → cond b true (has f fs) ≡ false → (has f fs ≡ false → has f (take n fs) ≡ false) → cond b true (has f (take n fs)) ≡ false
+    go : (b : Bool) → cond b true (has f fs) ≡ false → (has f fs ≡ false → has f (take n fs) ≡ false)
+        → cond b true (has f (take n fs)) ≡ false
     go true k later = absurd (true-false k)
     go false k later = later k
 
@@ -93,7 +94,8 @@ distinct-last : (fs : List ℕ) (f : ℕ) → Distinct fs → has f fs ≡ false
 distinct-last [] f d h = (refl, tt)
 distinct-last (g ∷ fs) f d h = go (eqb g f) refl h (distinct-last fs f (d .1))
   where
-    go : (b : Bool) → eqb g f ≡ b → cond b true (has f fs) ≡ false → (has f fs ≡ false → Distinct (fs ++ (f ∷ []))) → Distinct (g ∷ (fs ++ (f ∷ [])))
+    go : (b : Bool) → eqb g f ≡ b → cond b true (has f fs) ≡ false → (has f fs ≡ false → Distinct (fs ++ (f ∷ [])))
+        → Distinct (g ∷ (fs ++ (f ∷ [])))
     go true e k later = absurd (true-false k)
     go false e k later =
         let no : eqb f g ≡ false = ne-eqb f g (λ q. eqb-false g f e (sym q)) in

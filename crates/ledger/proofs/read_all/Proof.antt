@@ -15,7 +15,8 @@ use Rattle.ledger.proofs.read_all.Tie as tie
 
 abbrev Inv-loop : tie.InvT-loop
 Inv-loop room₀ functions₀ samples₀ line₀ input₀ posting₀ parts₀ room functions samples line input posting parts =
-    (length room ≡ length room₀) × (length functions ≡ length functions₀) × (length samples ≡ length samples₀) × (length input ≡ length input₀)
+    (length room ≡ length room₀) × (length functions ≡ length functions₀) × (length samples ≡ length samples₀)
+    × (length input ≡ length input₀)
     × (parts < 2 ^ 64) × Orderly (posting .ledger .counts .tally .used) functions samples
     × Behind afterBytes (begun room₀ line₀) parts (postOf posting room functions samples line)
 

@@ -11,7 +11,8 @@ use Rattle.posting.proofs.gather.Statement.{statement}
 use Rattle.posting.proofs.gather.Tie as tie
 
 abbrev Inv-loop : tie.InvT-loop
-Inv-loop line₀ start text held₀ i₀ i-end line held i = (i ≤ length text) × (i-end ≡ length text) × (gatheredIn line₀ start text ≡ rest line held text i)
+Inv-loop line₀ start text held₀ i₀ i-end line held i = (i ≤ length text) × (i-end ≡ length text)
+    × (gatheredIn line₀ start text ≡ rest line held text i)
 
 abbrev μ-loop : tie.MeasureT-loop
 μ-loop line₀ start text held₀ i₀ i-end line held i = length text - i

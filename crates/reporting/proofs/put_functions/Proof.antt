@@ -10,7 +10,8 @@ use Rattle.reporting.proofs.put_functions.Statement.{statement}
 use Rattle.reporting.proofs.put_functions.Tie as tie
 
 abbrev Inv-loop : tie.InvT-loop
-Inv-loop functions samples used out₀ start at₀ i₀ out at i = (i ≤ used) × (length out ≡ length out₀) × Lines functions samples start out₀ i at out
+Inv-loop functions samples used out₀ start at₀ i₀ out at i = (i ≤ used) × (length out ≡ length out₀)
+    × Lines functions samples start out₀ i at out
 
 abbrev μ-loop : tie.MeasureT-loop
 μ-loop functions samples used out₀ start at₀ i₀ out at i = used - i

@@ -88,7 +88,8 @@ pub record Mended (t : Table) (m : PlainMap) : Type 0 where
   pub cuts : EveryCut (λ (u : Table). Mends u m) t stores
 
 -- recovery answers by the kind that a table is of
-answers-by : (t : Table) (f : Finding) → GoodHeader (length t) (headerOf t) → KindOf t f → (n : ℕ) → 20 ≤ n → outcome t n recover ≡ recoverOf t (headerOf t) f
+answers-by : (t : Table) (f : Finding) → GoodHeader (length t) (headerOf t) → KindOf t f → (n : ℕ) → 20 ≤ n → outcome t n recover
+    ≡ recoverOf t (headerOf t) f
 answers-by t f g k n l = recover-passes t n g l ∙ ap (recoverOf t (headerOf t)) (kind-found t f k)
 
 whole-mended : (t : Table) (m : PlainMap) → SoundMap t m → Mended t m

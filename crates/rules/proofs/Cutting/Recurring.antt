@@ -42,7 +42,8 @@ module _ (t : Table) (m : PlainMap) where
       let carried = clear-carries t o y (d .later) in
       let still = carried-stays t u (Only y) Nothing carried (headerOf t .c) (good-cleared t o y (d .later))
       (clear-writes t o y (d .later) .near .header) x (d .first) (before-apart x y (d .order)) in
-      let stands : m (keyIn t y) ≡ some (recordIn t y) = ap m (sym (still .1 ∙ d .key)) ∙ has .stands x (still .0) ∙ ap some (still .2 ∙ d .equal) in
+      let stands : m (keyIn t y) ≡ some (recordIn t y) = ap m (sym (still .1 ∙ d .key)) ∙ has .stands x (still .0)
+      ∙ ap some (still .2 ∙ d .equal) in
       doubled-twin t m x y d (copied-map u t (headerOf t .c) (o .header .state) m has y (carried-back t u (Only y) carried) stands)
 
   recovered-mends : Recovered t m → Mends t m
