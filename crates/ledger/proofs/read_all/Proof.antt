@@ -82,7 +82,11 @@ loop-again c = (
   search needs,
   search needs,
   search needs,
-  omega (arith, c .before .before .before .before .before .before .before .before .before .before .before .before .before .before .before .before .before .loop-test .taken),
+  omega (
+    arith,
+    c .before .before .before .before .before .before .before .before .before
+        .before .before .before .before .before .before .before .before .loop-test .taken,
+  ),
   c .before .before .before .before .before .before .before .before .before .before .before .read-some .ensures .1,
   let at-read-some = c .before .before .before .before .before .before .before .before .before .before .before in
       let at-loop = at-read-some .before .before .before .before .before .before .before in
