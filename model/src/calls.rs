@@ -6,7 +6,7 @@ use crate::layout::{ADDRESS_LIMIT, LARGEST_DEPTH, WORDS_PER_CHAIN_RECORD};
 use crate::placing::{find_placing, Placing};
 use crate::recovery::{judge, Kind};
 use crate::refusal::{Refusal, SUCCESS};
-use crate::table::{State, Table};
+use crate::table::{Found, Search, State, Table};
 
 /// A word index and the new word.
 type Store = (usize, u64);
@@ -28,19 +28,18 @@ pub fn create(table: &mut [u64], c: u64, k: u64, mul1: u64, mul2: u64) -> u64 {
     SUCCESS
 }
 
-/// Answers a number, then function, place and probe count.
-pub fn query(table: &[u64], key: u64) -> (u64, [u64; 3]) {
+/// Answers a number, then function, place, probe count, "the word index of the key found" and the number of its level.
+pub fn query(table: &[u64], key: u64) -> (u64, [u64; 5]) {
     let table = match Table::read(table).and_then(refuse_flag) {
         Ok(table) => table,
-        Err(refusal) => return (refusal.number(), [0, 0, 0]),
+        Err(refusal) => return query_refused(refusal, 0),
     };
-    let search = table.search(key);
-    match search.slot {
-        Some(slot) => {
+    match table.search(key) {
+        Search { found: Some(Found { level, slot }), probes } => {
             let [_, function, place] = table.record(slot);
-            (SUCCESS, [function, place, search.probes])
+            (SUCCESS, [function, place, probes, slot.key_word() as u64, level.number()])
         }
-        None => (Refusal::KeyAbsent.number(), [0, 0, search.probes]),
+        Search { found: None, probes } => query_refused(Refusal::KeyAbsent, probes),
     }
 }
 
@@ -53,7 +52,7 @@ pub fn chain(table: &[u64], address: u64, depth: u64, records: &mut [u64]) -> (u
     let mut found = vec![];
     let mut count = 0;
     for asked in (0..=depth).rev() {
-        let (number, [function, place, probes]) = query(table, key_of(address, asked));
+        let (number, [function, place, probes, ..]) = query(table, key_of(address, asked));
         // "the sum of the queries' probe counts down to the last depth asked, the missing one included".
         count += probes;
         if number != SUCCESS {
@@ -69,7 +68,7 @@ pub fn chain(table: &[u64], address: u64, depth: u64, records: &mut [u64]) -> (u
 
 pub fn insert(table: &[u64], key: u64, function: u64, place: u64, list: &mut [u64]) -> (u64, u64) {
     change(table, list, |table| {
-        if table.search(key).slot.is_some() {
+        if table.search(key).found.is_some() {
             return Err(Refusal::KeyPresent);
         }
         placing_stores(table, [key, function, place])
@@ -78,7 +77,7 @@ pub fn insert(table: &[u64], key: u64, function: u64, place: u64, list: &mut [u6
 
 pub fn update(table: &[u64], key: u64, function: u64, place: u64, list: &mut [u64]) -> (u64, u64) {
     change(table, list, |table| {
-        let old = table.search(key).slot.ok_or(Refusal::KeyAbsent)?;
+        let old = slot_of(table, key)?;
         Ok(match table.lowest_free_slot(old.bucket) {
             Some(free) => update_beside(table, old, free, [key, function, place]),
             None => update_under_flag(old, function, place),
@@ -88,7 +87,7 @@ pub fn update(table: &[u64], key: u64, function: u64, place: u64, list: &mut [u6
 
 pub fn delete(table: &[u64], key: u64, list: &mut [u64]) -> (u64, u64) {
     change(table, list, |table| {
-        let slot = table.search(key).slot.ok_or(Refusal::KeyAbsent)?;
+        let slot = slot_of(table, key)?;
         Ok(vec![token_cleared(table, slot)])
     })
 }
@@ -203,6 +202,17 @@ fn refuse_flag(table: Table) -> Result<Table, Refusal> {
         0 => Ok(table),
         _ => Err(Refusal::FlagNotZero),
     }
+}
+
+/// "with any refusal, index 0 and top", which is number 0.
+fn query_refused(refusal: Refusal, probes: u64) -> (u64, [u64; 5]) {
+    (refusal.number(), [0, 0, probes, 0, 0])
+}
+
+/// The slot that update and delete work on, in whichever level: the one that query tells.
+fn slot_of(table: &Table, key: u64) -> Result<Slot, Refusal> {
+    let found = table.search(key).found.ok_or(Refusal::KeyAbsent)?;
+    Ok(found.slot)
 }
 
 /// What refuses a chain before any query. "These are checked after 1 and 3, 16 before 15."

@@ -71,6 +71,21 @@ impl Level {
     }
 }
 
+/// What a level in use is to the table. Its size does not tell this: the top of one state is the bottom of another.
+#[derive(Clone, Copy, Debug, PartialEq, Eq)]
+pub enum LevelName {
+    Top = 0,
+    Bottom = 1,
+    Interim = 2,
+}
+
+impl LevelName {
+    /// The number that an answer tells.
+    pub fn number(self) -> u64 {
+        self as u64
+    }
+}
+
 /// One slot of one bucket.
 #[derive(Clone, Copy, Debug, PartialEq, Eq)]
 pub struct Slot {

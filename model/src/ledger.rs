@@ -103,7 +103,7 @@ fn count_samples(first: Option<u64>, lines: &mut Lines<impl BufRead>, table: &[u
 
 impl Counts {
     fn add_sample(&mut self, table: &[u64], key: u64) {
-        let (number, [function, _place, probes]) = calls::query(table, key);
+        let (number, [function, _place, probes, ..]) = calls::query(table, key);
         self.samples += 1;
         self.buckets += probes;
         // A recovered table refuses a query for one reason only: the key has no record.

@@ -1,7 +1,7 @@
 //! An independent model of the level hashing table of document 01, the paper that fixes the table and its calls,
-//! with three requests of document 02: a), the inlined callers of an address, b), the growth step that passes
-//! over items without a place, and d), the sample ledger; and with a request of its own that comes after b), the
-//! step that goes on from a bucket.
+//! with four requests of document 02: a), the inlined callers of an address, b), the growth step that passes
+//! over items without a place, d), the sample ledger, and e), where the answer stood; and with a request of its own
+//! that comes after b), the step that goes on from a bucket.
 //!
 //! From the bottom up:
 //! - `layout`: where words, buckets, slots and levels stand;

@@ -6,6 +6,9 @@ use crate::refusal::SUCCESS;
 use crate::script_events::{op_of, perform, read_request, read_table, Answer, Request};
 use crate::script_lines::{Line, Lines, Stop, LONGEST_LINE};
 
+/// What the words of a query are called, in the order in which the call answers them.
+const QUERY_NAMES: [&str; 5] = ["fn", "at", "probes", "word", "level"];
+
 /// Runs a script. Answers are written as they come, so they stay when a bad line stops the run.
 pub fn run<R: BufRead, W: Write>(input: R, mut output: W) -> io::Result<()> {
     let mut lines = Lines::new(input, LONGEST_LINE);
@@ -46,8 +49,9 @@ fn next_request(lines: &mut Lines<impl BufRead>) -> Result<Option<Request>, Stop
 
 fn write_answer(answer: Answer, output: &mut impl Write) -> io::Result<()> {
     match answer {
-        Answer::Query { number, function, place, probes } => {
-            write!(output, "answer={number}\nfn={function}\nat={place}\nprobes={probes}\n")
+        Answer::Query { number, words } => {
+            writeln!(output, "answer={number}")?;
+            QUERY_NAMES.iter().zip(words).try_for_each(|(name, word)| writeln!(output, "{name}={word}"))
         }
         Answer::Change { number, stores, kept } => {
             write!(output, "answer={number}\nstores={stores}\n")?;

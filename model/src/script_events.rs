@@ -40,18 +40,10 @@ pub enum Request {
 
 /// What an event answers.
 pub enum Answer {
-    Query {
-        number: u64,
-        function: u64,
-        place: u64,
-        probes: u64,
-    },
+    /// The words are those of the call, in its order.
+    Query { number: u64, words: [u64; 5] },
     /// `kept` is there only under a cut line.
-    Change {
-        number: u64,
-        stores: u64,
-        kept: Option<u64>,
-    },
+    Change { number: u64, stores: u64, kept: Option<u64> },
 }
 
 /// Reads the header and makes its table; answers the number of the making too.
@@ -139,8 +131,8 @@ fn read_item(lines: &mut Lines<impl BufRead>) -> Result<[u64; 3], Stop> {
 pub fn perform(request: Request, table: &mut [u64]) -> Answer {
     match request {
         Request::Query { key } => {
-            let (number, [function, place, probes]) = calls::query(table, key);
-            Answer::Query { number, function, place, probes }
+            let (number, words) = calls::query(table, key);
+            Answer::Query { number, words }
         }
         Request::Change { event, cut } => {
             let (number, [stores, kept]) = perform_change(event, cut.unwrap_or(u64::MAX), table);

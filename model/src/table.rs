@@ -3,7 +3,7 @@
 
 use std::iter;
 
-use crate::layout::{table_words, token_word, word, Level, Slot};
+use crate::layout::{table_words, token_word, word, Level, LevelName, Slot};
 use crate::refusal::Refusal;
 
 /// Token words are read modulo this.
@@ -34,9 +34,16 @@ impl State {
     }
 }
 
+/// Where a key stood.
+#[derive(Clone, Copy, Debug, PartialEq, Eq)]
+pub struct Found {
+    pub level: LevelName,
+    pub slot: Slot,
+}
+
 /// What a search for a key met.
 pub struct Search {
-    pub slot: Option<Slot>,
+    pub found: Option<Found>,
     /// The number of buckets looked at.
     pub probes: u64,
 }
@@ -86,12 +93,14 @@ impl<'a> Table<'a> {
 
     /// The levels in use, in the order top, bottom, interim.
     pub fn levels_in_use(&self) -> Vec<Level> {
-        self.each_level_in_use().collect()
+        self.each_level_in_use().map(|(_name, level)| level).collect()
     }
 
-    /// The same without a list of its own: a search is made for every sample of a ledger.
-    fn each_level_in_use(&self) -> impl Iterator<Item = Level> {
-        [self.top(), self.bottom()].into_iter().chain(self.interim())
+    /// The same by name, without a list of its own: a search is made for every sample of a ledger.
+    fn each_level_in_use(&self) -> impl Iterator<Item = (LevelName, Level)> {
+        let top_and_bottom = [(LevelName::Top, self.top()), (LevelName::Bottom, self.bottom())];
+        let interim = self.interim().map(|level| (LevelName::Interim, level));
+        top_and_bottom.into_iter().chain(interim)
     }
 
     /// All levels the words have room for, in use or not.
@@ -147,19 +156,19 @@ impl<'a> Table<'a> {
         buckets.flat_map(Slot::all_of).filter(|&slot| self.is_taken(slot)).collect()
     }
 
-    /// Looks for a key in the probe order.
+    /// Looks for a key in the probe order. Every call that asks for a key rests on this one search.
     pub fn search(&self, key: u64) -> Search {
         let mut probes = 0;
-        for level in self.each_level_in_use() {
+        for (name, level) in self.each_level_in_use() {
             for bucket in self.each_place(key, level) {
                 probes += 1;
                 let holds_key = |slot: &Slot| self.is_taken(*slot) && self.key(*slot) == key;
                 if let Some(slot) = Slot::all_of(bucket).find(holds_key) {
-                    return Search { slot: Some(slot), probes };
+                    return Search { found: Some(Found { level: name, slot }), probes };
                 }
             }
         }
-        Search { slot: None, probes }
+        Search { found: None, probes }
     }
 }
 

@@ -268,15 +268,15 @@ fn garbage_answers_as_its_queries_do() {
         let depth = round as u64 % 4;
         let story = garbage_table(state, &mut garbage);
 
-        let answers: Vec<(u64, [u64; 3])> = (0..=depth).rev().map(|smaller| story.query(smaller)).collect();
+        let answers: Vec<(u64, [u64; 5])> = (0..=depth).rev().map(|smaller| story.query(smaller)).collect();
         let found = answers.iter().take_while(|(number, _)| *number == 0).count();
-        let count = answers.iter().take(found + 1).map(|(_, [.., probes])| probes).sum();
+        let count = answers.iter().take(found + 1).map(|(_, [_, _, probes, ..])| probes).sum();
         assert!(count <= most_probes * (depth + 1));
         if found < answers.len() {
             refused(&story, [0, depth], 9, 5, count);
             incomplete += 1;
         } else {
-            let pairs = answers.iter().flat_map(|(_, [function, place, _])| [*function, *place]);
+            let pairs = answers.iter().flat_map(|(_, [function, place, ..])| [*function, *place]);
             let records: Vec<u64> = pairs.chain([UNTOUCHED; 9]).take(9).collect();
             assert_eq!(story.chain(0, depth, 9), (0, count, records));
             complete += 1;

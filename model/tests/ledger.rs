@@ -4,7 +4,7 @@ mod common;
 use common::{garbage_words, MARKED_1, MARKED_2};
 use ragansils_model::{run_ledger, run_script, LONGEST_LEDGER_LINE, MOST_COUNTED_FUNCTIONS};
 use std::collections::BTreeMap;
-use std::io::{self, BufRead, BufReader, Read, Write};
+use std::io::{self, BufRead, BufReader, Read};
 
 /// The table of the marked examples, four lines: a key has one place in the top, its last bit, and one in the bottom.
 const HEADER: &str = "cap=2\ntop=1\nmul1=4294967297\nmul2=12884901889\n";
@@ -560,15 +560,18 @@ fn lines_may_lie_across_small_buffers() {
 
 // ---- The report against the script program's own queries.
 
+/// `answer=`, `fn=`, `at=`, `probes=`, `word=` and `level=`.
+const QUERY_LINES: usize = 6;
+
 /// What the definition says, from the answers of a script that recovers and then asks for each sample.
 fn report_by_queries(script: &str, keys: &[u64]) -> String {
     let queries: String = keys.iter().map(|key| format!("op=query,key={key},")).collect();
     let mut output = Vec::new();
     run_script(format!("{script}op=recover,{queries}").replace(',', "\n").as_bytes(), &mut output).unwrap();
     let answers = String::from_utf8(output).unwrap();
-    // `answer=` and `stores=` of the recovery, four lines of each query, and `events=`.
+    // `answer=` and `stores=` of the recovery, the lines of each query, and `events=`.
     let lines: Vec<&str> = answers.lines().collect();
-    let tail = &lines[lines.len() - 4 * keys.len() - 3..lines.len() - 1];
+    let tail = &lines[lines.len() - QUERY_LINES * keys.len() - 3..lines.len() - 1];
     match tail[0] {
         "answer=0" => report_of_answers(&tail[2..]),
         refused => format!("{refused},"),
@@ -578,7 +581,7 @@ fn report_by_queries(script: &str, keys: &[u64]) -> String {
 fn report_of_answers(lines: &[&str]) -> String {
     let (mut none, mut other, mut buckets) = (0, 0, 0);
     let mut counts: Vec<(u64, u64)> = vec![];
-    for answer in lines.chunks(4) {
+    for answer in lines.chunks(QUERY_LINES) {
         let [number, function, _place, probes] = [0, 1, 2, 3].map(|line| number_in(answer[line]));
         buckets += probes;
         let known = counts.iter().position(|&(counted, _)| counted == function);
@@ -591,7 +594,7 @@ fn report_of_answers(lines: &[&str]) -> String {
     }
     counts.sort_unstable();
     let functions: String = counts.iter().map(|(function, count)| format!("fn{function}={count},")).collect();
-    format!("samples={},none={none},{functions}other={other},buckets={buckets},", lines.len() / 4)
+    format!("samples={},none={none},{functions}other={other},buckets={buckets},", lines.len() / QUERY_LINES)
 }
 
 fn number_in(line: &str) -> u64 {

@@ -25,8 +25,8 @@ fn e1_insert() {
 
 #[test]
 fn e2_query() {
-    assert_eq!(after_e1().query(1), (0, [10, 20, 1]));
-    assert_eq!(after_e1().query(3), (5, [0, 0, 2]));
+    assert_eq!(after_e1().query(1), (0, [10, 20, 1, 36, 0]));
+    assert_eq!(after_e1().query(3), (5, [0, 0, 2, 0, 0]));
 }
 
 #[test]
@@ -51,7 +51,7 @@ fn e6_update_in_full_bucket() {
     story.insert_keys([1, 3, 5, 7]);
     let pairs = story.whole(update_event(1, 30, 40));
     assert_eq!(pairs, [(6, 36), (7, 30), (8, 40), (5, 1), (37, 30), (38, 40), (5, 0)]);
-    assert_eq!(story.query(1), (0, [30, 40, 1]));
+    assert_eq!(story.query(1), (0, [30, 40, 1, 36, 0]));
 }
 
 #[test]
@@ -59,15 +59,15 @@ fn e7_update_cut_and_recovered() {
     let mut story = Story::marked();
     story.insert_keys([1, 3, 5, 7]);
     story.cut(update_event(1, 30, 40), 5);
-    assert_eq!(story.query(1), (3, [0, 0, 0]));
+    assert_eq!(story.query(1), (3, [0; 5]));
     assert_eq!(story.whole(Event::Recover), [(37, 30), (38, 40), (5, 0)]);
-    assert_eq!(story.query(1), (0, [30, 40, 1]));
+    assert_eq!(story.query(1), (0, [30, 40, 1, 36, 0]));
 
     let mut story = Story::marked();
     story.insert_keys([1, 3, 5, 7]);
     story.cut(update_event(1, 30, 40), 3);
     assert_eq!(story.whole(Event::Recover), []);
-    assert_eq!(story.query(1), (0, [101, 201, 1]));
+    assert_eq!(story.query(1), (0, [101, 201, 1, 36, 0]));
 }
 
 #[test]

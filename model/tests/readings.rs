@@ -30,14 +30,14 @@ fn an_interim_token_of_16_is_empty() {
 #[test]
 fn coinciding_places_are_probed_once() {
     let mut story = Story::with(3, 2, MARKED_1, MARKED_1);
-    assert_eq!(story.query(5), (5, [0, 0, 2]));
+    assert_eq!(story.query(5), (5, [0, 0, 2, 0, 0]));
     story.whole(Event::Begin);
-    assert_eq!(story.query(5), (5, [0, 0, 3]));
+    assert_eq!(story.query(5), (5, [0, 0, 3, 0, 0]));
     let mut story = Story::with(3, 3, MARKED_1, MARKED_2);
     // Key 1: places 1 and 3 of eight, 1 and 3 of four.
-    assert_eq!(story.query(1), (5, [0, 0, 4]));
+    assert_eq!(story.query(1), (5, [0, 0, 4, 0, 0]));
     story.table[word::STATE] = 256 + 3;
-    assert_eq!(story.query(1), (5, [0, 0, 5]));
+    assert_eq!(story.query(1), (5, [0, 0, 5, 0, 0]));
 }
 
 #[test]
@@ -86,7 +86,7 @@ fn a_doubled_key_is_found_first_in_probe_order() {
     let mut story = Story::marked();
     put(&mut story, 0, 0, [1, 5, 6]);
     put(&mut story, 2, 3, [1, 7, 8]);
-    assert_eq!(story.query(1), (0, [7, 8, 1]));
+    assert_eq!(story.query(1), (0, [7, 8, 1, 45, 0]));
     assert_eq!(story.list(Event::Delete { key: 1 }).1, [(35, 0)]);
     assert_eq!(story.list(update_event(1, 9, 9)).1[3], (35, 1));
 }
@@ -155,7 +155,7 @@ fn update_works_in_the_interim_level() {
     story.insert_keys((1..=9).step_by(2));
     story.whole(Event::Begin);
     assert_eq!(story.whole(update_event(9, 1, 2)), [(13, 9), (14, 1), (15, 2), (9, 2)]);
-    assert_eq!(story.query(9), (0, [1, 2, 4]));
+    assert_eq!(story.query(9), (0, [1, 2, 4, 13, 2]));
 }
 
 #[test]

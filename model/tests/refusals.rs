@@ -17,7 +17,7 @@ const EVENTS: [Event; 9] = [
 ];
 
 fn every_call_refuses_with_1(table: &[u64]) {
-    assert_eq!(query(table, 1), (1, [0, 0, 0]));
+    assert_eq!(query(table, 1), (1, [0; 5]));
     assert_eq!(chain(table, 0, 1, &mut [UNTOUCHED; 4]), (1, 0));
     for event in EVENTS {
         // Also with a list that is too short: 1 comes before 2.
@@ -84,7 +84,7 @@ fn three_for_any_flag() {
     for flag in [1, 2, 256, u64::MAX] {
         let mut story = Story::marked();
         story.table[word::FLAG] = flag;
-        assert_eq!(story.query(1), (3, [0, 0, 0]));
+        assert_eq!(story.query(1), (3, [0; 5]));
         assert_eq!(story.chain(0, 1, 4), (3, 0, vec![UNTOUCHED; 4]));
         for event in EVENTS {
             // Recovery judges the flag itself: word 6 names no slot here.

@@ -16,10 +16,25 @@ fn after_header(events: &str) -> String {
 
 #[test]
 fn the_whole_case() {
+    let found = "answer=0,fn=10,at=20,probes=1,word=36,level=0";
+    let absent = "answer=5,fn=0,at=0,probes=2,word=0,level=0";
     assert_eq!(
         after_header("op=insert,key=1,fn=10,at=20,op=query,key=1,op=query,key=3,"),
-        "made=0,answer=0,stores=4,answer=0,fn=10,at=20,probes=1,answer=5,fn=0,at=0,probes=2,events=3,"
+        format!("made=0,answer=0,stores=4,{found},{absent},events=3,")
     );
+}
+
+#[test]
+fn word_and_level_follow_an_item_through_a_growth() {
+    let keys: String = [1, 3, 5, 7, 9].iter().map(|k| format!("op=insert,key={k},fn=0,at=0,")).collect();
+    let answer =
+        after_header(&format!("{keys}op=query,key=9,op=begin,op=query,key=9,op=step,op=query,key=9,"));
+    // In bucket 0, which is the bottom and then the interim level, and at last in bucket 4 of the new top.
+    let bottom = "answer=0,fn=0,at=0,probes=2,word=10,level=1";
+    let interim = "answer=0,fn=0,at=0,probes=4,word=10,level=2";
+    let top = "answer=0,fn=0,at=0,probes=1,word=62,level=0";
+    let tail = format!("{bottom},answer=0,stores=1,{interim},answer=0,stores=5,{top},events=10,");
+    assert!(answer.ends_with(&tail), "{answer}");
 }
 
 #[test]
@@ -68,8 +83,11 @@ fn bad_numbers() {
         assert_eq!(after_header(&format!("op=query,key={bad},")), "made=0,bad=6,", "{bad:?}");
     }
     let largest = after_header("op=query,key=18446744073709551615,");
-    assert_eq!(largest, "made=0,answer=5,fn=0,at=0,probes=2,events=1,");
-    assert_eq!(after_header("op=query,key=0,"), "made=0,answer=5,fn=0,at=0,probes=2,events=1,");
+    assert_eq!(largest, "made=0,answer=5,fn=0,at=0,probes=2,word=0,level=0,events=1,");
+    assert_eq!(
+        after_header("op=query,key=0,"),
+        "made=0,answer=5,fn=0,at=0,probes=2,word=0,level=0,events=1,"
+    );
 }
 
 #[test]
@@ -98,7 +116,7 @@ fn unknown_unended_and_missing_lines() {
 #[test]
 fn cuts() {
     let one = "op=cut,after=2,op=insert,key=1,fn=10,at=20,op=query,key=1,";
-    let absent = "answer=5,fn=0,at=0,probes=2,events=2,";
+    let absent = "answer=5,fn=0,at=0,probes=2,word=0,level=0,events=2,";
     assert_eq!(after_header(one), format!("made=0,answer=0,stores=4,kept=2,{absent}"));
     let all = "op=cut,after=18446744073709551615,op=begin,op=begin,";
     assert_eq!(after_header(all), "made=0,answer=0,stores=1,kept=1,answer=7,stores=0,events=2,");
@@ -142,6 +160,8 @@ fn a_forgotten_recovery_stays_forgotten() {
     let events =
         format!("{keys}op=cut,after=4,op=update,key=1,fn=30,at=40,op=query,key=1,op=recover,op=query,key=1,");
     let answer = after_header(&events);
-    let tail = "answer=0,stores=7,kept=4,answer=3,fn=0,at=0,probes=0,answer=0,stores=3,answer=0,fn=30,at=40,probes=1,events=8,";
-    assert!(answer.ends_with(tail), "{answer}");
+    let refused = "answer=3,fn=0,at=0,probes=0,word=0,level=0";
+    let recovered = "answer=0,fn=30,at=40,probes=1,word=36,level=0";
+    let tail = format!("answer=0,stores=7,kept=4,{refused},answer=0,stores=3,{recovered},events=8,");
+    assert!(answer.ends_with(&tail), "{answer}");
 }

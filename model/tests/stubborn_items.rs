@@ -232,7 +232,7 @@ fn step_keeps(story: &mut Story, map: &BTreeMap<u64, [u64; 2]>, stores: [(u64, u
 /// Each key of the map is found with its record.
 fn queries_answer(story: &Story, map: &BTreeMap<u64, [u64; 2]>) {
     for (&key, &[function, place]) in map {
-        let (number, [found_function, found_place, _]) = story.query(key);
+        let (number, [found_function, found_place, ..]) = story.query(key);
         assert_eq!((number, found_function, found_place), (0, function, place), "{key}");
     }
 }

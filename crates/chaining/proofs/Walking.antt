@@ -6,13 +6,14 @@ use mathlib.Core.Bool.{Bool, true, false}
 use mathlib.Core.List.{List, [], _∷_, map}
 use native.Mathlib.Omega.{arith}
 use native.Mathlib.Numerals.{unary-clauses}
-use Rattle.rules.specs.Words.{Table, headerOf, recordIn}
+use Rattle.rules.specs.Words.{Table, headerOf, spotOf, recordIn}
 use Rattle.rules.specs.Places.{lookup}
 use Rattle.rules.specs.Answers.{LookupTells}
 use Rattle.rules.specs.Chains.{keyOf, Walk, found, missing, before, walk, queryOf, twoWords}
 use Rattle.rules.specs.declared.Header.{Header}
 use Rattle.rules.specs.declared.Slot.{Slot}
 use Rattle.rules.specs.declared.Record.{Record}
+use Rattle.rules.specs.declared.Spot.{Spot}
 use Rattle.rules.specs.declared.Lookup.{Lookup}
 use Rattle.rules.specs.declared.Lookup.the-variants.{Stands, Absent}
 use Rattle.rules.specs.declared.Refusal.the-variants.{KeyAbsent}
@@ -45,7 +46,7 @@ unfolding listedAt
 nothing-below l i n = record { answer = refl; count = omega arith; records = refl }
 
 -- a depth with the record r, in n buckets, before the smaller ones
-module _ {q : Query} {r : Record} {n : ℕ} (known : q ≡ Known r n) {l mid last : List ℕ} {i start k : ℕ} {b c : Bool} (a : c ≡ b)
+module _ {q : Query} {r : Record} {s : Spot} {n : ℕ} (known : q ≡ Known r s n) {l mid last : List ℕ} {i start k : ℕ} {b c : Bool} (a : c ≡ b)
     (e : last ≡ putAt b i r mid) where
   pub put-on : (w : Walk) → Walked w (i + 1) l (start + n) b mid k → Walked (before q w) i l start c last k
   put-on (found rs m) v =
@@ -72,7 +73,8 @@ module _ (t : Table) (key : ℕ) {h : Header} (same : h ≡ headerOf t) {f : Loo
   looked-up : f ≡ lookup t (headerOf t) key
   looked-up = lookup-told-by told ∙ ap (λ (z : Header). lookup t z key) same
 
-  pub stands-there : {x : Slot} {r : Record} {n : ℕ} → f ≡ Stands x n → r ≡ recordIn t x → queryOf t (headerOf t) (key / 256) (key % 256) ≡ Known r n
+  pub stands-there : {x : Slot} {r : Record} {n : ℕ} → f ≡ Stands x n → r ≡ recordIn t x
+      → queryOf t (headerOf t) (key / 256) (key % 256) ≡ Known r (spotOf x) n
   unfolding queryOf
   stands-there k w = rw (key-of key, ← looked-up, k, w)
 

@@ -8,30 +8,22 @@ use Rattle.rules.specs.Words.{Table}
 use Rattle.rules.specs.Answers.{numberOf, Meaning, changeMeans, goneOnMeans}
 use Rattle.rules.specs.Calls.{step}
 use Rattle.rules.specs.Results.{stepFromResult}
-use Rattle.rules.specs.declared.Record.{Record}
 use Rattle.rules.specs.declared.Refusal.{Refusal}
 use Rattle.rules.specs.declared.Placing.{Placing}
 use Rattle.rules.specs.declared.Change.{Change}
 use Rattle.rules.specs.declared.Change.the-variants.{Listed, Refused}
 use Rattle.rules.specs.declared.SteppedFrom.{SteppedFrom}
-use Rattle.rules.specs.declared.Query.{Query}
-use Rattle.rules.specs.declared.Query.the-variants.{Known, Unknown}
 use Rattle.rules.specs.declared.Chain.{Chain}
 use Rattle.rules.specs.declared.Chain.the-variants.{Whole, Broken}
 use Rattle.numbering.specs.Told.{toldWith}
 use Rattle.rules.proofs.Calls.StepFromSentences.{stepFromIsACall}
 use Rattle.listing.specs.Promises.{ChangedBy, StepTakenFrom, WentOnBy}
 use Rattle.listing.proofs.Steps.{step-went-on}
-use Rattle.querying.specs.Promises.{QueriedBy, Queried}
+use Rattle.querying.specs.Promises.{QueriedBy}
 use Rattle.chaining.specs.Promises.{ChainedBy, Chained}
 
-module _ {t u : Table} {key : ℕ} {q : Query} where
-  pub query-known : {r : Record} {n : ℕ} → Queried t key q u → q ≡ Known r n → QueriedBy t key (toldWith 0 (r .function ∷ r .place ∷ n ∷ [])) u
-  query-known d e = rw e at d
-
-  pub query-unknown : {r : Refusal} {n k : ℕ} → Queried t key q u → q ≡ Unknown r n → k ≡ numberOf r
-      → QueriedBy t key (toldWith k (0 ∷ 0 ∷ n ∷ [])) u
-  query-unknown d e k = rw k (rw e at d)
+pub query-told : {t u : Table} {key : ℕ} {a b : Meaning} → QueriedBy t key a u → b ≡ a → QueriedBy t key b u
+query-told d e = rw e d
 
 module _ {t u : Table} {address depth : ℕ} {l m : List ℕ} {c : Chain} where
   pub chain-whole : {n : ℕ} → Chained t address depth l c u m → c ≡ Whole n → ChainedBy t address depth l (toldWith 0 (n ∷ [])) u m

@@ -10,12 +10,12 @@ use growing::step_from;
 use making::create;
 use making::make;
 use numbering::number;
+use numbering::query_words;
 use numbering::verdict_number;
 use querying::query;
 use recovering::recover;
 use rules::Chain;
 use rules::Change;
-use rules::Query;
 use rules::Record;
 ghost use mathlib.Core.Path.{_≡_};
 ghost use mathlib.Core.List.{[], _∷_};
@@ -36,22 +36,20 @@ pub extern "C" fn ragansils_create(table: &mut [u64], c: u64, k: u64, mul1: u64,
     verdict_number(create(table, c, k, mul1, mul2))
 }
 
-// Function, place and the number of buckets looked at.
+// Function, place and the number of buckets looked at; the word index of the key found, and its level.
 #[no_mangle]
-pub extern "C" fn ragansils_query(table: &[u64], key: u64, answer: &mut [u64; 3]) -> u64
+pub extern "C" fn ragansils_query(table: &[u64], key: u64, answer: &mut [u64; 5]) -> u64
     ensures { λ r. ⌜ QueriedBy (now (table .entry)) key (toldWith r (now (answer .exit))) (now (table .exit)) ⌝ }
 {
-    let found = query(table, key);
-    match found {
-        Query::Known(r, looked) => {
-            *answer = [r.function, r.place, looked];
-            0
-        }
-        Query::Unknown(refusal, looked) => {
-            *answer = [0, 0, looked];
-            number(refusal)
-        }
-    }
+    let found = query_words(query(table, key));
+    *answer = [
+        found.function,
+        found.place,
+        found.buckets,
+        found.word,
+        found.level,
+    ];
+    found.number
 }
 
 // The records of the depths go to the words lent for them, the number of buckets looked at to a word of its own.

@@ -55,7 +55,7 @@ module _ (m : PlainMap) (looked : ℕ → ℕ) (keys : List ℕ) (key : ℕ) whe
   figures-by : (o : Option Record) → m key ≡ o → (a : Query) → QueryBy o a → countOf a ≡ looked key
       → figuresWith (figuresOf m looked keys) a ≡ figuresOf m looked one-more
   unfolding figuresOf one-more
-  figures-by (some r) e a (n, k) count =
+  figures-by (some r) e a (x, n, k) count =
       let c : n ≡ looked key = sym (ap countOf k) ∙ count in
       let named : namedIn m one-more ≡ namedIn m keys ++ (r .function ∷ []) = named-more m keys key
       ∙ ap (λ (x : Option Record). namedIn m keys ++ functionOf x) e in

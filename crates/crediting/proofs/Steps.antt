@@ -5,14 +5,16 @@ use mathlib.Core.Path.{_≡_, refl, sym, ap, _∙_}
 use mathlib.Core.Bool.{Bool}
 use mathlib.Core.List.{List}
 use native.Mathlib.Omega.{arith}
-use lib.ListN.{length, take}
+use lib.ListN.{length, getD, take}
 use Rattle.rules.specs.Words.{Table}
 use Rattle.rules.specs.Results.{queryResult}
-use Rattle.rules.specs.Demands.{countOf}
+use Rattle.rules.specs.Answers.{Meaning, queryMeans}
 use Rattle.rules.specs.declared.ScriptCall.the-variants.{Recover}
 use Rattle.rules.specs.declared.Query.{Query}
 use Rattle.rules.specs.declared.Query.the-variants.{Known, Unknown}
-use Rattle.rules.proofs.Calls.Meanings.{query-one}
+use Rattle.rules.proofs.Calls.Meanings.{number-not-zero, query-one}
+use Rattle.numbering.specs.Told.{wordsMean}
+use Rattle.numbering.specs.declared.QueryWords.{QueryWords}
 use Rattle.querying.specs.Promises.{Queried}
 use Rattle.tallying.specs.Credits.{Credited, Orderly}
 use Rattle.tallying.specs.declared.Tally.{Tally}
@@ -28,12 +30,11 @@ use Rattle.replaying.specs.declared.Answer.the-variants.{Bad as BadAnswer}
 use Rattle.replaying.specs.declared.Turn.{Turn}
 use Rattle.replaying.proofs.Rooms.{take-least}
 use Rattle.crediting.specs.Ledgers.{lineBehind, eventDue}
-use Rattle.crediting.specs.Books.{Book, creditOf, figuresWith, figuresIn, bookOf, spoilt, sampled, recoveredBook, stageRecovered, whenRecovered}
+use Rattle.crediting.specs.Books.{Book, missedOne, figuresWith, figuresIn, bookOf, spoilt, sampled, recoveredBook, stageRecovered, whenRecovered}
 use Rattle.crediting.specs.Books.{firstSampled}
 use Rattle.crediting.specs.Books.{stageAfter, scriptLine, sampleWhere, firstSaid, laterSaid, scriptRead, sampleRead, lineAt, withLine}
 use Rattle.crediting.specs.Books.{scriptEnd, endAt, atEnd}
 use Rattle.crediting.specs.Books.{CountsAre, LedgerIs, Turned}
-use Rattle.crediting.specs.declared.Credit.the-variants.{Function, Nobody}
 use Rattle.crediting.specs.declared.Counts.{Counts}
 use Rattle.crediting.specs.declared.Ledger.{Ledger}
 use Rattle.crediting.specs.declared.Stage.{Stage}
@@ -42,26 +43,23 @@ use Rattle.crediting.specs.declared.Stage.the-variants.{Samples, Bad}
 -- ---- a sample
 
 module _ (c : Counts) (f s : List ℕ) where
-  pub known-counted : (answer : Query) (function : ℕ) → creditOf answer ≡ Function function → {tally : Tally} {g v : List ℕ}
-      → Credited function (c .tally) f s tally g v
+  pub known-counted : (answer : Query) {w : QueryWords} → wordsMean w ≡ queryMeans answer → w .number ≡ 0 → {tally : Tally} {g v : List ℕ}
+      → Credited (w .function) (c .tally) f s tally g v
       → {n b : ℕ} → n ≡ (c .samples + 1) % 2 ^ 64
-      → b ≡ (c .buckets + countOf answer) % 2 ^ 64
+      → b ≡ (c .buckets + w .buckets) % 2 ^ 64
       → CountsAre (figuresWith (figuresIn c f s) answer) (record { samples = n; missing = c .missing; buckets = b; tally = tally }) g v
-  known-counted (Known r looked) function e {tally} {g} {v} d p q =
-      let own : Credited (r .function) (c .tally) f s tally g v = rw (named e) d in
-      record { figures = rw (p, q, own .held); orderly = d .orderly }
-    where
-      named : Function (r .function) ≡ Function function → r .function ≡ function
-      named k = cc
-  known-counted (Unknown k looked) function e d p q = let z : _≡_ {A = ℕ} 0 1 = cc in absurd (omega arith)
+  known-counted (Known r x looked) e z {tally} {g} {v} d p q =
+      let own : Credited (r .function) (c .tally) f s tally g v = rw (ap (λ (m : Meaning). getD (m .values) 0 0) e) at d in
+      let count = ap (λ (m : Meaning). getD (m .values) 2 0) e in
+      record { figures = rw (p, q, count, own .held); orderly = d .orderly }
+  known-counted (Unknown k looked) e z d p q = absurd (number-not-zero k (sym (ap (λ (m : Meaning). m .number) e) ∙ z))
 
-  pub unknown-counted : (answer : Query) → creditOf answer ≡ Nobody → {n m b : ℕ} → n ≡ (c .samples + 1) % 2 ^ 64
-      → m ≡ (c .missing + 1) % 2 ^ 64
-      → b ≡ (c .buckets + countOf answer) % 2 ^ 64
-      → Orderly (c .tally .used) f s
-      → CountsAre (figuresWith (figuresIn c f s) answer) (record { samples = n; missing = m; buckets = b; tally = c .tally }) f s
-  unknown-counted (Known r looked) e p m q o = let z : _≡_ {A = ℕ} 0 1 = cc in absurd (omega arith)
-  unknown-counted (Unknown k looked) e p m q o = record { figures = rw (p, m, q); orderly = o }
+  pub unknown-counted : (answer : Query) {w : QueryWords} → wordsMean w ≡ queryMeans answer → (w .number ≡ 0 → ⊥)
+      → Orderly (c .tally .used) f s → {r : Counts} → r ≡ missedOne c (w .buckets) → CountsAre (figuresWith (figuresIn c f s) answer) r f s
+  unknown-counted (Known r x looked) e z o q = absurd (z (ap (λ (m : Meaning). m .number) e))
+  unknown-counted (Unknown k looked) e z o q =
+      let count = ap (λ (m : Meaning). getD (m .values) 2 0) e in
+      rw (q, count) (record { figures = refl; orderly = o })
 
 pub sample-taken : (l : Ledger) (room f s : List ℕ) (key : ℕ) {lent : ℕ} → lent ≡ min (l .replay .words) (length room)
     → (answer : Query) {u : Table}

@@ -24,8 +24,6 @@ use Rattle.replaying.specs.declared.Replay.{Replay}
 use Rattle.crediting.specs.Ledgers.{Figures, Report, unmade, unrecovered, badLine, counts, lineBehind, eventDue, reportOf}
 use Rattle.crediting.specs.declared.Stage.{Stage}
 use Rattle.crediting.specs.declared.Stage.the-variants.{Script, Samples, Unmade, Unrecovered, Bad}
-use Rattle.crediting.specs.declared.Credit.{Credit}
-use Rattle.crediting.specs.declared.Credit.the-variants.{Function, Nobody}
 use Rattle.crediting.specs.declared.Counts.{Counts}
 use Rattle.crediting.specs.declared.Ledger.{Ledger}
 
@@ -41,13 +39,13 @@ pub record Book : Type 0 where
 abbrev pub oneMore : ℕ → ℕ
 oneMore n = (n + 1) % 2 ^ 64
 
--- whom it is credited to
-abbrev pub creditOf : Query → Credit
-creditOf (Known r looked) = Function (r .function)
-creditOf (Unknown e looked) = Nobody
+-- one that has no record, as the code counts it
+abbrev pub missedOne : Counts → ℕ → Counts
+missedOne c looked =
+    record { samples = oneMore (c .samples); missing = oneMore (c .missing); buckets = (c .buckets + looked) % 2 ^ 64; tally = c .tally }
 
 abbrev pub figuresWith : Figures → Query → Figures
-figuresWith x (Known r looked) =
+figuresWith x (Known r spot looked) =
     record {
       samples = oneMore (x .samples);
       missing = x .missing;

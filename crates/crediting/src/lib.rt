@@ -5,6 +5,7 @@ use following::Script;
 use lines::Sample;
 use lines::parse;
 use lines::parse_sample;
+use numbering::query_words;
 use querying::query;
 use replaying::Answer;
 use replaying::Replay;
@@ -25,11 +26,10 @@ use tallying::nothing;
 ghost use Prim.Native.Nat.{ℕ};
 ghost use mathlib.Core.Path.{_≡_};
 ghost use mathlib.Core.List.{List};
-ghost use Rattle.rules.specs.Demands.{countOf};
 ghost use Rattle.tallying.specs.Credits.{Orderly};
 ghost use Rattle.replaying.specs.Replays.{finishOf};
 ghost use Rattle.crediting.specs.Ledgers.{eventDue};
-ghost use Rattle.crediting.specs.Books.{creditOf, figuresWith, figuresIn, bookOf, spoilt, sampled as sampledBook, recoveredBook, stageRecovered};
+ghost use Rattle.crediting.specs.Books.{missedOne, figuresWith, figuresIn, bookOf, spoilt, sampled as sampledBook, recoveredBook, stageRecovered};
 ghost use Rattle.crediting.specs.Books.{firstSampled, stageAfter, scriptLine, sampleWhere, scriptRead, sampleRead, withLine, scriptEnd, atEnd};
 ghost use Rattle.crediting.specs.Books.{knownAt, CountsAre, LedgerIs, Turned, emptyBook};
 
@@ -75,57 +75,37 @@ pub fn opened() -> Ledger
     }
 }
 
-// Whom a sample is credited to: the function of its key's record, or nobody.
-enum Credit {
-    Function(u64),
-    Nobody,
-}
-
-fn credit_of(answer: Query) -> Credit
-    ensures { λ r. ⌜ r ≡ creditOf answer ⌝ }
+// One sample more that has no record: the buckets that its query looked at count all the same.
+fn missed(c: Counts, looked: u64) -> Counts
+    ensures { λ r. ⌜ r ≡ missedOne c looked ⌝ }
 {
-    match answer {
-        Query::Known(record, _) => Credit::Function(record.function),
-        Query::Unknown(_, _) => Credit::Nobody,
+    let tally = c.tally;
+    Counts {
+        samples: wrapping_add_u64(c.samples, 1),
+        missing: wrapping_add_u64(c.missing, 1),
+        buckets: wrapping_add_u64(c.buckets, looked),
+        tally,
     }
 }
 
-// The buckets that a query looked at, whatever it answers.
-fn looked_at(answer: Query) -> u64
-    ensures { λ r. ⌜ r ≡ countOf answer ⌝ }
-{
-    match answer {
-        Query::Known(_, looked) => looked,
-        Query::Unknown(_, searched) => searched,
-    }
-}
-
-// One sample more, by what a query of its key answers.
+// One sample more, by what a query of its key answers: it is credited to the function of its record, or to nobody.
 fn counted(c: Counts, answer: Query, functions: &mut [u64], samples: &mut [u64]) -> Counts
     requires { ⌜ Orderly (c .tally .used) (now functions) (now samples) ⌝ }
     ensures { λ r. ⌜ CountsAre (figuresWith (figuresIn c (now (functions .entry)) (now (samples .entry))) answer) r (now (functions .exit))
         (now (samples .exit)) ⌝ }
 {
     let tally = c.tally;
-    let looked = looked_at(answer);
-    let credited = credit_of(answer);
-    match credited {
-        Credit::Function(function) => {
-            let next = credit(tally, functions, samples, function);
-            Counts {
-                samples: wrapping_add_u64(c.samples, 1),
-                missing: c.missing,
-                buckets: wrapping_add_u64(c.buckets, looked),
-                tally: next,
-            }
-        }
-        Credit::Nobody => Counts {
+    let told = query_words(answer);
+    if told.number == 0 {
+        let next = credit(tally, functions, samples, told.function);
+        return Counts {
             samples: wrapping_add_u64(c.samples, 1),
-            missing: wrapping_add_u64(c.missing, 1),
-            buckets: wrapping_add_u64(c.buckets, looked),
-            tally,
-        },
+            missing: c.missing,
+            buckets: wrapping_add_u64(c.buckets, told.buckets),
+            tally: next,
+        };
     }
+    missed(c, told.buckets)
 }
 
 // A sample of a key, by the table as it stands.

@@ -1,11 +1,12 @@
 // Answers as the numbers of documents 01 and 02: "0 is success", and else the refusal's.
 use rules::Change;
+use rules::Query;
 use rules::Refusal;
 use rules::Verdict;
 ghost use mathlib.Core.Path.{_≡_};
-ghost use Rattle.rules.specs.Answers.{numberOf, changeMeans, verdictMeans};
+ghost use Rattle.rules.specs.Answers.{numberOf, changeMeans, queryMeans, verdictMeans};
 ghost use Rattle.rules.specs.Histories.{reported as reportedOf};
-ghost use Rattle.numbering.specs.Told.{told};
+ghost use Rattle.numbering.specs.Told.{told, wordsMean};
 
 // "no. | given when | by"
 pub fn number(refusal: Refusal) -> u64
@@ -56,5 +57,39 @@ pub fn reported(change: Change) -> u64
     match change {
         Change::Listed(stores) => stores,
         Change::Refused(_) => 0,
+    }
+}
+
+// A query's answer as a number and words.
+pub struct QueryWords {
+    pub number: u64,
+    pub function: u64,
+    pub place: u64,
+    pub buckets: u64,
+    pub word: u64,
+    pub level: u64,
+}
+
+// The one place where a query's answer is taken apart: "with any refusal, index 0 and top".
+pub fn query_words(answer: Query) -> QueryWords
+    ensures { λ r. ⌜ wordsMean r ≡ queryMeans answer ⌝ }
+{
+    match answer {
+        Query::Known(record, spot, looked) => QueryWords {
+            number: 0,
+            function: record.function,
+            place: record.place,
+            buckets: looked,
+            word: spot.word,
+            level: spot.level,
+        },
+        Query::Unknown(refusal, searched) => QueryWords {
+            number: number(refusal),
+            function: 0,
+            place: 0,
+            buckets: searched,
+            word: 0,
+            level: 0,
+        },
     }
 }

@@ -1,6 +1,7 @@
 // Answers as text on standard output, in document 01's numbers and values: "a definition tells you this paper's number and
 // values for each of its cases". Each answer begins with a colon.
 use numbering::number;
+use numbering::query_words;
 use numbering::verdict_number;
 use rules::Change;
 use rules::Placing;
@@ -64,19 +65,13 @@ pub fn change(list: &[u64], answer: Change) {
 }
 
 pub fn query(answer: Query) {
-    match answer {
-        Query::Known(r, probes) => {
-            outcome(0);
-            tell(r.function);
-            tell(r.place);
-            tell(probes);
-        }
-        Query::Unknown(refusal, probes) => {
-            outcome(number(refusal));
-            say(b" 0 0");
-            tell(probes);
-        }
-    }
+    let told = query_words(answer);
+    outcome(told.number);
+    tell(told.function);
+    tell(told.place);
+    tell(told.buckets);
+    tell(told.word);
+    tell(told.level);
 }
 
 pub fn verdict(answer: Verdict) {

@@ -6,7 +6,7 @@ use mathlib.Core.Bool.{Bool, true, false, cond}
 use native.Mathlib.Nat.{zero-add}
 use native.Mathlib.Omega.{arith}
 use lib.ListN.{length}
-use Rattle.rules.specs.Words.{Table, headerOf, recordIn}
+use Rattle.rules.specs.Words.{Table, headerOf, spotOf, recordIn}
 use Rattle.rules.specs.Places.{hashesOf, placesOf, hitIn, lookup}
 use Rattle.rules.specs.Calls.{headerGood, flagClear, queryTests}
 use Rattle.rules.specs.Answers.{queryMeans, LookupTells}
@@ -14,6 +14,7 @@ use Rattle.rules.specs.Results.{queryAt, queryResult}
 use Rattle.rules.specs.declared.Header.{Header}
 use Rattle.rules.specs.declared.Slot.{Slot}
 use Rattle.rules.specs.declared.Record.{Record}
+use Rattle.rules.specs.declared.Spot.{Spot}
 use Rattle.rules.specs.declared.Lookup.{Lookup}
 use Rattle.rules.specs.declared.Lookup.the-variants.{Stands, Absent}
 use Rattle.rules.specs.declared.Refusal.{Refusal}
@@ -86,8 +87,10 @@ module _ (t : Table) (key : ℕ) where
       unfolding queryResult
       through = ap (queryAt t) (lookup-told-by l ∙ ap (λ (z : Header). lookup t z key) same) ∙ gate-open t (queryTests t) e (λ (r : Refusal). Unknown r 0) _ q
 
-      pub present : {x : Slot} {n : ℕ} {r : Record} → f ≡ Stands x n → r ≡ recordIn t x → Queried t key (Known r n) t
-      present {x} {n} p w = queried (ap (λ (z : Record). Known z n) w ∙ sym (ap (queryAt t) p) ∙ through)
+      pub present : {x : Slot} {n : ℕ} {r : Record} {s : Spot} → f ≡ Stands x n → r ≡ recordIn t x → s ≡ spotOf x → Queried t key (Known r s n) t
+      present {x} {n} {r} {s} p w v =
+          let told : Known r s n ≡ queryAt t (Stands x n) = rw (w, v) in
+          queried (told ∙ sym (ap (queryAt t) p) ∙ through)
 
       pub absent : {n : ℕ} → f ≡ Absent n → Queried t key (Unknown KeyAbsent n) t
       absent p = queried (sym (ap (queryAt t) p) ∙ through)

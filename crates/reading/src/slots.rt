@@ -1,13 +1,14 @@
 // Where the words of buckets and slots lie, and what stands there.
 use rules::Record;
 use rules::Slot;
+use rules::Spot;
 use rules::layout::BUCKET_WORDS;
 use rules::layout::FIRST_SLOT;
 use rules::layout::HEADER_WORDS;
 use rules::layout::SLOT_WORDS;
 ghost use mathlib.Core.Path.{_≡_};
 ghost use Prim.Native.Nat.{_^_, _<_};
-ghost use Rattle.rules.specs.Words.{tokenWord, keyWord, tokenOf, keyIn, recordIn};
+ghost use Rattle.rules.specs.Words.{tokenWord, keyWord, spotOf, tokenOf, keyIn, recordIn};
 ghost use Rattle.reading.specs.Within.{BucketWithin, SlotWithin};
 
 // "Bucket j starts at word 9 + 13j"
@@ -24,6 +25,17 @@ pub fn key_word(x: Slot) -> usize
     ensures { λ r. ⌜ r ≡ keyWord x ⌝ }
 {
     token_word(x.bucket) + (FIRST_SLOT + SLOT_WORDS * x.slot)
+}
+
+// "the word index of the key found and whether it was top, bottom or interim"
+pub fn spot(x: Slot) -> Spot
+    requires { ⌜ (x .bucket < 2 ^ 59) × (x .slot < 4) ⌝ }
+    ensures { λ r. ⌜ r ≡ spotOf x ⌝ }
+{
+    Spot {
+        word: key_word(x) as u64,
+        level: x.level,
+    }
 }
 
 pub fn token(t: &[u64], j: usize) -> u64

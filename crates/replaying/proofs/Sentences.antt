@@ -98,7 +98,7 @@ endAnswered = (refl, λ p torn. (λ e. ap (finished p) e, λ line e. ap (finishe
 
 pub queriesAnswered : QueriesAnswered
 unfolding answerTo tableAfter
-queriesAnswered room p next key under number f place count e =
+queriesAnswered room p next key under number f place count word level e =
     record { answer = queryResult (tableOf p room) key; said = refl; means = e; words = take-append-drop (p .words) room; counted = refl }
 
 -- ---- the table

@@ -63,19 +63,19 @@ CutChangesAnswered = (room : List ℕ) (p : Replay) (next : Script) (q : ScriptC
 
 -- ---- queries
 
--- "answer=0, fn=10, at=20, probes=1": the answer that has the number, the record and the count. The words stay, and one event more
--- is counted
-pub record QueryAnswered (room : List ℕ) (p : Replay) (next : Script) (key : ℕ) (under : Cut) (number f place count : ℕ) : Type 0 where
+-- "answer=0, fn=10, at=20, probes=1", and `word=` and `level=`: the answer that has the number, the record, the count and where the key stands.
+-- The words stay, and one event more is counted
+pub record QueryAnswered (room : List ℕ) (p : Replay) (next : Script) (key : ℕ) (under : Cut) (number f place count word level : ℕ) : Type 0 where
   pub answer : QueryAnswer
   pub said : askedOf room p next (askEvent (Query key) under) .answer ≡ Found answer
-  pub means : queryMeans answer ≡ record { number = number; values = f ∷ place ∷ count ∷ [] }
+  pub means : queryMeans answer ≡ record { number = number; values = f ∷ place ∷ count ∷ word ∷ level ∷ [] }
   pub words : askedOf room p next (askEvent (Query key) under) .room ≡ room
   pub counted : askedOf room p next (askEvent (Query key) under) .replay .events ≡ (p .events + 1) % 2 ^ 64
 
 abbrev pub QueriesAnswered : Type 0
-QueriesAnswered = (room : List ℕ) (p : Replay) (next : Script) (key : ℕ) (under : Cut) (number f place count : ℕ)
-    → queryMeans (queryResult (tableOf p room) key) ≡ record { number = number; values = f ∷ place ∷ count ∷ [] }
-    → QueryAnswered room p next key under number f place count
+QueriesAnswered = (room : List ℕ) (p : Replay) (next : Script) (key : ℕ) (under : Cut) (number f place count word level : ℕ)
+    → queryMeans (queryResult (tableOf p room) key) ≡ record { number = number; values = f ∷ place ∷ count ∷ word ∷ level ∷ [] }
+    → QueryAnswered room p next key under number f place count word level
 
 -- ---- lines that ask for nothing, bad lines, and the end
 

@@ -3,6 +3,7 @@ use crediting::Counts;
 use crediting::Ledger;
 use crediting::Stage;
 use numbering::number;
+use saying::TEXT_BYTES;
 use saying::copy;
 use saying::copy_text;
 use saying::line;
@@ -21,7 +22,7 @@ fn put_line(name: &[u8], value: u64, out: &mut [u8], at: usize) -> usize
     requires { ⌜ (length (now name) ≤ 8) × (at + length (now name) + 21 ≤ length (now out)) ⌝ }
     ensures { λ r. ⌜ Put (lineWith (now (name .entry)) value) at (now (out .entry)) r (now (out .exit)) × (r ≤ at + length (now (name .entry)) + 21) ⌝ }
 {
-    let mut text = [0u8; 128];
+    let mut text = [0u8; TEXT_BYTES];
     let n = line(name, value, &mut text, 0);
     copy(&text[..n], n, out, at)
 }
@@ -31,7 +32,7 @@ fn put_function(function: u64, samples: u64, out: &mut [u8], at: usize) -> usize
     requires { ⌜ at + 44 ≤ length (now out) ⌝ }
     ensures { λ r. ⌜ Put (functionText function samples) at (now (out .entry)) r (now (out .exit)) × (r ≤ at + 44) ⌝ }
 {
-    let mut text = [0u8; 128];
+    let mut text = [0u8; TEXT_BYTES];
     let named = copy_text(b"fn", 2, &mut text, 0);
     let told = tell(function, &mut text, named);
     let equal = copy_text(b"=", 1, &mut text, told);

@@ -22,3 +22,4 @@ pub mod MadeLists
 pub mod ChainWalks
 pub mod Chains
 pub mod ChainRefusals
+pub mod Spots

@@ -1,6 +1,6 @@
 -- The user's three demands and document 02's requests, proved: one theorem. Each field is the law of the same name.
 -- Assumes nothing.
-use Rattle.rules.specs.Mission.{Demand1, Demand2, Demand3, InlinedCallers, StubbornItems, GoesOn, Mission}
+use Rattle.rules.specs.Mission.{Demand1, Demand2, Demand3, InlinedCallers, StubbornItems, GoesOn, WhereItStood, Mission}
 use Rattle.rules.proofs.Tables.Sound.{soundnessIsTested}
 use Rattle.rules.proofs.Tables.Maps.{mapExists}
 use Rattle.rules.proofs.Tables.Findings.{recoverAnswers, recoveryAccepts}
@@ -29,6 +29,7 @@ use Rattle.rules.proofs.Growth.GrowthCost.{growthBound}
 use Rattle.rules.proofs.Calls.ChainRefusals.{chainRefusals}
 use Rattle.rules.proofs.Calls.Chains.{chainWrites, chainCounts, chainLooksAtFew, chainAnswers}
 use Rattle.rules.proofs.Cutting.ChainCuts.{chainsAfterCuts}
+use Rattle.rules.proofs.Calls.Spots.{foundStood, lookupStood, refusedStoodNowhere, theOneStood, changesGoThere, chainStood}
 
 pub demand1 : Demand1
 demand1 =
@@ -114,6 +115,17 @@ goesOn =
       passLooksAtFew = passLooksAtFew;
     }
 
+pub whereItStood : WhereItStood
+whereItStood =
+    record {
+      foundStood = foundStood;
+      lookupStood = lookupStood;
+      refusedStoodNowhere = refusedStoodNowhere;
+      theOneStood = theOneStood;
+      changesGoThere = changesGoThere;
+      chainStood = chainStood;
+    }
+
 pub mission : Mission
 mission =
     record {
@@ -123,4 +135,5 @@ mission =
       inlinedCallers = inlinedCallers;
       stubbornItems = stubbornItems;
       goesOn = goesOn;
+      whereItStood = whereItStood;
     }

@@ -4,6 +4,8 @@
 use Prim.Native.Nat.{ℕ}
 use mathlib.Core.Path.{_≡_}
 use mathlib.Core.List.{List, [], _∷_, _++_}
+use Rattle.rules.specs.Words.{top, spotOf}
+use Rattle.rules.specs.declared.Spot.{Spot}
 use Rattle.rules.specs.declared.Slot.{Slot}
 use Rattle.rules.specs.declared.Lookup.{Lookup}
 use Rattle.rules.specs.declared.Lookup.the-variants.{Stands, Absent}
@@ -56,10 +58,17 @@ abbrev pub changeMeans : Change → Meaning
 changeMeans (Listed stores) = record { number = 0; values = stores ∷ [] }
 changeMeans (Refused r) = record { number = numberOf r; values = 0 ∷ [] }
 
--- function, place and probe count: "Query returns zeros with 5 and the full probe count; with 1 or 3 zeros and count 0."
+-- document 02, request e): "the word index of the key found and whether it was top, bottom or interim; with any refusal, index 0 and top"
+abbrev pub spotMeans : Spot → List ℕ
+spotMeans x = x .word ∷ x .level ∷ []
+
+abbrev pub noSpot : Spot
+noSpot = record { word = 0; level = top }
+
+-- function, place and probe count: "Query returns zeros with 5 and the full probe count; with 1 or 3 zeros and count 0."; then the spot
 abbrev pub queryMeans : Query → Meaning
-queryMeans (Known r count) = record { number = 0; values = r .function ∷ r .place ∷ count ∷ [] }
-queryMeans (Unknown r count) = record { number = numberOf r; values = 0 ∷ 0 ∷ count ∷ [] }
+queryMeans (Known r x count) = record { number = 0; values = r .function ∷ r .place ∷ count ∷ spotMeans x }
+queryMeans (Unknown r count) = record { number = numberOf r; values = 0 ∷ 0 ∷ count ∷ spotMeans noSpot }
 
 -- the chain of inlined callers: its count
 abbrev pub chainMeans : Chain → Meaning
@@ -75,10 +84,10 @@ verdictMeans (Denied r) = record { number = numberOf r; values = [] }
 abbrev pub slotMeans : Slot → List ℕ
 slotMeans x = x .level ∷ x .bucket ∷ x .slot ∷ []
 
--- "5 | key absent", with the probe count
+-- "5 | key absent"; the probe count and the spot, as query tells them, and for the calls that rest on it the bucket and the slot
 abbrev pub lookupMeans : Lookup → Meaning
-lookupMeans (Stands x count) = record { number = 0; values = count ∷ slotMeans x }
-lookupMeans (Absent count) = record { number = numberOf KeyAbsent; values = count ∷ [] }
+lookupMeans (Stands x count) = record { number = 0; values = count ∷ spotMeans (spotOf x) ++ (x .bucket ∷ x .slot ∷ []) }
+lookupMeans (Absent count) = record { number = numberOf KeyAbsent; values = count ∷ spotMeans noSpot }
 
 -- "6 | no place"
 abbrev pub placingMeans : Placing → Meaning

@@ -15,12 +15,12 @@ use Rattle.rules.specs.Calls.{Outcome, refused, listed, Call, recover}
 use Rattle.rules.specs.Results.{changeResult, queryResult}
 use Rattle.rules.specs.Chains.{chainResult}
 use Rattle.rules.specs.Histories.{Event, whole, cut, after, History, Recovery, Accepted}
-use Rattle.rules.specs.Demands.{AtRest, Held, badHeader, flagNotZero, FirstRefuses, mapAfter, Given, countOf}
+use Rattle.rules.specs.Demands.{AtRest, Held, badHeader, flagNotZero, FirstRefuses, mapAfter, Given, AnswersRecord, countOf}
 use Rattle.rules.specs.declared.Record.{Record}
 use Rattle.rules.specs.declared.Refusal.{Refusal}
 use Rattle.rules.specs.declared.Refusal.the-variants.{KeyAbsent, ShortRecords, BadPosition}
 use Rattle.rules.specs.declared.Query.{Query}
-use Rattle.rules.specs.declared.Query.the-variants.{Known, Unknown}
+use Rattle.rules.specs.declared.Query.the-variants.{Unknown}
 use Rattle.rules.specs.declared.Chain.{Chain}
 use Rattle.rules.specs.declared.Chain.the-variants.{Whole, Broken}
 
@@ -56,7 +56,7 @@ StandsAt m d e r = (word m (2 * (d - e)) ≡ r .function) × (word m (2 * (d - e
 
 -- "success writes just those words"
 pub record ChainWritten (t : Table) (address d : ℕ) (l m : List ℕ) : Type 0 where
-  pub records : (e : ℕ) → e ≤ d → (r : Record) × (n : ℕ) × (asked t address e ≡ Known r n) × StandsAt m d e r
+  pub records : (e : ℕ) → e ≤ d → (r : Record) × AnswersRecord (asked t address e) r × StandsAt m d e r
   pub long : length m ≡ length l
   pub rest : drop (2 * d + 2) m ≡ drop (2 * d + 2) l
 
@@ -81,7 +81,7 @@ countsFrom t address e n = map (λ (i : ℕ). countOf (asked t address i)) (from
 pub record FirstMissing (t : Table) (address d e : ℕ) : Type 0 where
   pub within : e ≤ d
   pub gap : (n : ℕ) × (asked t address e ≡ Unknown KeyAbsent n)
-  pub above : (i : ℕ) → e < i → i ≤ d → (r : Record) × (n : ℕ) × (asked t address i ≡ Known r n)
+  pub above : (i : ℕ) → e < i → i ≤ d → (r : Record) × AnswersRecord (asked t address i) r
 
 abbrev pub ChainCountBy : Table → ℕ → ℕ → Chain → Type 0
 ChainCountBy t address d (Whole n) = n ≡ total (countsFrom t address 0 (d + 1))

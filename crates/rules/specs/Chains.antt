@@ -31,8 +31,8 @@ pub data Walk : Type 0 where
 -- the query of one depth, before what the smaller depths give. "The count is the sum of the queries' probe counts down to the last depth
 -- asked, the missing one included"
 abbrev pub before : Query → Walk → Walk
-before (Known r n) (found rs m) = found (r ∷ rs) (n + m)
-before (Known r n) (missing m) = missing (n + m)
+before (Known r x n) (found rs m) = found (r ∷ rs) (n + m)
+before (Known r x n) (missing m) = missing (n + m)
 before (Unknown e n) below = missing n
 
 -- "The walk takes the record of one depth and then does the same for the next smaller one", down to 0; asks gives each depth's query

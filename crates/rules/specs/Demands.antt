@@ -12,7 +12,7 @@ use mathlib.Core.Option.{Option, none, some}
 use lib.ListN.{length, take, drop}
 use lib.Dec.{eqb}
 use Rattle.rules.specs.Choice.{all}
-use Rattle.rules.specs.Words.{Table, word, headerOf, GoodHeader, flagOf, loggedOf, top, bottom, interim, slotsIn, placeOf, keyIn, recordIn}
+use Rattle.rules.specs.Words.{Table, word, headerOf, GoodHeader, flagOf, loggedOf, top, bottom, interim, slotsIn, placeOf, spotOf, keyIn, recordIn}
 use Rattle.rules.specs.Words.{tokenOf, show, hide}
 use Rattle.rules.specs.Places.{holds, placesOf}
 use Rattle.rules.specs.Placing.{freeSlot, placing}
@@ -28,6 +28,7 @@ use Rattle.rules.specs.declared.Header.{Header}
 use Rattle.rules.specs.declared.Place.{Place}
 use Rattle.rules.specs.declared.Slot.{Slot}
 use Rattle.rules.specs.declared.Record.{Record}
+use Rattle.rules.specs.declared.Spot.{Spot}
 use Rattle.rules.specs.declared.Placing.{Placing}
 use Rattle.rules.specs.declared.Placing.the-variants.{Free, Move, Nowhere}
 use Rattle.rules.specs.declared.Finding.{Finding}
@@ -218,7 +219,7 @@ StepIsACall =
 -- count 0."
 abbrev pub QueryAs : Outcome → Meaning → Type 0
 QueryAs (listed stores) a = a .number ≡ 0
-QueryAs (refused e) a = (n : ℕ) × (a ≡ record { number = numberOf e; values = 0 ∷ 0 ∷ n ∷ [] }) × ((e ≡ KeyAbsent) ⊎ (n ≡ 0))
+QueryAs (refused e) a = (n : ℕ) × (a ≡ record { number = numberOf e; values = 0 ∷ 0 ∷ n ∷ 0 ∷ 0 ∷ [] }) × ((e ≡ KeyAbsent) ⊎ (n ≡ 0))
 
 abbrev pub QueryIsACall : Type 0
 QueryIsACall = (t : Table) (n key : ℕ) → QueryAs (outcome t n (query key)) (queryMeans (queryResult t key))
@@ -282,9 +283,12 @@ pub record Given (t : Table) (m : PlainMap) (n : ℕ) : Type 0 where
   pub map : HasMap t m
   pub room : 20 ≤ n
 
--- query: the map's record for the map's keys, 5 for the others
+-- query: the map's record for the map's keys, wherever they stand, and 5 for the others
+abbrev pub AnswersRecord : Query → Record → Type 0
+AnswersRecord a r = (x : Spot) × (n : ℕ) × (a ≡ Known r x n)
+
 abbrev pub QueryBy : Option Record → Query → Type 0
-QueryBy (some r) a = (n : ℕ) × (a ≡ Known r n)
+QueryBy (some r) a = AnswersRecord a r
 QueryBy none a = (n : ℕ) × (a ≡ Unknown KeyAbsent n)
 
 abbrev pub QueryAnswers : Type 0
@@ -473,14 +477,15 @@ GrowthBound =
 
 -- "A query looks at no more than four buckets, six while growing, and reports the number truly looked at": the position, in
 -- the list of distinct probed buckets, of the bucket where it stopped, or that list's length
-pub record StoppedAt (t : Table) (key : ℕ) (r : Record) (n : ℕ) : Type 0 where
+pub record StoppedAt (t : Table) (key : ℕ) (r : Record) (x : Spot) (n : ℕ) : Type 0 where
   pub slot : Slot
   pub stop : FirstHolder t key slot
   pub position : n ≡ length (stop .before) + 1
   pub value : recordIn t slot ≡ r
+  pub spot : x ≡ spotOf slot
 
 abbrev pub CountBy : Table → ℕ → Query → Type 0
-CountBy t key (Known r n) = StoppedAt t key r n
+CountBy t key (Known r x n) = StoppedAt t key r x n
 CountBy t key (Unknown e n) = (e ≡ KeyAbsent) × (n ≡ length (placesOf (headerOf t) key)) × NoneHolds t key (placesOf (headerOf t) key)
 
 abbrev pub QueryCounts : Type 0
@@ -488,7 +493,7 @@ QueryCounts = (t : Table) (key : ℕ) → GoodHeader (length t) (headerOf t) →
 
 -- the count that a query reports, whatever it answers
 abbrev pub countOf : Query → ℕ
-countOf (Known r n) = n
+countOf (Known r x n) = n
 countOf (Unknown e n) = n
 
 abbrev pub ProbesAreFew : Type 0

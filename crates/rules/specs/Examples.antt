@@ -14,7 +14,7 @@ use Rattle.words.specs.Product.{productOf, hashOf}
 use Rattle.rules.specs.Choice.{select}
 use Rattle.rules.specs.Words.{Table, word, wordsFor, stateOf, stateWord, atRest, headerOf, flagOf, targetOf, loggedOf, stateGood, odd}
 use Rattle.rules.specs.Words.{capacityTests, headerTests, topOf, bottomOf, interimOf, levelsInUse, bucketsOf, allBuckets, exponentInUse}
-use Rattle.rules.specs.Words.{unusedBuckets, slotAt, slotsIn, placeOf, placeAt, slotsOf, slotsInUse, tokenWord, keyWord, functionWord}
+use Rattle.rules.specs.Words.{unusedBuckets, slotAt, slotsIn, placeOf, placeAt, slotsOf, slotsInUse, tokenWord, keyWord, spotOf, functionWord}
 use Rattle.rules.specs.Words.{placeWord, keyIn, recordIn, tokenOf, tokenNumber, isTaken, show, hide, takenOf, meant, taken, meantOf}
 use Rattle.rules.specs.Places.{hashesOf, firstPlace, secondPlace, samePlace, placesIn, probes, placesOf, holds, hitIn, lookup}
 use Rattle.rules.specs.Placing.{takenIn, freeSlot, fewer, emptier, roomIn, otherPlace, itemsOf, candidates, moveOf, placing}
@@ -137,15 +137,15 @@ ready r =
 unfoldable pub marked : (ℕ → Record) → List Row
 marked r =
     row 1 (sees usual (insert 1 (recordOf 10 20))) (lists ((36, 1) ∷ (37, 10) ∷ (38, 20) ∷ (35, 1) ∷ []))
-    ∷ row 2 (asks afterE1 1) (tells 0 (10 ∷ 20 ∷ 1 ∷ []))
-    ∷ row 2 (asks afterE1 3) (tells 5 (0 ∷ 0 ∷ 2 ∷ []))
+    ∷ row 2 (asks afterE1 1) (tells 0 (10 ∷ 20 ∷ 1 ∷ 36 ∷ 0 ∷ []))
+    ∷ row 2 (asks afterE1 3) (tells 5 (0 ∷ 0 ∷ 2 ∷ 0 ∷ 0 ∷ []))
     ∷ row 3 (sees afterE1 (insert 1 (r 1))) (refuses 4)
     ∷ row 4 (sees afterE1 (delete 1)) (lists ((35, 0) ∷ []))
     ∷ row 5 (sees afterE1 (update 1 (recordOf 30 40))) (lists ((39, 1) ∷ (40, 30) ∷ (41, 40) ∷ (35, 2) ∷ []))
     ∷ row 6 (sees (beforeE6 r) (update 1 (recordOf 30 40))) (lists ((6, 36) ∷ (7, 30) ∷ (8, 40) ∷ (5, 1) ∷ (37, 30) ∷ (38, 40) ∷ (5, 0) ∷ []))
     ∷ row 7 (sees (madeFirst (beforeE6 r) (update 1 (recordOf 30 40)) 5) recover) (lists ((37, 30) ∷ (38, 40) ∷ (5, 0) ∷ []))
     ∷ row 7 (sees (madeFirst (beforeE6 r) (update 1 (recordOf 30 40)) 3) recover) (lists [])
-    ∷ row 7 (asks (madeAll (madeFirst (beforeE6 r) (update 1 (recordOf 30 40)) 3) recover) 1) (tells 0 (r 1 .function ∷ r 1 .place ∷ 1 ∷ []))
+    ∷ row 7 (asks (madeAll (madeFirst (beforeE6 r) (update 1 (recordOf 30 40)) 3) recover) 1) (tells 0 (r 1 .function ∷ r 1 .place ∷ 1 ∷ 36 ∷ 0 ∷ []))
     ∷ row 8 (sees (beforeE8 r) (insert 17 (r 17))) (refuses 6)
     ∷ row 8 (words (word (beforeE8 r) 22 ∷ [])) (words (0 ∷ []))
     ∷ row 9 (words (indexes (listOf (beforeE9 r) (insert 15 (r 15))))) (words (23 ∷ 24 ∷ 25 ∷ 22 ∷ 9 ∷ 10 ∷ 11 ∷ 12 ∷ 9 ∷ []))
@@ -159,7 +159,7 @@ marked r =
 pub examples : (r : ℕ → Record) → map (λ (x : Row). x .computed) (marked r) ≡ map (λ (x : Row). x .paper) (marked r)
 unfolding productOf hashOf flatMap wordsFor stateOf stateWord atRest headerOf flagOf targetOf loggedOf stateGood odd capacityTests headerTests topOf
     bottomOf interimOf levelsInUse bucketsOf allBuckets exponentInUse unusedBuckets slotAt slotsIn placeOf placeAt slotsOf slotsInUse tokenWord
-    keyWord functionWord placeWord keyIn recordIn tokenOf tokenNumber isTaken show hide takenOf meant taken meantOf hashesOf firstPlace secondPlace
+    keyWord spotOf functionWord placeWord keyIn recordIn tokenOf tokenNumber isTaken show hide takenOf meant taken meantOf hashesOf firstPlace secondPlace
     samePlace placesIn probes holds hitIn lookup takenIn freeSlot fewer emptier roomIn otherPlace itemsOf candidates moveOf placing putStores
     clearStores moveStores placingStores redoStores updateStores beginStores endStores stepStores written takenSlots tokensTidy unusedEmpty placesOf
     inPlace orderlyTests sameKey twins sameRecord target finding headerGood listLong flagClear changingTests queryTests recoverTests beginTests

@@ -14,7 +14,9 @@ pub mod Demands
 pub mod ChainSentences
 pub mod StepSentences
 pub mod StepFromSentences
+pub mod SpotSentences
 pub mod Mission
 pub mod Examples
 pub mod ChainCases
 pub mod StepCases
+pub mod SpotCases

@@ -1,6 +1,6 @@
 -- What is proved of the user's three demands and of document 02's requests, in one place, sentence by sentence. Each field of a demand is a
--- statement of `Demands`, and each field of a request one of its sentences (`ChainSentences`, `StepSentences`, `StepFromSentences`), which say it
--- in full. One law proves them all: `mission`, in proofs/Mission.
+-- statement of `Demands`, and each field of a request one of its sentences (`ChainSentences`, `StepSentences`, `StepFromSentences`,
+-- `SpotSentences`), which say it in full. One law proves them all: `mission`, in proofs/Mission.
 -- That the code does what the rules say is promised call by call, in the `ensures` of each.
 -- Assumes nothing.
 use Rattle.rules.specs.Demands.{ChangeAnswers, CreateAnswers, MakeAnswers, RefusalsInOrder, StepIsACall, QueryIsACall, StoresInside}
@@ -12,6 +12,7 @@ use Rattle.rules.specs.ChainSentences.{ChainRefusals, ChainWrites, Chain
 use Rattle.rules.specs.StepFromSentences.{StepFromIsACall, ZeroIsTheStep, TakesTheFirstFrom, ElevenFromExactly, SixFromExactly}
 use Rattle.rules.specs.StepFromSentences.{RefusedTellsZero, PastTheLevel, AsTheStep, StuckStaysStuck, InsertsGiveNoPlace}
 use Rattle.rules.specs.StepFromSentences.{PassEnds, PassPlacesAll, LooksUntilFound, PassLooksAtFew}
+use Rattle.rules.specs.SpotSentences.{FoundStood, RefusedStoodNowhere, LookupStood, TheOneStood, ChangesGoThere, ChainStood}
 use Rattle.rules.specs.StepSentences.{StepTakesTheFirst, NoItemBlocks, SixExactly, ElevenExactly, SixIsNotEleven}
 
 pub record Demand1 : Type 0 where
@@ -116,6 +117,19 @@ pub record GoesOn : Type 0 where
   pub looksUntilFound : LooksUntilFound
   pub passLooksAtFew : PassLooksAtFew
 
+-- request e), "Say where the answer stood."
+pub record WhereItStood : Type 0 where
+  -- "The inner lookup, and query with it, must also return the word index of the key found and whether it was top, bottom or interim"
+  pub foundStood : FoundStood
+  pub lookupStood : LookupStood
+  -- "with any refusal, index 0 and top"
+  pub refusedStoodNowhere : RefusedStoodNowhere
+  -- on a sound table there is one slot to tell
+  pub theOneStood : TheOneStood
+  -- "Delete, update, the chain of a) .. rest on that lookup" (the ledger credits what a query answers: crate `crediting`)
+  pub changesGoThere : ChangesGoThere
+  pub chainStood : ChainStood
+
 -- the user's three demands, document 02's requests, and the step that goes on
 pub record Mission : Type 0 where
   pub anyInput : Demand1
@@ -124,3 +138,4 @@ pub record Mission : Type 0 where
   pub inlinedCallers : InlinedCallers
   pub stubbornItems : StubbornItems
   pub goesOn : GoesOn
+  pub whereItStood : WhereItStood

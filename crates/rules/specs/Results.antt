@@ -8,7 +8,7 @@ use mathlib.Core.Option.{Option, none, some}
 use lib.ListN.{length, replicate}
 use lib.Dec.{eqb, leb, ltb}
 use Rattle.rules.specs.Choice.{all}
-use Rattle.rules.specs.Words.{Table, wordsFor, odd, capacityTests, stateWord, headerOf, keyIn, recordIn}
+use Rattle.rules.specs.Words.{Table, wordsFor, odd, capacityTests, stateWord, headerOf, spotOf, keyIn, recordIn}
 use Rattle.rules.specs.Places.{lookup}
 use Rattle.rules.specs.Placing.{placing}
 use Rattle.rules.specs.Stores.{Store, written, pairs, made}
@@ -68,9 +68,10 @@ stepFromResult t b l =
 unfoldable pub stepResult : Table → List ℕ → Stepped × List ℕ
 stepResult t l = (stepFromResult t 0 l .0 .stepped, stepFromResult t 0 l .1)
 
--- query: "Query returns zeros with 5 and the full probe count; with 1 or 3 zeros and count 0." It writes no buffer
+-- query: "Query returns zeros with 5 and the full probe count; with 1 or 3 zeros and count 0." Document 02, request e): "The inner lookup, and
+-- query with it, must also return the word index of the key found and whether it was top, bottom or interim". It writes no buffer
 abbrev pub queryAt : Table → Lookup → Query
-queryAt t (Stands x n) = Known (recordIn t x) n
+queryAt t (Stands x n) = Known (recordIn t x) (spotOf x) n
 queryAt t (Absent n) = Unknown KeyAbsent n
 
 unfoldable pub queryResult : Table → ℕ → Query

@@ -19,6 +19,7 @@ use Rattle.rules.specs.declared.Level.{Level}
 use Rattle.rules.specs.declared.Place.{Place}
 use Rattle.rules.specs.declared.Slot.{Slot}
 use Rattle.rules.specs.declared.Record.{Record}
+use Rattle.rules.specs.declared.Spot.{Spot}
 
 abbrev pub Table : Type 0
 Table = List ℕ
@@ -198,6 +199,10 @@ functionWord x = keyWord x + 1
 
 unfoldable pub placeWord : Slot → ℕ
 placeWord x = keyWord x + 2
+
+-- document 02, request e): "the word index of the key found and whether it was top, bottom or interim"
+unfoldable pub spotOf : Slot → Spot
+spotOf x = record { word = keyWord x; level = x .level }
 
 unfoldable pub keyIn : Table → Slot → ℕ
 keyIn t x = word t (keyWord x)

@@ -50,6 +50,12 @@ pub struct Record {
     pub place: u64,
 }
 
+// Where a key stands: the index of its key word, and its level, 0 the top, 1 the bottom, 2 the interim level.
+pub struct Spot {
+    pub word: u64,
+    pub level: u64,
+}
+
 // What a script's events are: document 01's calls, but for create, and make, which makes their stores.
 pub enum ScriptCall {
     Query(u64),
@@ -123,9 +129,9 @@ pub struct SteppedFrom {
     pub bucket: u64,
 }
 
-// What query answers: the record, or why there is none; and the number of buckets looked at.
+// What query answers: the record and where its key stands, or why there is none; and the number of buckets looked at.
 pub enum Query {
-    Known(Record, u64),
+    Known(Record, Spot, u64),
     Unknown(Refusal, u64),
 }
 

@@ -1,7 +1,7 @@
 -- Lines that are put one after the other, and what is promised of an answer whose lines are put from the front.
 -- Assumes nothing.
 use Prim.Native.Nat.{ℕ, _+_, _≤_}
-use mathlib.Core.Path.{_≡_, refl, ap, _∙_}
+use mathlib.Core.Path.{_≡_, refl, ap, subst, _∙_}
 use mathlib.Core.List.{List, [], _∷_, _++_, flatMap, append-nil, append-assoc}
 use native.Mathlib.Nat.{zero-add}
 use native.Mathlib.Omega.{arith}
@@ -18,9 +18,9 @@ use Rattle.numbering.specs.Told.{told}
 use Rattle.replaying.specs.declared.Answer.{Answer}
 use Rattle.replaying.specs.declared.Answer.the-variants.{Nothing, Changed}
 use Rattle.lines.specs.Lines.{bytes}
-use Rattle.saying.specs.Texts.{Line, lineText, createdLines, linesOf, textOf}
+use Rattle.saying.specs.Texts.{Line, lineText, foundLines, createdLines, linesOf, textOf}
 use Rattle.saying.specs.Promises.{Said}
-use Rattle.saying.specs.Writing.{putAt, Put, PutLines, lineWith}
+use Rattle.saying.specs.Writing.{putAt, Put, PutAll, PutLines, lineWith}
 use Rattle.saying.proofs.Puts.{put-length, then}
 
 -- a line that is put with its name and `=` as one text
@@ -48,6 +48,12 @@ lines-after (y ∷ ys) x = rw (append-assoc (lineText y) (flatMap lineText ys) (
 pub line-after : (xs : List Line) (x : Line) {at r₁ r₂ : ℕ} {l m₁ m₂ : List ℕ} → Put (flatMap lineText xs) at l r₁ m₁ → Put (named x) r₁ m₁ r₂ m₂
     → Put (flatMap lineText (xs ++ (x ∷ []))) at l r₂ m₂
 line-after xs x p q = rw (← (lines-after xs x)) (then p q)
+
+-- ---- a query
+
+pub found-put : {a b : Meaning} {l m : List ℕ} {r : ℕ} → a ≡ b → PutAll (foundLines (a .number) (a .values)) l r m
+    → PutAll (foundLines (b .number) (b .values)) l r m
+found-put {l = l} {m} {r} e p = subst (λ (z : Meaning). PutAll (foundLines (z .number) (z .values)) l r m) e p
 
 -- ---- a change, and creation
 

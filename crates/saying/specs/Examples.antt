@@ -22,15 +22,15 @@ table =
     ∷ (Created Done, "made=0\n")
     ∷ (Changed (Listed 4), "answer=0\nstores=4\n")
     ∷ (Changed (Refused NotGrowing), "answer=8\nstores=0\n")
-    ∷ (Found (Known (record { function = 10; place = 20 }) 1), "answer=0\nfn=10\nat=20\nprobes=1\n")
-    ∷ (Found (Unknown KeyAbsent 2), "answer=5\nfn=0\nat=0\nprobes=2\n")
+    ∷ (Found (Known (record { function = 10; place = 20 }) (record { word = 36; level = 0 }) 1), "answer=0\nfn=10\nat=20\nprobes=1\nword=36\nlevel=0\n")
+    ∷ (Found (Unknown KeyAbsent 2), "answer=5\nfn=0\nat=0\nprobes=2\nword=0\nlevel=0\n")
     ∷ (Events 3, "events=3\n")
     ∷ (Created (Denied BadCreation), "made=13\nevents=0\n")
     ∷ (Kept (Listed 7) 5, "answer=0\nstores=7\nkept=5\n")
     ∷ (Bad 100, "bad=100\n")
     ∷ (
-      Found (Known (record { function = 18446744073709551615; place = 9999999999999999999 }) 10000000000000000000),
-      "answer=0\nfn=18446744073709551615\nat=9999999999999999999\nprobes=10000000000000000000\n",
+      Found (Known (record { function = 18446744073709551615; place = 9999999999999999999 }) (record { word = 40; level = 2 }) 10000000000000000000),
+      "answer=0\nfn=18446744073709551615\nat=9999999999999999999\nprobes=10000000000000000000\nword=40\nlevel=2\n",
     )
     ∷ []
 

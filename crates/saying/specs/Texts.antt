@@ -26,12 +26,13 @@ underNames (n ∷ ns) (v ∷ vs) = (n, v) ∷ underNames ns vs
 abbrev pub answerLines : List String → ℕ → List ℕ → List Line
 answerLines names number values = ("answer", number) ∷ underNames names values
 
--- a change: "answer=0, stores=4". A query: "answer=0, fn=10, at=20, probes=1"
+-- a change: "answer=0, stores=4". A query: "answer=0, fn=10, at=20, probes=1", and with document 02, request e), "`word=` and `level=` (0, 1, 2)
+-- after `probes=`"
 abbrev pub changeLines : ℕ → List ℕ → List Line
 changeLines = answerLines ("stores" ∷ [])
 
 abbrev pub foundLines : ℕ → List ℕ → List Line
-foundLines = answerLines ("fn" ∷ "at" ∷ "probes" ∷ [])
+foundLines = answerLines ("fn" ∷ "at" ∷ "probes" ∷ "word" ∷ "level" ∷ [])
 
 -- a made table "made=0", and one that is not made its refusal: "After `made=13` comes `events=0`"
 abbrev pub createdLines : Verdict → List Line
@@ -55,3 +56,7 @@ lineText line = bytes (line .0) ++ bytes "=" ++ decimalText (line .1) ++ (10 ∷
 
 unfoldable pub textOf : Answer → List ℕ
 textOf answer = flatMap lineText (linesOf answer)
+
+-- the bytes of a buffer that has room for every answer
+abbrev pub textBytes : ℕ
+textBytes = 160

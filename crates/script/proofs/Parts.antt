@@ -20,7 +20,7 @@ use Rattle.running.specs.Runs.{lineRoom, ready, byteTaken, TakenIs, known, endO
 use Rattle.running.specs.declared.Run.{Run}
 use Rattle.running.specs.declared.Taken.{Taken}
 use Rattle.running.proofs.Parts.{partsAreFed, after-more, answers-more, behind-nothing, behind-part, knownIsAll}
-use Rattle.saying.specs.Texts.{textOf}
+use Rattle.saying.specs.Texts.{textOf, textBytes}
 use Rattle.saying.specs.Writing.{Put}
 use Rattle.saying.proofs.Puts.{put-length, put-text}
 use Rattle.script.specs.Outputs.{outputTo}
@@ -98,15 +98,15 @@ knownPartsWritten room line parts later long k = over room line long parts later
 
 -- ---- where the taking pauses
 
-pub pauses-free : (run : Run) (free : ℕ) {b : Bool} → b ≡ known run → b ≡ false → ltb free 128 ≡ pauses run free
+pub pauses-free : (run : Run) (free : ℕ) {b : Bool} → b ≡ known run → b ≡ false → ltb free textBytes ≡ pauses run free
 pauses-free run free e l = rw (sym e ∙ l)
 
-pub goes-on : (run : Run) (free : ℕ) → pauses run free ≡ false → 128 ≤ free
+pub goes-on : (run : Run) (free : ℕ) → pauses run free ≡ false → textBytes ≤ free
 goes-on run free e = go (known run) e
   where
-    go : (b : Bool) → cond b true (ltb free 128) ≡ false → 128 ≤ free
+    go : (b : Bool) → cond b true (ltb free textBytes) ≡ false → textBytes ≤ free
     go true k = absurd (true-false k)
-    go false k = ltb-false free 128 k
+    go false k = ltb-false free textBytes k
 
 -- ---- a text byte by byte
 
@@ -197,7 +197,7 @@ text-none s = refl
 
 pub some-taken : (u : Stand) (rest : List ℕ) {r : Took} {v : Stand} (out : List ℕ) → TookSome u rest r v out → known (u .run)
     ≡ false → 0 < length rest
-    → 128 ≤ length out → 0 < r .taken
+    → textBytes ≤ length out → 0 < r .taken
 some-taken u rest {r} {v} out t k more room = go (r .taken) (t .stand) (t .front) (t .pausing)
   where
     go : (n : ℕ) → v ≡ afterBytes u (take n rest) → take (r .waiting) out ≡ textIn u (take n rest)
@@ -206,11 +206,11 @@ some-taken u rest {r} {v} out t k more room = go (r .taken) (t .stand) (t .front
     go zero e f p =
         let here : v ≡ u = e ∙ after-none u in
         let none : r .waiting ≡ 0 = sym (length-take-le (r .waiting) out (t .fits)) ∙ ap length (f ∙ text-none u) in
-        let full : cond (known (u .run)) true (ltb (length out - r .waiting) 128)
+        let full : cond (known (u .run)) true (ltb (length out - r .waiting) textBytes)
         ≡ true = ap (λ (x : Stand). pauses (x .run) (length out - r .waiting)) (sym here) ∙ p more in
         absurd (omega (
           arith,
-          ltb-true (length out - r .waiting) 128 (ap (λ (b : Bool). cond b true (ltb (length out - r .waiting) 128)) (sym k)
+          ltb-true (length out - r .waiting) textBytes (ap (λ (b : Bool). cond b true (ltb (length out - r .waiting) textBytes)) (sym k)
               ∙ full),
           none,
           room,

@@ -8,7 +8,7 @@ use mathlib.Core.List.{List, [], _∷_, _++_, map, flatMap}
 use lib.ListN.{length, replicate}
 use Rattle.words.specs.Product.{productOf, hashOf}
 use Rattle.rules.specs.Words.{wordsFor, stateOf, stateWord, atRest, headerOf, flagOf, stateGood, odd, capacityTests, headerTests, topOf, bottomOf}
-use Rattle.rules.specs.Words.{interimOf, levelsInUse, slotAt, slotsIn, placeAt, placeOf, tokenWord, keyWord, functionWord, placeWord, keyIn, recordIn}
+use Rattle.rules.specs.Words.{interimOf, levelsInUse, slotAt, slotsIn, placeAt, placeOf, tokenWord, keyWord, spotOf, functionWord, placeWord, keyIn, recordIn}
 use Rattle.rules.specs.Words.{tokenOf, tokenNumber, isTaken, show, taken, bucketsOf, allBuckets, exponentInUse, unusedBuckets, slotsOf, slotsInUse}
 use Rattle.rules.specs.Words.{meant, meantOf, hide, takenOf}
 use Rattle.rules.specs.Places.{hashesOf, firstPlace, secondPlace, samePlace, placesIn, probes, placesOf, holds, hitIn, lookup}
@@ -49,7 +49,7 @@ cases =
     -- "Whole case, lines joined by commas here."
     (
       bytes "cap=2\ntop=1\nmul1=4294967297\nmul2=12884901889\nop=insert\nkey=1\nfn=10\nat=20\nop=query\nkey=1\nop=query\nkey=3\n",
-      "made=0\nanswer=0\nstores=4\nanswer=0\nfn=10\nat=20\nprobes=1\nanswer=5\nfn=0\nat=0\nprobes=2\nevents=3\n",
+      "made=0\nanswer=0\nstores=4\nanswer=0\nfn=10\nat=20\nprobes=1\nword=36\nlevel=0\nanswer=5\nfn=0\nat=0\nprobes=2\nword=0\nlevel=0\nevents=3\n",
     )
     -- "Program cap is at most 8; a larger one gives `made=13`." "After `made=13` comes `events=0`, and no event line is read."
     ∷ (bytes "cap=9\ntop=1\nmul1=1\nmul2=1\nop=what\n", "made=13\nevents=0\n")
@@ -58,7 +58,7 @@ cases =
     -- "A number of 2^64 or more is bad, and so is the line missing where input ends too soon."
     ∷ (bytes "", "bad=1\n")
     ∷ (bytes "cap=1\ntop=1\n", "bad=3\n")
-    ∷ (smallest "op=query\nkey=18446744073709551615\n", "made=0\nanswer=5\nfn=0\nat=0\nprobes=2\nevents=1\n")
+    ∷ (smallest "op=query\nkey=18446744073709551615\n", "made=0\nanswer=5\nfn=0\nat=0\nprobes=2\nword=0\nlevel=0\nevents=1\n")
     ∷ (smallest "op=query\nkey=18446744073709551616\n", "made=0\nbad=6\n")
     -- "no leading zeros, each ended by a newline"
     ∷ (bytes "cap=01\n", "bad=1\n")
@@ -78,21 +78,21 @@ cases =
     -- line itself is neither answered nor counted."
     ∷ (
       smallest "op=cut\nafter=3\nop=insert\nkey=1\nfn=2\nat=3\nop=query\nkey=1\n",
-      "made=0\nanswer=0\nstores=4\nkept=3\nanswer=5\nfn=0\nat=0\nprobes=2\nevents=2\n",
+      "made=0\nanswer=0\nstores=4\nkept=3\nanswer=5\nfn=0\nat=0\nprobes=2\nword=0\nlevel=0\nevents=2\n",
     )
     ∷ (
       smallest "op=cut\nafter=9\nop=insert\nkey=1\nfn=2\nat=3\nop=query\nkey=1\n",
-      "made=0\nanswer=0\nstores=4\nkept=4\nanswer=0\nfn=2\nat=3\nprobes=1\nevents=2\n",
+      "made=0\nanswer=0\nstores=4\nkept=4\nanswer=0\nfn=2\nat=3\nprobes=1\nword=23\nlevel=0\nevents=2\n",
     )
     -- each event with its lines, in their order
     ∷ (
       growing "op=insert\nkey=1\nfn=2\nat=3\nop=update\nkey=1\nfn=4\nat=5\nop=query\nkey=1\nop=delete\nkey=1\nop=begin\nop=step\nop=end\nop=recover\n",
-      "made=0\nanswer=0\nstores=4\nanswer=0\nstores=4\nanswer=0\nfn=4\nat=5\nprobes=1\nanswer=0\nstores=1\nanswer=0\nstores=1\nanswer=11\nstores=0\nanswer=0\nstores=1\nanswer=0\nstores=0\nevents=8\n",
+      "made=0\nanswer=0\nstores=4\nanswer=0\nstores=4\nanswer=0\nfn=4\nat=5\nprobes=1\nword=26\nlevel=0\nanswer=0\nstores=1\nanswer=0\nstores=1\nanswer=11\nstores=0\nanswer=0\nstores=1\nanswer=0\nstores=0\nevents=8\n",
     )
     -- each that a cut line may stand before, under one
     ∷ (
       growing "op=insert\nkey=1\nfn=2\nat=3\nop=cut\nafter=2\nop=insert\nkey=4\nfn=5\nat=6\nop=cut\nafter=3\nop=update\nkey=1\nfn=4\nat=5\nop=cut\nafter=0\nop=delete\nkey=1\nop=query\nkey=1\n",
-      "made=0\nanswer=0\nstores=4\nanswer=0\nstores=4\nkept=2\nanswer=0\nstores=4\nkept=3\nanswer=0\nstores=1\nkept=0\nanswer=0\nfn=2\nat=3\nprobes=1\nevents=5\n",
+      "made=0\nanswer=0\nstores=4\nanswer=0\nstores=4\nkept=2\nanswer=0\nstores=4\nkept=3\nanswer=0\nstores=1\nkept=0\nanswer=0\nfn=2\nat=3\nprobes=1\nword=23\nlevel=0\nevents=5\n",
     )
     ∷ (
       growing "op=cut\nafter=1\nop=begin\nop=cut\nafter=7\nop=step\nop=cut\nafter=0\nop=end\nop=cut\nafter=0\nop=recover\nop=end\n",
@@ -114,14 +114,21 @@ cases =
     ∷ (
       growing "op=insert\nkey=1\nfn=1\nat=1\nop=insert\nkey=2\nfn=2\nat=2\nop=insert\nkey=3\nfn=3\nat=3\n"
           ++ bytes "op=insert\nkey=4\nfn=4\nat=4\nop=insert\nkey=5\nfn=5\nat=6\nop=begin\nop=step\nop=step\nop=query\nkey=5\n",
-      "made=0\nanswer=0\nstores=4\nanswer=0\nstores=4\nanswer=0\nstores=4\nanswer=0\nstores=4\nanswer=0\nstores=4\nanswer=0\nstores=1\nanswer=0\nstores=5\nanswer=11\nstores=0\nanswer=0\nfn=5\nat=6\nprobes=1\nevents=9\n",
+      "made=0\nanswer=0\nstores=4\nanswer=0\nstores=4\nanswer=0\nstores=4\nanswer=0\nstores=4\nanswer=0\nstores=4\nanswer=0\nstores=1\nanswer=0\nstores=5\nanswer=11\nstores=0\nanswer=0\nfn=5\nat=6\nprobes=1\nword=49\nlevel=0\nevents=9\n",
+    )
+    -- document 02, request e): "`word=` and `level=` (0, 1, 2) after `probes=`"; the fifth of these keys stands in the bottom, and while the table
+    -- grows in the interim level
+    ∷ (
+      growing "op=insert\nkey=1\nfn=1\nat=1\nop=insert\nkey=2\nfn=2\nat=2\nop=insert\nkey=3\nfn=3\nat=3\nop=insert\nkey=4\nfn=4\nat=4\n"
+          ++ bytes "op=insert\nkey=5\nfn=5\nat=6\nop=query\nkey=5\nop=begin\nop=query\nkey=5\nop=query\nkey=4\n",
+      "made=0\nanswer=0\nstores=4\nanswer=0\nstores=4\nanswer=0\nstores=4\nanswer=0\nstores=4\nanswer=0\nstores=4\nanswer=0\nfn=5\nat=6\nprobes=2\nword=10\nlevel=1\nanswer=0\nstores=1\nanswer=0\nfn=5\nat=6\nprobes=3\nword=10\nlevel=2\nanswer=0\nfn=4\nat=4\nprobes=2\nword=32\nlevel=1\nevents=9\n",
     )
     ∷ []
 
 -- the definitions compute what document 01 writes, on used words
 pub cases-computed : map (λ (x : List ℕ × String). outputTo (replicate 100 7) (x .0)) cases ≡ map (λ (x : List ℕ × String). bytes (x .1)) cases
 unfolding productOf hashOf flatMap wordsFor stateOf stateWord atRest headerOf flagOf stateGood odd capacityTests headerTests topOf bottomOf interimOf
-    levelsInUse bucketsOf allBuckets exponentInUse unusedBuckets slotAt slotsIn placeOf placeAt slotsOf slotsInUse tokenWord keyWord functionWord
+    levelsInUse bucketsOf allBuckets exponentInUse unusedBuckets slotAt slotsIn placeOf placeAt slotsOf slotsInUse tokenWord keyWord spotOf functionWord
     placeWord keyIn recordIn tokenOf tokenNumber isTaken show hide takenOf meant taken meantOf hashesOf firstPlace secondPlace samePlace placesIn
     probes holds hitIn lookup takenIn freeSlot fewer emptier roomIn placing putStores clearStores placingStores updateStores beginStores endStores
     stepStores written takenSlots tokensTidy unusedEmpty placesOf inPlace orderlyTests sameKey twins sameRecord target finding headerGood listLong

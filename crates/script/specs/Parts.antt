@@ -10,7 +10,7 @@ use lib.Dec.{ltb}
 use Rattle.replaying.specs.Rooms.{RoomFor}
 use Rattle.running.specs.Runs.{lineRoom, ready, known, endOf, Stand, afterBytes, answersIn, together, Behind}
 use Rattle.running.specs.declared.Run.{Run}
-use Rattle.saying.specs.Texts.{textOf}
+use Rattle.saying.specs.Texts.{textOf, textBytes}
 use Rattle.script.specs.Outputs.{outputTo}
 use Rattle.script.specs.declared.Took.{Took}
 use Rattle.script.specs.declared.Part.{Part}
@@ -51,7 +51,7 @@ KnownPartsWritten = (room line : List ℕ) (parts : List (List ℕ)) (later : Li
 
 -- no byte more is taken: the answer is known, or there are fewer free bytes than an answer is given
 abbrev pub pauses : Run → ℕ → Bool
-pauses run free = cond (known run) true (ltb free 128)
+pauses run free = cond (known run) true (ltb free textBytes)
 
 -- of a text some bytes are taken, and their text is at the front of the buffer. The taking pauses before the
 -- end only for that reason

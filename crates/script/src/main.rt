@@ -10,13 +10,14 @@ use running::end;
 use running::known;
 use running::ready;
 use running::take_byte;
+use saying::TEXT_BYTES;
 use saying::say_at;
 ghost use Prim.Native.Nat.{_≤_};
 ghost use mathlib.Core.Path.{_≡_};
 ghost use lib.ListN.{length, take};
 ghost use Rattle.rules.specs.Words.{wordsFor};
 ghost use Rattle.running.specs.Runs.{endOf};
-ghost use Rattle.saying.specs.Texts.{textOf};
+ghost use Rattle.saying.specs.Texts.{textOf, textBytes};
 ghost use Rattle.script.specs.Parts.{standing, begun, pauses as pausesOf, TookSome, TookPart, WentOn, ReadSome, Ran};
 
 // The first bytes of a text are taken: how many, and how many bytes of answers wait at the front of the buffer.
@@ -26,14 +27,14 @@ struct Took {
     waiting: usize,
 }
 
-// Whether no byte more is taken: the answer is known, or fewer bytes are free than `say_at` asks for. The longest answer has 104.
+// Whether no byte more is taken: the answer is known, or fewer bytes are free than `say_at` asks for.
 fn pauses(run: Run, free: usize) -> bool
     ensures { λ r. ⌜ r ≡ pausesOf run free ⌝ }
 {
     if known(run) {
         return true;
     }
-    free < 128
+    free < TEXT_BYTES
 }
 
 fn take_some(
@@ -80,7 +81,7 @@ fn take_part(
     part: &[u8],
     out: &mut [u8],
 ) -> Part
-    requires { ⌜ 128 ≤ length (now out) ⌝ }
+    requires { ⌜ textBytes ≤ length (now out) ⌝ }
     ensures { λ r. ⌜ TookPart (standing start (now (room .entry)) (now (line .entry))) (now (part .entry)) r
         (standing (r .run) (now (room .exit)) (now (line .exit))) ⌝ }
 {
@@ -125,7 +126,7 @@ struct Turn {
 
 // Where the input has ended: whether what is answered to that was written.
 fn finish(run: Run, out: &mut [u8]) -> bool
-    requires { ⌜ 128 ≤ length (now out) ⌝ }
+    requires { ⌜ textBytes ≤ length (now out) ⌝ }
     ensures { λ _. ⌜ take (length (textOf (endOf run))) (now (out .exit)) ≡ textOf (endOf run) ⌝ }
 {
     let waiting = say_at(end(run), out, 0);
@@ -140,7 +141,7 @@ fn take_read(
     part: &[u8],
     out: &mut [u8],
 ) -> Turn
-    requires { ⌜ 128 ≤ length (now out) ⌝ }
+    requires { ⌜ textBytes ≤ length (now out) ⌝ }
     ensures { λ r. ⌜ WentOn (standing run (now (room .entry)) (now (line .entry))) (now (part .entry)) r
         (standing (r .run) (now (room .exit)) (now (line .exit))) ⌝ }
 {
@@ -178,7 +179,7 @@ fn read_some(
     input: &mut [u8],
     out: &mut [u8],
 ) -> Turn
-    requires { ⌜ 128 ≤ length (now out) ⌝ }
+    requires { ⌜ textBytes ≤ length (now out) ⌝ }
     ensures { λ r. ⌜ ReadSome (standing run (now (room .entry)) (now (line .entry))) (now (input .exit)) r
         (standing (r .run) (now (room .exit)) (now (line .exit))) ⌝ }
 {
@@ -201,7 +202,7 @@ fn read_some(
 
 // A proved loop has to end, and nothing says that the input does. So the parts are counted, up to a number that no run comes to.
 fn read_all(room: &mut [u64], line: &mut [u8; LINE_ROOM], input: &mut [u8], out: &mut [u8]) -> Turn
-    requires { ⌜ (wordsFor 8 ≤ length (now room)) × (128 ≤ length (now out)) ⌝ }
+    requires { ⌜ (wordsFor 8 ≤ length (now room)) × (textBytes ≤ length (now out)) ⌝ }
     ensures { λ r. ⌜ Ran (begun (now (room .entry)) (now (line .entry))) (r .outcome) (standing (r .run) (now (room .exit)) (now (line .exit))) ⌝ }
 {
     let mut run = ready();

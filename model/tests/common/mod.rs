@@ -73,7 +73,7 @@ impl Story {
         }
     }
 
-    pub fn query(&self, key: u64) -> (u64, [u64; 3]) {
+    pub fn query(&self, key: u64) -> (u64, [u64; 5]) {
         query(&self.table, key)
     }
 

@@ -23,6 +23,9 @@ enum-known-found c = search needs
 record-at-requires : tie.Need-record-at-requires
 record-at-requires c κs = rw (c .before .found .given .1) at (c .before .before .before .lookup .ensures .1)
 
+spot-requires : tie.Need-spot-requires
+spot-requires c κs = let y = rw (c .before .before .found .given .1) at (c .before .before .before .before .lookup .ensures .1) in search needs
+
 enum-known-found-2 : tie.Need-enum-known-found-2
 enum-known-found-2 c = search needs
 
@@ -31,11 +34,12 @@ returns c = refused _ _ (c .before .before .before .query-gate .ensures .0) (c .
 
 returns-2 : tie.Need-returns-2
 returns-2 c =
-    let f = c .before .before .before .before in
+    let found = c .before .before .before in
+    let f = found .before .before in
     let g = f .before .before in
     let q = g .before .before .query-gate .ensures in
     let y = rw (g .gate2 .given .1) at (q .1) in
-    present _ _ (q .0) (g .gate2 .given .1) (y .0) (f .lookup .ensures .0) (c .before .before .found .given .1) (c .record-at .ensures)
+    present _ _ (q .0) (g .gate2 .given .1) (y .0) (f .lookup .ensures .0) (found .found .given .1) (c .before .record-at .ensures) (c .spot .ensures)
 
 returns-3 : tie.Need-returns-3
 returns-3 c =
@@ -55,6 +59,7 @@ query-spec =
     lookup-requires
     enum-known-found
     record-at-requires
+    spot-requires
     enum-known-found-2
     returns
     returns-2

@@ -43,7 +43,7 @@ checked-as f refuse (x ∷ ts) a = go (x .0) (checked-as f refuse ts a)
 module _ (t : Table) (address d : ℕ) (l : List ℕ) where
   -- a query finds a key exactly where it stands in a probed bucket
   abbrev Finds : ℕ → Query → Type 0
-  Finds key (Known r n) = Held t key
+  Finds key (Known r x n) = Held t key
   Finds key (Unknown x n) = Held t key → ⊥
 
   lookup-finds : (key : ℕ) (f : Lookup) → lookup t (headerOf t) key ≡ f → Finds key (queryAt t f)
@@ -59,7 +59,7 @@ module _ (t : Table) (address d : ℕ) (l : List ℕ) where
   walk-refuses : (w : Walk) → WalkBy (queryOf t (headerOf t) address) d w
       → ByFirst ((((e : ℕ) × (e ≤ d) × (Held t (keyAt address e) → ⊥)), KeyAbsent) ∷ []) (chainOutcome (chainOf w l .0))
   unfolding ByFirst
-  walk-refuses (found rs n) k = inr (λ m. m .2 (rw (k .records (m .0) (m .1) [] .2) at (finds (m .0))), ([], refl))
+  walk-refuses (found rs n) k = inr (λ m. m .2 (rw (k .records (m .0) (m .1) [] .1 .2) at (finds (m .0))), ([], refl))
   walk-refuses (missing n) k = inl ((k .depth, k .within, rw (k .gap .2) at (finds (k .depth))), refl)
 
   -- "an address of 2^56 or more, or a depth above 255"

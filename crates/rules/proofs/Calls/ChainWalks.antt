@@ -9,7 +9,7 @@ use lib.ListN.{length}
 use Rattle.rules.specs.Choice.{from}
 use Rattle.rules.specs.Stores.{flat}
 use Rattle.rules.specs.Chains.{Walk, found, missing, before, walk, twoWords}
-use Rattle.rules.specs.Demands.{countOf}
+use Rattle.rules.specs.Demands.{AnswersRecord, countOf}
 use Rattle.rules.specs.ChainSentences.{total, StandsAt}
 use Rattle.rules.specs.declared.Record.{Record}
 use Rattle.rules.specs.declared.Refusal.{Refusal}
@@ -33,14 +33,14 @@ module _ (asks : ℕ → Query) where
   pub record FoundWalk (d : ℕ) (rs : List Record) (n : ℕ) : Type 0 where
     pub many : length rs ≡ suc d
     pub count : n ≡ total (counts 0 (suc d))
-    pub records : (e : ℕ) → e ≤ d → (k : List ℕ) → (r : Record) × (c : ℕ) × (asks e ≡ Known r c) × StandsAt (flat (map twoWords rs) ++ k) d e r
+    pub records : (e : ℕ) → e ≤ d → (k : List ℕ) → (r : Record) × AnswersRecord (asks e) r × StandsAt (flat (map twoWords rs) ++ k) d e r
 
   -- one depth is the first that has none
   pub record MissingWalk (d n : ℕ) : Type 0 where
     pub depth : ℕ
     pub within : depth ≤ d
     pub gap : (x : Refusal) × (c : ℕ) × (asks depth ≡ Unknown x c)
-    pub above : (i : ℕ) → depth < i → i ≤ d → (r : Record) × (c : ℕ) × (asks i ≡ Known r c)
+    pub above : (i : ℕ) → depth < i → i ≤ d → (r : Record) × AnswersRecord (asks i) r
     pub count : n ≡ total (counts depth (suc (d - depth)))
 
   abbrev pub WalkBy : ℕ → Walk → Type 0
@@ -58,17 +58,17 @@ module _ (asks : ℕ → Query) where
   walk-by zero = go (asks 0) refl
     where
       go : (q : Query) → asks 0 ≡ q → WalkBy 0 (before q (found [] 0))
-      go (Known r n) e =
+      go (Known r x n) e =
           record {
             many = refl;
             count = rw e;
-            records = λ i h k. let z : i ≡ 0 = omega arith in rw z (r, n, e, (refl, refl));
+            records = λ i h k. let z : i ≡ 0 = omega arith in rw z (r, (x, n, e), (refl, refl));
           }
       go (Unknown x n) e = gap-here 0 x n e
   walk-by (suc d) = go (asks (suc d)) refl (walk asks d) (walk-by d)
     where
       go : (q : Query) → asks (suc d) ≡ q → (w : Walk) → WalkBy d w → WalkBy (suc d) (before q w)
-      go (Known r n) e (found rs m) k =
+      go (Known r x n) e (found rs m) k =
           record {
             many = omega (arith, k .many);
             count =
@@ -79,17 +79,17 @@ module _ (asks : ℕ → Query) where
           }
         where
           at-depth : (i : ℕ) → Dec (i ≤ d) → i ≤ suc d → (l : List ℕ)
-              → (v : Record) × (c : ℕ) × (asks i ≡ Known v c) × StandsAt (flat (map twoWords (r ∷ rs)) ++ l) (suc d) i v
+              → (v : Record) × AnswersRecord (asks i) v × StandsAt (flat (map twoWords (r ∷ rs)) ++ l) (suc d) i v
           at-depth i (yes s) h l =
               let b = k .records i s l in
-              let x : 2 * (suc d - i) ≡ suc (suc (2 * (d - i))) = omega arith in
-              let y : 2 * (suc d - i) + 1 ≡ suc (suc (2 * (d - i) + 1)) = omega arith in
-              (b .0, b .1, b .2, (rw x (b .3 .0), rw y (b .3 .1)))
+              let y : 2 * (suc d - i) ≡ suc (suc (2 * (d - i))) = omega arith in
+              let z : 2 * (suc d - i) + 1 ≡ suc (suc (2 * (d - i) + 1)) = omega arith in
+              (b .0, b .1, (rw y (b .2 .0), rw z (b .2 .1)))
           at-depth i (no s) h l =
-              let x : i ≡ suc d = omega arith in
+              let y : i ≡ suc d = omega arith in
               let z : suc d - suc d ≡ 0 = omega arith in
-              rw (x, z) (r, n, e, (refl, refl))
-      go (Known r n) e (missing m) k =
+              rw (y, z) (r, (x, n, e), (refl, refl))
+      go (Known r x n) e (missing m) k =
           let p = k .depth in
           let y : suc d - p ≡ suc (d - p) = omega (arith, k .within) in
           let z : p + suc (d - p) ≡ suc d = omega (arith, k .within) in
@@ -102,9 +102,9 @@ module _ (asks : ℕ → Query) where
             count = rw y (omega (arith, s, k .count));
           }
         where
-          over : (i : ℕ) → Dec (i ≤ d) → k .depth < i → i ≤ suc d → (v : Record) × (c : ℕ) × (asks i ≡ Known v c)
+          over : (i : ℕ) → Dec (i ≤ d) → k .depth < i → i ≤ suc d → (v : Record) × AnswersRecord (asks i) v
           over i (yes s) a b = k .above i a s
-          over i (no s) a b = let x : i ≡ suc d = omega arith in rw x (r, n, e)
+          over i (no s) a b = let y : i ≡ suc d = omega arith in rw y (r, (x, n, e))
       go (Unknown x n) e w k = gap-here (suc d) x n e
 
 -- a walk sees the queries alone

@@ -35,7 +35,7 @@ use Rattle.rules.specs.declared.Chain.{Chain}
 use Rattle.rules.specs.declared.Chain.the-variants.{Whole, Broken}
 use Rattle.rules.proofs.Basics.Lists.{never}
 use Rattle.rules.proofs.Words.Headers.{good-header, header-passes}
-use Rattle.rules.proofs.Calls.Meanings.{refusal-number}
+use Rattle.rules.proofs.Calls.Meanings.{number-not-zero}
 use Rattle.rules.proofs.Calls.Queries.{query-by-lookup, queryAnswers, probesAreFew}
 use Rattle.rules.proofs.Calls.LentLists.{written-length, written-rest}
 use Rattle.rules.proofs.Calls.ChainWalks.{walk-same, WalkBy, walk-by}
@@ -85,9 +85,6 @@ module _ (t : Table) (address d : ℕ) (l : List ℕ) where
       (λ p. rw (p .1, walked (p .0 .header) (p .0 .flag)) (pass (p .0) (walk (asked t address) d) (walk-by (asked t address) d))) ways
 
 -- ---- what it writes
-
-number-not-zero : (r : Refusal) → numberOf r ≡ 0 → ⊥
-number-not-zero r e = never (eq-eqb _ _ e) (refusal-number r)
 
 pub chainWrites : ChainWrites
 unfolding written
@@ -157,11 +154,11 @@ chainLooksAtFew t address d l = (
 
 -- what a query tells of the map
 abbrev Says : Query → Option Record → Type 0
-Says (Known r n) o = o ≡ some r
+Says (Known r x n) o = o ≡ some r
 Says (Unknown x n) o = o ≡ none
 
 says : (o : Option Record) (q : Query) → QueryBy o q → Says q o
-says (some v) q k = rw (k .1)
+says (some v) q k = rw (k .2)
 says none q k = rw (k .1)
 
 module _ (t : Table) (m : PlainMap) (sound : SoundTable t) (map : HasMap t m) (address : ℕ) where
@@ -170,7 +167,7 @@ module _ (t : Table) (m : PlainMap) (sound : SoundTable t) (map : HasMap t m) (a
 
   walk-answers : (d : ℕ) (l : List ℕ) (w : Walk) → WalkBy (asked t address) d w → ChainBy m address d l (chainOf w l)
   unfolding written
-  walk-answers d l (found rs n) k = inl (refl, λ e i. let r = k .records e i _ in (r .0, rw (r .2) at (depth-says e), r .3))
+  walk-answers d l (found rs n) k = inl (refl, λ e i. let r = k .records e i _ in (r .0, rw (r .1 .2) at (depth-says e), r .2))
   walk-answers d l (missing n) k = inr (refl, refl, (k .depth, k .within, rw (k .gap .2) at (depth-says (k .depth))))
 
 -- the tests pass

@@ -7,7 +7,8 @@ use mathlib.Core.Bool.{false, cond}
 use mathlib.Core.List.{List, [], _∷_, map}
 use lib.ListN.{length, getD, take, drop}
 use lib.Dec.{eqb}
-use Rattle.rules.specs.Words.{Table}
+use borrow.Author.Tests.{eq-eqb}
+use Rattle.rules.specs.Words.{Table, spotOf}
 use Rattle.rules.specs.Stores.{Store, clearStores, redoStores}
 use Rattle.rules.specs.Calls.{placedBy, recoverOf}
 use Rattle.rules.specs.Results.{changeOf, queryAt}
@@ -36,6 +37,7 @@ use Rattle.rules.specs.declared.Chain.{Chain}
 use Rattle.rules.specs.declared.Chain.the-variants.{Whole, Broken}
 use Rattle.rules.specs.declared.Verdict.{Verdict}
 use Rattle.rules.specs.declared.Verdict.the-variants.{Done, Denied}
+use Rattle.rules.proofs.Basics.Lists.{never}
 
 -- what can be read back is one
 told : {A B : Type 0} (f : A → B) (back : B → A) → ((a : A) → back (f a) ≡ a) → (a b : A) → f a ≡ f b → a ≡ b
@@ -96,6 +98,9 @@ refusal-number BadMaking = refl
 refusal-number ShortRecords = refl
 refusal-number BadPosition = refl
 
+pub number-not-zero : (r : Refusal) → numberOf r ≡ 0 → ⊥
+number-not-zero r e = never (eq-eqb _ _ e) (refusal-number r)
+
 -- ---- answers
 
 pub value : Meaning → ℕ → ℕ
@@ -119,11 +124,11 @@ pub change-one : (a b : Change) → changeMeans a ≡ changeMeans b → a ≡ b
 change-one a b e = told changeMeans readChange change-back a b e
 
 readQuery : Meaning → Query
-readQuery m = byNumber m (Known (record { function = value m 0; place = value m 1 }) (value m 2)) (λ (r : Refusal). Unknown r (value m 2))
+readQuery m = byNumber m (Known (record { function = value m 0; place = value m 1 }) (record { word = value m 3; level = value m 4 }) (value m 2)) (λ (r : Refusal). Unknown r (value m 2))
 
 query-back : (a : Query) → readQuery (queryMeans a) ≡ a
 unfolding readQuery byNumber value
-query-back (Known r n) = refl
+query-back (Known r x n) = refl
 query-back (Unknown r n) = rw (refusal-number r, refusal-back r)
 
 pub query-one : (a b : Query) → queryMeans a ≡ queryMeans b → a ≡ b
@@ -152,10 +157,10 @@ pub verdict-one : (a b : Verdict) → verdictMeans a ≡ verdictMeans b → a �
 verdict-one a b e = told verdictMeans readVerdict verdict-back a b e
 
 readLookup : Meaning → Lookup
-readLookup m = byNumber m (Stands (readSlot (drop 1 (m .values))) (value m 0)) (λ (r : Refusal). Absent (value m 0))
+readLookup m = byNumber m (Stands (readSlot (drop 2 (m .values))) (value m 0)) (λ (r : Refusal). Absent (value m 0))
 
 lookup-back : (a : Lookup) → readLookup (lookupMeans a) ≡ a
-unfolding readLookup byNumber value readSlot
+unfolding readLookup byNumber value readSlot spotOf
 lookup-back (Stands x n) = refl
 lookup-back (Absent n) = refl
 
@@ -240,9 +245,10 @@ finding-told-by {a} {b} e = finding-one a b (e .same)
 
 -- ---- what a call's own search answers means what the call answers by it
 
+-- query's number, count, word and level are its lookup's
 pub lookup-told : (t : Table) (o : Lookup)
-    → (queryMeans (queryAt t o) .number ≡ lookupMeans o .number) × (value (queryMeans (queryAt t o)) 2 ≡ value (lookupMeans o) 0)
-unfolding value
+    → (queryMeans (queryAt t o) .number ≡ lookupMeans o .number)
+    × (drop 2 (queryMeans (queryAt t o) .values) ≡ take 3 (lookupMeans o .values))
 lookup-told t (Stands x n) = (refl, refl)
 lookup-told t (Absent n) = (refl, refl)
 

@@ -10,7 +10,7 @@ use mathlib.Core.Option.{Option, none, some}
 use native.Mathlib.Omega.{arith}
 use lib.ListN.{length, length-append}
 use borrow.Author.Tests.{eq-eqb}
-use Rattle.rules.specs.Words.{Table, headerOf, GoodHeader, flagOf, atRest}
+use Rattle.rules.specs.Words.{Table, headerOf, GoodHeader, flagOf, atRest, spotOf}
 use Rattle.rules.specs.Places.{hashesOf, placesOf, lookup}
 use Rattle.rules.specs.Answers.{queryMeans}
 use Rattle.rules.specs.Calls.{headerGood, flagClear, checked, queryTests, refused, queryIn, outcome}
@@ -37,7 +37,7 @@ module _ (t : Table) (key : ℕ) where
   counted : (o : Lookup) → lookup t (headerOf t) key ≡ o → CountBy t key (queryAt t o)
   counted (Stands x n) e =
       let s = lookup-stands t key x n e in
-      record { slot = x; stop = s .0; position = s .1; value = refl }
+      record { slot = x; stop = s .0; position = s .1; value = refl; spot = refl }
   counted (Absent n) e = let r = lookup-absent t (headerOf t) key n e in (refl, r .0, r .1)
 
 pub queryCounts : QueryCounts
@@ -49,7 +49,7 @@ queryAnswers t m sound map key = go (m key) refl
     go : (o : Option Record) → m key ≡ o → QueryBy o (queryResult t key)
     go (some r) e =
         let f = lookup-known t m sound map key r e in
-        (f .count, query-by-lookup t key (sound .orderly .header) (sound .orderly .flag) ∙ rw (f .answer, f .value))
+        (spotOf (f .slot), f .count, query-by-lookup t key (sound .orderly .header) (sound .orderly .flag) ∙ rw (f .answer, f .value))
     go none e =
         let f = lookup-unknown t m sound map key e in
         (f .0, query-by-lookup t key (sound .orderly .header) (sound .orderly .flag) ∙ ap (queryAt t) (f .1))

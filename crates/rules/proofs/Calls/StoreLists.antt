@@ -49,7 +49,7 @@ module _ (t : Table) (h : Header) (xs : List Store) where
   insert-written key r (Stands x n) e = never-listed e
   insert-written key r (Absent n) e = placing-written key r (placing t h key) e
 
-  update-with : (x : Slot) (key : ℕ) (r : Record) (o : Option Slot) → xs ≡ updateWith t h x o key r → UpdateWritten t h x key r o xs
+  pub update-with : (x : Slot) (key : ℕ) (r : Record) (o : Option Slot) → xs ≡ updateWith t h x o key r → UpdateWritten t h x key r o xs
   unfolding putStores redoStores keyWord tokenWord functionWord placeWord
   update-with x key r (some y) e = e
   update-with x key r none e = e

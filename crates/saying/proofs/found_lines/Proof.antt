@@ -29,13 +29,29 @@ slice-aggregate-line-4 c = search needs
 line-requires-4 : tie.Need-line-requires-4
 line-requires-4 c κs = search needs
 
+slice-aggregate-line-5 : tie.Need-slice-aggregate-line-5
+slice-aggregate-line-5 c = search needs
+
+line-requires-5 : tie.Need-line-requires-5
+line-requires-5 c κs = search needs
+
+slice-aggregate-line-6 : tie.Need-slice-aggregate-line-6
+slice-aggregate-line-6 c = search needs
+
+line-requires-6 : tie.Need-line-requires-6
+line-requires-6 c κs = search needs
+
 returns : tie.Need-returns
 returns c =
-    let third = c .before .before .before in
+    let fifth = c .before .before .before in
+    let fourth = fifth .before .before .before in
+    let third = fourth .before .before .before in
     let second = third .before .before .before in
     let first = second .before .before .before in
     line-before _ _ (first .line .ensures .0)
-    (line-before _ _ (second .line2 .ensures .0) (line-before _ _ (third .line3 .ensures .0) (last-line _ (c .line4 .ensures .0))))
+    (line-before _ _ (second .line2 .ensures .0)
+    (line-before _ _ (third .line3 .ensures .0)
+    (line-before _ _ (fourth .line4 .ensures .0) (line-before _ _ (fifth .line5 .ensures .0) (last-line _ (c .line6 .ensures .0))))))
 
 pub found-lines-spec : {M : Type 1} → statement M
 found-lines-spec =
@@ -49,4 +65,8 @@ found-lines-spec =
     line-requires-3
     slice-aggregate-line-4
     line-requires-4
+    slice-aggregate-line-5
+    line-requires-5
+    slice-aggregate-line-6
+    line-requires-6
     returns)
