@@ -75,8 +75,15 @@ enum ragansils_refusal {
 /* The words of the shortest list that is taken: ten stores. */
 #define RAGANSILS_LIST_WORDS 20
 
-/* The words of a query's answer. */
-#define RAGANSILS_ANSWER_WORDS 3
+/* The words of a query's answer: function, place, number of buckets looked at, word and level. */
+#define RAGANSILS_ANSWER_WORDS 5
+
+/* The levels of a table, in the order in which they are looked at. There is an interim level only while the table grows. */
+enum ragansils_level {
+    RAGANSILS_TOP = 0,
+    RAGANSILS_BOTTOM = 1,
+    RAGANSILS_INTERIM = 2
+};
 
 /* The words of the answer of step_from: the number of stores, and the bucket to go on from. */
 #define RAGANSILS_STEP_FROM_WORDS 2
@@ -111,7 +118,12 @@ uint64_t ragansils_create(uint64_t *table, size_t words, uint64_t c, uint64_t k,
 
 /*
  * Looks a key up. answer[0] is its function, answer[1] its place, answer[2] the number of buckets looked at, at most four, or six while
- * the table grows. With refusal 5 answer is 0, 0 and the number of all buckets where the key may stand; with 1 or 3 three zeros.
+ * the table grows. Where that record stands: answer[3] is the index of the word of the table that holds the key, and the two words behind
+ * it hold function and place; answer[4] is the level (enum ragansils_level). Where the key stands twice, as a cut may leave it, this is the
+ * slot that is looked at first. The next change may move the key.
+ *
+ * With refusal 5 answer[2] is the number of all buckets where the key may stand, and the other four are 0; with 1 or 3 all five are 0. So
+ * a refusal tells no slot: word 0 is none, since the header begins there.
  */
 uint64_t ragansils_query(const uint64_t *table, size_t words, uint64_t key, uint64_t answer[RAGANSILS_ANSWER_WORDS]);
 

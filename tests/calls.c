@@ -26,7 +26,7 @@
 #define NO_ADDRESS (UINT64_C(1) << 56)
 
 /* A run with fewer has left something out. */
-#define LEAST_CHECKS 450
+#define LEAST_CHECKS 530
 
 static uint64_t table[WORDS], list[LENT_LIST], stores, bucket, lent[AROUND + LONGEST_CHAIN + AROUND];
 static uint64_t *const records = lent + AROUND;
@@ -145,12 +145,29 @@ static void insert_keys(uint64_t first, uint64_t last, uint64_t apart)
         made(INSERT, key, 100 + key, 200 + key);
 }
 
-static void asked(uint64_t key, uint64_t number, uint64_t function, uint64_t place, uint64_t buckets)
+/* Asks for a key, and checks that the answer is just this. */
+static void asked(uint64_t key, uint64_t number, const uint64_t expected[RAGANSILS_ANSWER_WORDS])
 {
-    uint64_t answer[RAGANSILS_ANSWER_WORDS + 1] = { UNTOUCHED, UNTOUCHED, UNTOUCHED, UNTOUCHED };
+    uint64_t before[WORDS], answer[RAGANSILS_ANSWER_WORDS + 1];
+    memcpy(before, table, sizeof table);
+    untouch(answer, RAGANSILS_ANSWER_WORDS + 1);
     check(ragansils_query(table, WORDS, key, answer) == number, "query");
-    check(answer[0] == function && answer[1] == place && answer[2] == buckets, "the query's answer");
+    check(memcmp(answer, expected, RAGANSILS_ANSWER_WORDS * sizeof *answer) == 0, "the query's answer");
     all_untouched(answer, RAGANSILS_ANSWER_WORDS, RAGANSILS_ANSWER_WORDS + 1, "the word behind the answer stays");
+    check(memcmp(before, table, sizeof table) == 0, "a query only reads the table");
+}
+
+static void found(uint64_t key, uint64_t function, uint64_t place, uint64_t buckets, uint64_t word, enum ragansils_level level)
+{
+    const uint64_t expected[] = { function, place, buckets, word, (uint64_t)level };
+    asked(key, RAGANSILS_DONE, expected);
+    check(table[word] == key && table[word + 1] == function && table[word + 2] == place, "the key and its record stand where it is told");
+}
+
+static void not_found(uint64_t key, uint64_t number, uint64_t buckets)
+{
+    const uint64_t expected[] = { 0, 0, buckets, 0, 0 };
+    asked(key, number, expected);
 }
 
 /* Asks for a chain, and checks that it answers so, writes these records and leaves all words around them. */
@@ -209,10 +226,10 @@ static void one_position(void)
     fresh_table();
     listed(INSERT, 1, 10, 20, RAGANSILS_DONE, 4, e1);
     check(ragansils_make(table, WORDS, list, LENT_LIST, 3) == RAGANSILS_DONE, "make of three stores");
-    asked(1, RAGANSILS_KEY_ABSENT, 0, 0, 2);
+    not_found(1, RAGANSILS_KEY_ABSENT, 2);
     check(ragansils_make(table, WORDS, list, LENT_LIST, 4) == RAGANSILS_DONE, "make of four stores");
-    asked(1, RAGANSILS_DONE, 10, 20, 1);
-    asked(3, RAGANSILS_KEY_ABSENT, 0, 0, 2);
+    found(1, 10, 20, 1, 36, RAGANSILS_TOP);
+    not_found(3, RAGANSILS_KEY_ABSENT, 2);
     refused(INSERT, 1, RAGANSILS_KEY_PRESENT);
     listed(DELETE, 1, 0, 0, RAGANSILS_DONE, 1, e4);
     listed(UPDATE, 1, 30, 40, RAGANSILS_DONE, 4, e5);
@@ -228,13 +245,13 @@ static void cut_update(void)
     insert_keys(1, 7, 2);
     listed(UPDATE, 1, 30, 40, RAGANSILS_DONE, 7, e6);
     ragansils_make(table, WORDS, list, LENT_LIST, 5);
-    asked(1, RAGANSILS_FLAG_SET, 0, 0, 0);
+    not_found(1, RAGANSILS_FLAG_SET, 0);
     const struct change flag_refuses[] = { INSERT, UPDATE, DELETE, BEGIN, STEP, STEP_FROM, END };
     for (size_t i = 0; i < sizeof flag_refuses / sizeof *flag_refuses; i++)
         refused(flag_refuses[i], 1, RAGANSILS_FLAG_SET);
     listed(RECOVER, 0, 0, 0, RAGANSILS_DONE, 3, e7);
     made(RECOVER, 0, 0, 0);
-    asked(1, RAGANSILS_DONE, 30, 40, 1);
+    found(1, 30, 40, 1, 36, RAGANSILS_TOP);
     refused(RECOVER, 0, RAGANSILS_DONE);
     table[5] = 2;
     refused(RECOVER, 0, RAGANSILS_NO_KIND);
@@ -266,6 +283,26 @@ static void growth(void)
     refused(BEGIN, 0, RAGANSILS_AT_CAPACITY);
     for (uint64_t key = 1; key <= 15; key += 2)
         check(ragansils_query(table, WORDS, key, list) == RAGANSILS_DONE && list[0] == 100 + key && list[1] == 200 + key, "grown");
+}
+
+/* Of the keys 1, 3, .. 15 the first four fill a bucket of the top, and the others the bottom, which a growth makes the interim level. */
+static void where_keys_stand(void)
+{
+    fresh_table();
+    insert_keys(1, 15, 2);
+    found(3, 103, 203, 1, 39, RAGANSILS_TOP);
+    found(9, 109, 209, 2, 10, RAGANSILS_BOTTOM);
+    found(15, 115, 215, 2, 19, RAGANSILS_BOTTOM);
+    made(BEGIN, 0, 0, 0);
+    found(3, 103, 203, 3, 39, RAGANSILS_BOTTOM);
+    found(9, 109, 209, 4, 10, RAGANSILS_INTERIM);
+    /* Power fails before the last of five stores: key 9 stands in the top too, which is looked at first. */
+    check(call_step(WORDS, LENT_LIST, 0, 0, 0) == RAGANSILS_DONE && stores == 5, "a step");
+    ragansils_make(table, WORDS, list, LENT_LIST, 4);
+    found(9, 109, 209, 1, 62, RAGANSILS_TOP);
+    check(table[10] == 9 && table[9] == 15, "the earlier slot is taken still");
+    table[0] = 2;
+    not_found(9, RAGANSILS_BAD_HEADER, 0);
 }
 
 static uint64_t made_from(uint64_t *large, size_t words, uint64_t from, uint64_t answer[RAGANSILS_STEP_FROM_WORDS])
@@ -408,6 +445,7 @@ int main(void)
     one_position();
     cut_update();
     growth();
+    where_keys_stand();
     steps_that_go_on();
     chains();
     refused_chains();

@@ -7,11 +7,12 @@ use crate::case_text::write_case;
 use crate::library;
 use crate::program;
 use crate::tally::Tally;
+use crate::told_slots;
 
 /// What a case is checked for.
 #[derive(Clone, Copy, Debug, PartialEq, Eq)]
 pub enum Check {
-    /// The library answers as the model does.
+    /// The library answers as the model does, and a query tells a slot that holds its key and record.
     Call,
     /// The table is sound: a query or a chain answers as the plain map does, and
     /// each cut of a change leaves the map before or after it.
@@ -50,10 +51,15 @@ impl<'t> Both<'t> {
         }
         let library = library::run(case).map_err(finding)?;
         self.tally.count_call(case, &model);
-        match difference(&library, &model) {
-            Some(what) => Err(finding(what)),
-            None => Ok(model),
+        if let Some(what) = difference(&library, &model) {
+            return Err(finding(what));
         }
+        if let Call::Query { key } = case.call {
+            let level =
+                told_slots::check(&case.table, key, library.number, &library.answer).map_err(finding)?;
+            level.into_iter().for_each(|level| self.tally.levels.count(level));
+        }
+        Ok(model)
     }
 
     /// The table after the first `n` stores of a list that fits it.

@@ -1,5 +1,6 @@
 //! One call over given words, and what it answers in the model.
 
+use ragansils::Lookup;
 use ragansils_model as model;
 use ragansils_model::{Event, Table};
 
@@ -26,7 +27,7 @@ pub struct Case {
 #[derive(Clone, Debug, PartialEq, Eq)]
 pub struct Outcome {
     pub number: u64,
-    /// The query's three words, the chain's count of buckets, a changing call's number of stores and, of a step from a start, the bucket
+    /// The query's five words, the chain's count of buckets, a changing call's number of stores and, of a step from a start, the bucket
     /// told; else nothing.
     pub answer: Vec<u64>,
     pub table: Vec<u64>,
@@ -47,7 +48,7 @@ impl Call {
     pub fn answer_words(self) -> usize {
         match self {
             Call::Create { .. } | Call::Make { .. } => 0,
-            Call::Query { .. } => 3,
+            Call::Query { .. } => Lookup::WORDS,
             Call::Change(Event::StepFrom { .. }) => 2,
             Call::Chain(_) | Call::Change(_) => 1,
         }

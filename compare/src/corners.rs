@@ -90,6 +90,7 @@ impl Lent {
         format!(": {}", outcome.number)
     }
 
+    /// The number, function and place, the buckets looked at, and the slot's word and level.
     fn queried(&self, key: u64) -> String {
         let outcome = self.run(Call::Query { key });
         words_text(&[&[outcome.number], &outcome.answer[..]].concat())
@@ -183,8 +184,15 @@ mod tests {
     #[test]
     fn a_step_tells_its_placing() {
         let lines = "Table 100\nList 20\ncreate 2 1 1 1\nbegin\nmake 1\nstep\nquery 1\n";
-        let told = "Table 100\nList 20\ncreate 2 1 1 1: 0\nbegin: 0 1 4 258\nmake 1: 0\nstep: 11 0 nowhere\nquery 1: 5 0 0 3\n";
+        let told = "Table 100\nList 20\ncreate 2 1 1 1: 0\nbegin: 0 1 4 258\nmake 1: 0\nstep: 11 0 nowhere\nquery 1: 5 0 0 3 0 0\n";
         assert_eq!(answers(lines).as_deref(), Ok(told));
+    }
+
+    #[test]
+    fn a_query_tells_where_its_key_stands() {
+        let lines = "Table 48\nList 20\ncreate 1 1 4294967297 4294967297\ninsert 3 7 8\nmake 4\nquery 3\n";
+        let told = answers(lines).unwrap();
+        assert_eq!(told.lines().last(), Some("query 3: 0 7 8 1 36 0"));
     }
 
     #[test]

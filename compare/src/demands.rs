@@ -21,16 +21,21 @@ const NUMBERS_OF_STARTS_ON_OTHER_WORDS: [u64; 7] = [0, 1, 2, 3, 6, 8, 11];
 /// So often at least each kind of ledger is met.
 const LEAST_OF_EACH_LEDGER: u64 = 3;
 
+/// So often at least a query finds its key in each level.
+const LEAST_OF_EACH_LEVEL: u64 = 30;
+
 /// Of a run over words.
 pub fn demand_calls(tally: &Tally) -> Answer {
     demand_refusals(tally, REFUSALS_OF_CALLS)?;
+    demand_levels(tally)?;
     demand_chains(tally)?;
     demand_steps(tally)?;
     demand_starts(tally)
 }
 
 pub fn demand_scripts(tally: &Tally) -> Answer {
-    demand_refusals(tally, REFUSALS_OF_SCRIPTS)
+    demand_refusals(tally, REFUSALS_OF_SCRIPTS)?;
+    demand_levels(tally)
 }
 
 pub fn demand_ledgers(tally: &Tally) -> Answer {
@@ -56,6 +61,15 @@ fn demand_refusals(tally: &Tally, possible: std::ops::RangeInclusive<u64>) -> An
         Ok(())
     } else {
         Err(format!("refusal numbers never seen: {unseen:?}"))
+    }
+}
+
+/// Where all keys stand in one level, any level told is right.
+fn demand_levels(tally: &Tally) -> Answer {
+    let rare = tally.levels.rare(LEAST_OF_EACH_LEVEL);
+    match rare[..] {
+        [] => Ok(()),
+        _ => Err(format!("levels in which queries seldom or never found a key: {rare:?}")),
     }
 }
 

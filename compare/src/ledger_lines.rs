@@ -11,7 +11,7 @@ use crate::scripts::{numbers_by_name, op_of};
 pub const HEADER_LINES: usize = 4;
 /// What a recovery, and a query, are answered with in lines.
 const RECOVERY_LINES: usize = 2;
-const QUERY_LINES: usize = 4;
+const QUERY_LINES: usize = 6;
 
 /// The index of the first sample line, where all lines before it are good; that of the end where there is none.
 pub fn first_sample(lines: &[Vec<u8>]) -> usize {

@@ -6,6 +6,7 @@
 //! - `chain`: the chain of an address;
 //! - `case`, `case_text`: one call over given words, and its text form;
 //! - `library`: the proved library behind its C interface;
+//! - `told_slots`: where a query tells that its key stands;
 //! - `stuck_items`: which interim item a growth step takes; `starts`: where a step that goes on starts;
 //! - `tally`: what a run has seen; `chain_tally`: of chains;
 //! - `both`: a case through library and model;
@@ -59,5 +60,6 @@ pub mod stuck_tables;
 mod tally;
 #[cfg(test)]
 mod test_table;
+pub mod told_slots;
 mod wild;
 mod words;

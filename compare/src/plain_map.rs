@@ -47,11 +47,13 @@ pub fn answer_fits(map: &PlainMap, event: Event, number: u64) -> bool {
     }
 }
 
-/// Whether a sound table of this map answers a query so (the probe count is not the map's matter).
+/// Whether a sound table of this map answers a query so. How many buckets are looked at, and where the record stands, is not the map's
+/// matter.
 pub fn query_fits(map: &PlainMap, key: u64, number: u64, answer: &[u64]) -> bool {
-    match map.get(&key) {
-        Some(record) => number == 0 && answer[..2] == record[..],
-        None => number == 5 && answer[..2] == [0, 0],
+    match (map.get(&key), answer) {
+        (Some(record), [function, place, ..]) => number == 0 && [*function, *place] == *record,
+        (None, [0, 0, _buckets, 0, 0]) => number == 5,
+        _ => false,
     }
 }
 
@@ -76,6 +78,22 @@ pub fn depths_asked(map: &PlainMap, chain: Chain) -> u64 {
 #[cfg(test)]
 mod tests {
     use super::*;
+
+    #[test]
+    fn a_query_has_the_record_of_the_map_or_nothing() {
+        let map = PlainMap::from([(1, [10, 20])]);
+        let fits = |key, number, answer: [u64; 5]| query_fits(&map, key, number, &answer);
+        assert!(fits(1, 0, [10, 20, 1, 36, 0]) && fits(1, 0, [10, 20, 2, 10, 1]));
+        assert!(
+            !fits(1, 0, [10, 21, 1, 36, 0])
+                && !fits(1, 5, [0, 0, 2, 0, 0])
+                && !fits(1, 5, [10, 20, 1, 36, 0])
+        );
+        assert!(fits(2, 5, [0, 0, 2, 0, 0]) && !fits(2, 0, [0, 0, 2, 0, 0]) && !fits(2, 3, [0, 0, 0, 0, 0]));
+        assert!(
+            !fits(2, 5, [1, 0, 2, 0, 0]) && !fits(2, 5, [0, 0, 2, 36, 0]) && !fits(2, 5, [0, 0, 2, 0, 1])
+        );
+    }
 
     #[test]
     fn a_chain_has_the_records_of_the_map_or_a_refusal() {

@@ -2,12 +2,15 @@
 
 use std::path::Path;
 
+use ragansils_model::SUCCESS;
+
 use crate::bad_lines::{bad_line_kind, LONGEST_SCRIPT_LINE};
 use crate::outputs::{self, script_output, Disagreement};
 use crate::random::Random;
 use crate::script_damage::{damage, split_lines};
 use crate::script_text::random_script;
 use crate::tally::Tally;
+use crate::told_slots::level_of;
 
 pub fn run(seed: u64, scripts: u64, program: &Path, tally: &mut Tally) -> Result<(), Disagreement> {
     let mut random = Random::new(seed);
@@ -37,14 +40,17 @@ fn count(script: &[u8], output: &[u8], tally: &mut Tally) {
     // The answers are in the order of the events; a cut is no event.
     let script_lines = split_lines(script);
     let mut ops = script_lines.iter().filter_map(|line| op_of(line)).filter(|&op| op != "cut");
-    let mut op = "unknown";
+    let (mut op, mut answer) = ("unknown", 0);
     for (index, (name, number)) in output.iter().enumerate() {
         match name.as_str() {
             "answer" => {
-                op = ops.next().unwrap_or("unknown");
+                (op, answer) = (ops.next().unwrap_or("unknown"), *number);
                 // A query's second line is no count of stores, but then it is not used.
                 let second = output.get(index + 1).map_or(0, |line| line.1);
                 tally.count_answered(op, *number, second);
+            }
+            "level" if answer == SUCCESS => {
+                level_of(*number).into_iter().for_each(|level| tally.levels.count(level))
             }
             "made" => tally.count_refusal(*number),
             "kept" if op == "recover" => tally.recovery_cuts += 1,

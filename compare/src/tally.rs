@@ -9,6 +9,7 @@ use crate::ledger_tally::LedgerTally;
 use crate::say;
 use crate::starts::StartTally;
 use crate::stuck_items::StepTally;
+use crate::told_slots::LevelTally;
 
 type Counts = BTreeMap<String, u64>;
 
@@ -20,6 +21,7 @@ pub struct Tally {
     refusals: BTreeMap<u64, u64>,
     recoveries: Counts,
     bad_lines: Counts,
+    pub levels: LevelTally,
     pub chains_of_sound_tables: ChainTally,
     pub chains_of_other_words: ChainTally,
     pub steps_of_sound_tables: StepTally,
@@ -73,6 +75,7 @@ impl Tally {
         say!("cuts made: {}; recoveries cut: {}", self.cuts, self.recovery_cuts);
         print_counts("recoveries by kind", &self.recoveries);
         print_counts("bad lines by kind", &self.bad_lines);
+        print_counts("keys found by queries, by level", &self.levels.found);
         print_counts("steps of sound tables", &self.steps_of_sound_tables.kinds);
         print_counts("steps of other words", &self.steps_of_other_words.kinds);
         self.print_starts();

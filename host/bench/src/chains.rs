@@ -2,6 +2,7 @@
 
 use std::path::Path;
 
+use ragansils::Record;
 use ragansils_compare::random::Random;
 use ragansils_counts::plan::HIGH_LOAD;
 use ragansils_counts::{draw, full_size, items_at, sampled_addresses, shuffle, LevelTable};
@@ -140,11 +141,12 @@ impl Frames {
         let mut sum = 0;
         for &address in &self.sampled {
             for key in keys_of(address, self.depths) {
-                let (number, [function, place, buckets]) = side.query(words, key);
-                if number == SUCCESS {
-                    sum = with_record(sum, function, place);
+                if let Ok(lookup) = side.look_up(words, key) {
+                    if let Some(Record { function, place }) = lookup.record() {
+                        sum = with_record(sum, function, place);
+                    }
+                    sum = sum.wrapping_add(lookup.buckets);
                 }
-                sum = sum.wrapping_add(buckets);
             }
         }
         sum

@@ -2,7 +2,6 @@
 
 use ragansils::Creation;
 use ragansils_compare::random::Random;
-use ragansils_model::{Refusal, SUCCESS};
 use ragansils_twin::{Proved, Side};
 
 use crate::growing::{half_way, last_growth};
@@ -80,20 +79,21 @@ impl Filled {
         let absent = self.keys.draw_absent(random, self.queries);
         Ok(Probes {
             when: self.name(when),
-            positive: self.looked_at(&present, SUCCESS)?,
-            negative: self.looked_at(&absent, Refusal::KeyAbsent.number())?,
+            positive: self.looked_at(&present, true)?,
+            negative: self.looked_at(&absent, false)?,
         })
     }
 
-    /// The average over queries of some keys, which all have the same answer.
-    fn looked_at(&self, keys: &[u64], answer: u64) -> Result<f64, String> {
+    /// The average over queries of some keys, which are all there, or all absent.
+    fn looked_at(&self, keys: &[u64], are_there: bool) -> Result<f64, String> {
         let mut looked = 0;
         for &key in keys {
-            let (number, [_, _, buckets]) = self.table.side.query(&self.table.words, key);
-            if number != answer {
-                return Err(format!("a query answers {number} and not {answer}"));
+            let lookup = self.table.side.look_up(&self.table.words, key);
+            let lookup = lookup.map_err(|refusal| format!("a query is refused: {refusal}"))?;
+            if lookup.found.is_some() != are_there {
+                return Err(format!("a query finds {:?}", lookup.record()));
             }
-            looked += buckets;
+            looked += lookup.buckets;
         }
         Ok(looked as f64 / keys.len() as f64)
     }
@@ -120,6 +120,7 @@ mod tests {
     fn an_answer_that_should_not_come() {
         let creation = full_size(&mut Random::new(1), 3);
         let filled = Filled::empty(&mut Random::new(2), creation, Kind::Collector, 5);
-        assert_eq!(filled.looked_at(&[7], SUCCESS), Err("a query answers 5 and not 0".to_string()));
+        assert_eq!(filled.looked_at(&[7], true), Err("a query finds None".to_string()));
+        assert!(filled.looked_at(&[7], false).is_ok());
     }
 }

@@ -15,9 +15,9 @@
 //!
 //! // Power goes before the token is stored: the key is not there.
 //! calls::make(&mut words, list.words(), 3)?;
-//! assert_eq!(calls::query(&words, Key::from(1))?.record, None);
+//! assert_eq!(calls::query(&words, Key::from(1))?.record(), None);
 //! calls::make(&mut words, list.words(), list.count())?;
-//! assert_eq!(calls::query(&words, Key::from(1))?.record, Some(Record { function: 10, place: 20 }));
+//! assert_eq!(calls::query(&words, Key::from(1))?.record(), Some(Record { function: 10, place: 20 }));
 //! # Ok::<(), Refusal>(())
 //! ```
 
@@ -33,18 +33,13 @@ pub fn create(words: &mut [u64], creation: &Creation) -> Result<(), Refusal> {
     Refusal::check(unsafe { raw::ragansils_create(table, length, capacity, first_top, mul1, mul2) })
 }
 
-/// Looks a key up. An absent key is an answer; refusals: `BadHeader`, `FlagSet`.
+/// Looks a key up: its record, and where that stands. An absent key is an answer; refusals: `BadHeader`, `FlagSet`.
 #[inline]
 pub fn query(words: &[u64], key: Key) -> Result<Lookup, Refusal> {
-    let mut answer = [0; 3];
+    let mut answer = [0; Lookup::WORDS];
     // SAFETY: the pointer is valid for the slice's length, and the answer is a buffer of its own.
     let number = unsafe { raw::ragansils_query(words.as_ptr(), words.len(), key.word(), &mut answer) };
-    let [function, place, buckets] = answer;
-    if number == Refusal::KeyAbsent.number() {
-        return Ok(Lookup { record: None, buckets });
-    }
-    Refusal::check(number)?;
-    Ok(Lookup { record: Some(Record { function, place }), buckets })
+    Lookup::of_words(number, answer)
 }
 
 /// Looks up the frames at an address, the innermost first: the record of this depth, then of each smaller one down to 0. They go to the

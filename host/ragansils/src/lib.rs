@@ -10,7 +10,8 @@
 //! From the bottom up:
 //! - [`raw`]: the twelve functions, unsafe;
 //! - [`calls`]: the same over slices, safe;
-//! - [`Key`], [`Record`], [`Lookup`], [`Chain`], [`Creation`], [`Refusal`]: what goes in and comes out;
+//! - [`Key`], [`Record`], [`Lookup`] with [`Found`], [`Slot`] and [`Level`], [`Chain`], [`Creation`], [`Refusal`]: what goes in and comes
+//!   out;
 //! - [`StoreList`], [`Platform`]: stores, and what a platform does after each;
 //! - [`Table`]: a table that makes its own stores, grows in small parts ([`Growth`], by hand [`Step`]) and tells the inlined frames at an
 //!   address ([`Frames`]);
@@ -30,7 +31,7 @@
 //! let mut table = Table::open(MappedFile::open(&path)?, OrdinaryMemory)?;
 //! let key = Key::new(0x5555_0000_1040, 1).ok_or("no key")?;
 //! table.insert(key, Record { function: 7, place: 120 })?;
-//! assert_eq!(table.query(key)?.record, Some(Record { function: 7, place: 120 }));
+//! assert_eq!(table.query(key)?.record(), Some(Record { function: 7, place: 120 }));
 //! # drop(table);
 //! # std::fs::remove_dir_all(&folder)?;
 //! # Ok::<(), Box<dyn std::error::Error>>(())
@@ -57,7 +58,7 @@ pub use frames::Frames;
 pub use growth::{Growth, Step};
 #[cfg(all(target_os = "linux", target_pointer_width = "64"))]
 pub use mapped::{FileError, MappedFile};
-pub use position::{Chain, Key, Lookup, Record};
+pub use position::{Chain, Found, Key, Level, Lookup, Record, Slot};
 pub use refusal::{Refusal, UnknownNumber};
 pub use stores::{OrdinaryMemory, Platform, Store, StoreList};
 pub use table::Table;

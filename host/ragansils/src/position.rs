@@ -1,5 +1,7 @@
 //! What is looked up, and what is found.
 
+use std::fmt;
+
 use crate::Refusal;
 
 /// A key: a code address and an inlining depth, as address · 256 + depth. The table takes any 64-bit key.
@@ -57,13 +59,120 @@ pub struct Record {
     pub place: u64,
 }
 
+/// A level of a table, by the number of the C interface; in the order in which a query looks at them.
+#[derive(Clone, Copy, Debug, PartialEq, Eq, PartialOrd, Ord, Hash)]
+pub enum Level {
+    /// The largest level.
+    Top = 0,
+    /// Half as large.
+    Bottom = 1,
+    /// A quarter as large, and there only while the table grows.
+    Interim = 2,
+}
+
+impl Level {
+    /// Every level, by its number.
+    pub const ALL: [Level; 3] = [Level::Top, Level::Bottom, Level::Interim];
+
+    /// The number of the C interface.
+    pub fn number(self) -> u64 {
+        self as u64
+    }
+
+    #[inline]
+    fn of_number(number: u64) -> Level {
+        match number {
+            0 => Level::Top,
+            1 => Level::Bottom,
+            2 => Level::Interim,
+            _ => panic!("the library answers the number of a level"),
+        }
+    }
+}
+
+impl fmt::Display for Level {
+    fn fmt(&self, f: &mut fmt::Formatter) -> fmt::Result {
+        f.pad(match self {
+            Level::Top => "top",
+            Level::Bottom => "bottom",
+            Level::Interim => "interim",
+        })
+    }
+}
+
+/// Where a key stands. The next change may move it.
+#[derive(Clone, Copy, Debug, PartialEq, Eq, Hash)]
+pub struct Slot {
+    /// The index of the table's word that holds the key; the two words behind it hold function and place.
+    pub word: usize,
+    /// The level that it stands in.
+    pub level: Level,
+}
+
+/// A key's record, and where it stands.
+#[derive(Clone, Copy, Debug, PartialEq, Eq, Hash)]
+pub struct Found {
+    /// What the key leads to.
+    pub record: Record,
+    /// Where this record stands. Where the key stands twice, as a cut may leave it, this is the slot that is looked at first.
+    pub slot: Slot,
+}
+
 /// A query's answer.
+///
+/// ```
+/// use ragansils::{Creation, Found, Level, OrdinaryMemory, Record, Refusal, Slot, Table};
+///
+/// let creation = Creation { capacity: 2, first_top: 1, multipliers: [4294967297, 12884901889] };
+/// let mut table = Table::create(vec![0; creation.words().unwrap()], &creation, OrdinaryMemory)?;
+/// let record = Record { function: 10, place: 20 };
+/// table.insert(1.into(), record)?;
+///
+/// let lookup = table.query(1.into())?;
+/// assert_eq!(lookup.found, Some(Found { record, slot: Slot { word: 36, level: Level::Top } }));
+/// assert_eq!((lookup.record(), lookup.buckets), (Some(record), 1));
+/// // That is where the table's words have it.
+/// assert_eq!(table.words()[36..39], [1, 10, 20]);
+///
+/// // A growth makes the top the bottom, and the key stays where it is.
+/// table.begin()?;
+/// let slot = table.query(1.into())?.found.map(|found| found.slot);
+/// assert_eq!(slot, Some(Slot { word: 36, level: Level::Bottom }));
+///
+/// // An absent key stands nowhere.
+/// assert_eq!(table.query(2.into())?.found, None);
+/// # Ok::<(), Refusal>(())
+/// ```
 #[derive(Clone, Copy, Debug, PartialEq, Eq)]
 pub struct Lookup {
-    /// The key's record; none where the key is absent.
-    pub record: Option<Record>,
+    /// The key's record, and where it stands; none where the key is absent.
+    pub found: Option<Found>,
     /// The number of buckets looked at: at most four, or six while the table grows.
     pub buckets: u64,
+}
+
+impl Lookup {
+    /// The words of the answer that the library writes.
+    pub const WORDS: usize = 5;
+
+    /// What an answer of the library means, [`raw::ragansils_query`](crate::raw::ragansils_query): its number, and the words that it wrote.
+    /// An absent key is no refusal here.
+    #[inline]
+    pub fn of_words(number: u64, words: [u64; Lookup::WORDS]) -> Result<Lookup, Refusal> {
+        let [function, place, buckets, word, level] = words;
+        if number == Refusal::KeyAbsent.number() {
+            return Ok(Lookup { found: None, buckets });
+        }
+        Refusal::check(number)?;
+        let slot = Slot { word: word as usize, level: Level::of_number(level) };
+        Ok(Lookup { found: Some(Found { record: Record { function, place }, slot }), buckets })
+    }
+
+    /// The key's record; none where the key is absent.
+    #[inline]
+    pub fn record(&self) -> Option<Record> {
+        self.found.map(|found| found.record)
+    }
 }
 
 /// A chain's answer.

@@ -6,7 +6,7 @@
 
 extern "C" {
     pub fn ragansils_create(table: *mut u64, words: usize, c: u64, k: u64, mul1: u64, mul2: u64) -> u64;
-    pub fn ragansils_query(table: *const u64, words: usize, key: u64, answer: *mut [u64; 3]) -> u64;
+    pub fn ragansils_query(table: *const u64, words: usize, key: u64, answer: *mut [u64; 5]) -> u64;
     pub fn ragansils_chain(
         table: *const u64,
         words: usize,

@@ -20,9 +20,9 @@ use crate::{calls, Creation, Frames, Key, Lookup, Platform, Record, Refusal, Ste
 /// table.insert(key, Record { function: 7, place: 120 })?;
 /// assert_eq!(table.insert(key, Record { function: 8, place: 0 }), Err(Refusal::KeyPresent));
 /// table.update(key, Record { function: 7, place: 123 })?;
-/// assert_eq!(table.query(key)?.record, Some(Record { function: 7, place: 123 }));
+/// assert_eq!(table.query(key)?.record(), Some(Record { function: 7, place: 123 }));
 /// table.delete(key)?;
-/// assert_eq!(table.query(key)?.record, None);
+/// assert_eq!(table.query(key)?.record(), None);
 /// # Ok::<(), Refusal>(())
 /// ```
 #[derive(Debug)]
@@ -55,7 +55,8 @@ impl<W: AsRef<[u64]> + AsMut<[u64]>, P: Platform> Table<W, P> {
         Ok(table)
     }
 
-    /// Looks a key up. Refusals: `BadHeader`, `FlagSet`; neither comes on a table that was opened or created.
+    /// Looks a key up: its record, and where that stands. Refusals: `BadHeader`, `FlagSet`; neither comes on a table that was opened or
+    /// created.
     #[inline]
     pub fn query(&self, key: Key) -> Result<Lookup, Refusal> {
         calls::query(self.words(), key)

@@ -31,7 +31,7 @@ fn what_is_stored_is_there_after_reopening() {
     assert_eq!(fs::metadata(&path).unwrap().len(), 8 * CREATION.words().unwrap() as u64);
 
     let table = Table::open(MappedFile::open(&path).unwrap(), OrdinaryMemory).unwrap();
-    assert_eq!(table.query(1.into()).unwrap().record, Some(RECORD));
+    assert_eq!(table.query(1.into()).unwrap().record(), Some(RECORD));
     assert_eq!(fs::read(&path).unwrap(), bytes_of(table.words()));
 }
 

@@ -77,7 +77,7 @@ fn updated_3(words: &[u64]) -> Result<StoreList, Refusal> {
 
 /// The records of all keys that these tests use.
 fn map_of(words: &[u64]) -> Vec<Option<Record>> {
-    (0..20).map(|key| calls::query(words, Key::from(key)).unwrap().record).collect()
+    (0..20).map(|key| calls::query(words, Key::from(key)).unwrap().record()).collect()
 }
 
 #[test]
@@ -135,7 +135,7 @@ fn open_mends_and_may_be_cut_too() {
         let mut words = half_updated.clone();
         assert!(cut(&mut words, kept, |_| ()));
         let table = Table::open(words.as_mut_slice(), OrdinaryMemory).unwrap();
-        assert_eq!(table.query(3.into()).unwrap().record, Some(NEW));
+        assert_eq!(table.query(3.into()).unwrap().record(), Some(NEW));
         assert_eq!(calls::recover(&words).unwrap().count(), 0);
     }
     assert!(!cut(&mut half_updated.clone(), 4, |_| ()));
@@ -235,7 +235,7 @@ fn a_growth_without_a_place_goes_on_once_there_is_one() {
         table.insert(key.into(), NEW).unwrap();
     }
     assert_eq!(table.grow(10), Err(Refusal::NoPlace));
-    assert_eq!(table.query(0.into()).unwrap().record, Some(NEW));
+    assert_eq!(table.query(0.into()).unwrap().record(), Some(NEW));
     table.delete(32.into()).unwrap();
     assert_eq!(table.grow_on(), Ok(Growth::Moved));
 }
@@ -277,7 +277,7 @@ fn a_step_goes_on_from_the_bucket_that_it_is_told() {
         from = step.bucket;
     }
     assert_eq!(table.end(), Ok(1));
-    assert!((0..48).all(|key| table.query(key.into()).unwrap().record == Some(record_of(key))));
+    assert!((0..48).all(|key| table.query(key.into()).unwrap().record() == Some(record_of(key))));
 }
 
 #[test]

@@ -21,14 +21,15 @@ uint64_t twin_create(uint64_t *table, size_t words, uint64_t c, uint64_t k, uint
 }
 
 /* A query's answer where there is no record. */
-static uint64_t unknown(uint64_t answer[3], uint64_t probes, enum ragansils_refusal refusal)
+static uint64_t unknown(uint64_t answer[RAGANSILS_ANSWER_WORDS], uint64_t probes, enum ragansils_refusal refusal)
 {
     answer[0] = answer[1] = 0;
     answer[2] = probes;
+    answer[3] = answer[4] = 0;
     return refusal;
 }
 
-uint64_t twin_query(const uint64_t *table, size_t words, uint64_t key, uint64_t answer[3])
+uint64_t twin_query(const uint64_t *table, size_t words, uint64_t key, uint64_t answer[RAGANSILS_ANSWER_WORDS])
 {
     const struct table *t = (const struct table *)table;
     enum ragansils_refusal refusal = first_tests(t, words);
@@ -37,9 +38,12 @@ uint64_t twin_query(const uint64_t *table, size_t words, uint64_t key, uint64_t 
     struct found found = find(t, key, hashes_of(t, key));
     if (found.bucket == NULL)
         return unknown(answer, found.probes, RAGANSILS_KEY_ABSENT);
-    answer[0] = found.bucket->slots[found.slot].function;
-    answer[1] = found.bucket->slots[found.slot].place;
+    const struct slot *slot = &found.bucket->slots[found.slot];
+    answer[0] = slot->function;
+    answer[1] = slot->place;
     answer[2] = found.probes;
+    answer[3] = &slot->key - table;
+    answer[4] = found.level;
     return RAGANSILS_DONE;
 }
 

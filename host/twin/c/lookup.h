@@ -4,11 +4,15 @@
 
 #include "table.h"
 
-/* What a search found: the slot with the key, or no bucket; and the number of buckets looked at. */
+/* What a search found: the slot with the key and its level, or no bucket; and the number of buckets looked at. Where a compiler does not
+ * inline the search, so few bytes come back in two registers. */
 struct found {
     const struct bucket *bucket;
-    unsigned slot, probes;
+    uint16_t slot, level;
+    unsigned probes;
 };
+
+_Static_assert(sizeof(struct found) == 16, "two registers");
 
 /* The taken slot of a bucket with the key, or SLOTS. */
 static inline unsigned slot_with(const struct bucket *b, uint64_t key)
@@ -28,15 +32,15 @@ static inline struct found find(const struct table *t, uint64_t key, struct hash
         probes++;
         unsigned s = slot_with(first, key);
         if (s < SLOTS)
-            return (struct found){first, s, probes};
+            return (struct found){first, s, level, probes};
         if (second == first)
             continue;
         probes++;
         s = slot_with(second, key);
         if (s < SLOTS)
-            return (struct found){second, s, probes};
+            return (struct found){second, s, level, probes};
     }
-    return (struct found){NULL, 0, probes};
+    return (struct found){NULL, 0, 0, probes};
 }
 
 /* The first tests of an insert, then 4 where the key stands; and the hashes of one that does not. */

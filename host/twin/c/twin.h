@@ -17,8 +17,7 @@
 
 uint64_t twin_create(uint64_t *table, size_t words, uint64_t c, uint64_t k, uint64_t mul1, uint64_t mul2);
 
-/* answer: function, place and the number of buckets looked at. */
-uint64_t twin_query(const uint64_t *table, size_t words, uint64_t key, uint64_t answer[3]);
+uint64_t twin_query(const uint64_t *table, size_t words, uint64_t key, uint64_t answer[RAGANSILS_ANSWER_WORDS]);
 
 uint64_t twin_insert(uint64_t *table, size_t words, uint64_t key, uint64_t function, uint64_t place);
 uint64_t twin_update(uint64_t *table, size_t words, uint64_t key, uint64_t function, uint64_t place);

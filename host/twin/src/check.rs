@@ -2,12 +2,14 @@
 
 use std::collections::BTreeSet;
 
+use ragansils::Lookup;
 use ragansils_compare::damage::damage;
 use ragansils_compare::history::{next_event, Keys, Mood, Setting};
 use ragansils_compare::random::Random;
 use ragansils_compare::starts::{interim_buckets, Start};
 use ragansils_compare::stuck_items::{step_by_inserts, Kind, StepTally};
 use ragansils_compare::stuck_tables::{history_to, kinds_before};
+use ragansils_compare::told_slots::LevelTally;
 use ragansils_model::{table_words, Event, SUCCESS};
 use ragansils_twin::{ListingTwin, Proved, Side, Twin};
 
@@ -19,6 +21,8 @@ pub struct Seen {
     pub calls: u64,
     /// Every answer, 0 among them.
     pub numbers: BTreeSet<u64>,
+    /// In which levels queries found their keys.
+    pub levels: LevelTally,
     /// Recoveries that mended a table: by one store, and by three.
     pub doubled: u64,
     pub flagged: u64,
@@ -207,11 +211,17 @@ fn both_create(seen: &mut Seen, setting: Setting, garbage: &[u64]) -> Result<Vec
 }
 
 fn both_query(seen: &mut Seen, table: &[u64], key: u64) -> Result<(), String> {
-    let (number, answer) = Proved::default().query(table, key);
-    let (twin_number, twin_answer) = Twin.query(table, key);
+    // No words of an answer, so that one which is not written is seen.
+    let (mut answer, mut twin_answer) = ([u64::MAX; Lookup::WORDS], [u64::MAX; Lookup::WORDS]);
+    let number = Proved::default().query(table, key, &mut answer);
+    let twin_number = Twin.query(table, key, &mut twin_answer);
     seen.note(number);
     let what = || format!("query key={key}");
-    same(what, table, (number, answer.to_vec()), (twin_number, twin_answer.to_vec())).map(|_| ())
+    same(what, table, (number, answer.to_vec()), (twin_number, twin_answer.to_vec()))?;
+    if let Ok(Lookup { found: Some(found), .. }) = Lookup::of_words(number, answer) {
+        seen.levels.count(found.slot.level);
+    }
+    Ok(())
 }
 
 fn both_change(seen: &mut Seen, table: &[u64], event: Event) -> Result<(u64, Vec<u64>), String> {

@@ -10,6 +10,7 @@ mod twin;
 pub use proved::Proved;
 pub use twin::{ListingTwin, Twin};
 
+use ragansils::{Lookup, Refusal};
 use ragansils_model::Event;
 
 /// The compiler of the twin, with its options.
@@ -19,8 +20,16 @@ pub const TWIN_COMPILER: &str = env!("RAGANSILS_TWIN_CC");
 pub trait Side {
     fn create(&mut self, table: &mut [u64], c: u64, k: u64, mul1: u64, mul2: u64) -> u64;
 
-    /// The number, then function, place and the number of buckets looked at.
-    fn query(&self, table: &[u64], key: u64) -> (u64, [u64; 3]);
+    /// The words of the answer are those of `include/ragansils.h`.
+    fn query(&self, table: &[u64], key: u64, answer: &mut [u64; Lookup::WORDS]) -> u64;
+
+    /// What a query's answer means.
+    #[inline(always)]
+    fn look_up(&self, table: &[u64], key: u64) -> Result<Lookup, Refusal> {
+        let mut answer = [0; Lookup::WORDS];
+        let number = self.query(table, key, &mut answer);
+        Lookup::of_words(number, answer)
+    }
 
     /// Brings the table to what it is after the whole event.
     fn change(&mut self, table: &mut [u64], event: Event) -> u64;

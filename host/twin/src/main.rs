@@ -9,10 +9,14 @@ use ragansils_compare::stuck_items::Way;
 use ragansils_compare::{program, say};
 use ragansils_twin::TWIN_COMPILER;
 
+use crate::check::Seen;
+
 /// From so many calls on, an answer or a kind of step that never came fails the run: it would have compared too little.
 const TELLING_CALLS: u64 = 100_000;
 /// Among so many calls each answer of a step from each kind of start is met so often at least.
 const LEAST_OF_EACH_START: u64 = 15;
+/// And queries find so many keys in each level.
+const LEAST_OF_EACH_LEVEL: u64 = 100;
 
 fn main() -> ExitCode {
     program::run(|arguments| run(arguments).map(|report| say!("{report}")))
@@ -24,28 +28,16 @@ fn run(arguments: &[String]) -> Result<String, String> {
         Ok(&[seed, calls]) => (seed, calls),
         _ => return Err("usage: twin-check SEED CALLS".to_string()),
     };
-    let seen = check::run(seed, calls).map_err(|what| format!("seed {seed}: {what}"))?;
-    if seen.calls == 0 {
-        return Err("no calls were compared".to_string());
-    }
-    let missing: Vec<u64> = possible_answers().filter(|number| !seen.numbers.contains(number)).collect();
-    if calls >= TELLING_CALLS && (!missing.is_empty() || seen.doubled == 0 || seen.flagged == 0) {
-        return Err(format!("seed {seed}: never met: answers {missing:?}, or a kind of recovery"));
-    }
-    let missing_steps = seen.steps.unseen();
-    if calls >= TELLING_CALLS && !missing_steps.is_empty() {
-        return Err(format!("seed {seed}: never met: steps {missing_steps:?}"));
-    }
-    let least = calls / TELLING_CALLS * LEAST_OF_EACH_START;
-    let rare_starts = seen.starts.rare(least);
-    if !rare_starts.is_empty() {
-        return Err(format!("seed {seed}: steps that go on, met less than {least} times: {rare_starts:?}"));
-    }
+    let seen = check::run(seed, calls).and_then(|seen| demand(&seen, calls).map(|()| seen));
+    let seen = seen.map_err(|what| format!("seed {seed}: {what}"))?;
+    let levels: Vec<String> =
+        seen.levels.found.iter().map(|(level, keys)| format!("{keys} {level}")).collect();
     Ok(format!(
         "{} calls of the twin ({TWIN_COMPILER}) and of the proved library: the same answers and words; seed {seed}; \
-         {} doubled and {} flagged tables recovered; steps past stuck items: {} to a free slot, {} by a move; \
+         keys found by level: {}; {} doubled and {} flagged tables recovered; steps past stuck items: {} to a free slot, {} by a move; \
          {} steps from some start; passes that went on: {} to the end, {} with stuck items left",
         seen.calls,
+        levels.join(", "),
         seen.doubled,
         seen.flagged,
         seen.steps.past_stuck_items(Way::FreeSlot),
@@ -54,6 +46,32 @@ fn run(arguments: &[String]) -> Result<String, String> {
         seen.starts.passes_to_the_end,
         seen.starts.passes_with_items_left
     ))
+}
+
+/// Says what a run of so many calls should have met.
+fn demand(seen: &Seen, calls: u64) -> Result<(), String> {
+    if seen.calls == 0 {
+        return Err("no calls were compared".to_string());
+    }
+    let missing: Vec<u64> = possible_answers().filter(|number| !seen.numbers.contains(number)).collect();
+    if calls >= TELLING_CALLS && (!missing.is_empty() || seen.doubled == 0 || seen.flagged == 0) {
+        return Err(format!("never met: answers {missing:?}, or a kind of recovery"));
+    }
+    let missing_steps = seen.steps.unseen();
+    if calls >= TELLING_CALLS && !missing_steps.is_empty() {
+        return Err(format!("never met: steps {missing_steps:?}"));
+    }
+    let telling = calls / TELLING_CALLS;
+    let rare_levels = seen.levels.rare(telling * LEAST_OF_EACH_LEVEL);
+    if !rare_levels.is_empty() {
+        return Err(format!("levels in which queries seldom found a key: {rare_levels:?}"));
+    }
+    let least = telling * LEAST_OF_EACH_START;
+    let rare_starts = seen.starts.rare(least);
+    if !rare_starts.is_empty() {
+        return Err(format!("steps that go on, met less than {least} times: {rare_starts:?}"));
+    }
+    Ok(())
 }
 
 /// All but 2 and 14, which need a list.

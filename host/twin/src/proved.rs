@@ -1,6 +1,6 @@
 //! The proved library's side.
 
-use ragansils::raw;
+use ragansils::{raw, Lookup};
 use ragansils_compare::library::list_event;
 use ragansils_model::{Event, LEAST_LIST_WORDS, SUCCESS};
 
@@ -67,11 +67,9 @@ impl Side for Proved {
     }
 
     #[inline(always)]
-    fn query(&self, table: &[u64], key: u64) -> (u64, [u64; 3]) {
-        let mut answer = [0; 3];
-        // SAFETY: the table's pointer is valid for the length beside it, and the answer has three words.
-        let number = unsafe { raw::ragansils_query(table.as_ptr(), table.len(), key, &mut answer) };
-        (number, answer)
+    fn query(&self, table: &[u64], key: u64, answer: &mut [u64; Lookup::WORDS]) -> u64 {
+        // SAFETY: the table's pointer is valid for the length beside it, and the answer is a buffer of its own.
+        unsafe { raw::ragansils_query(table.as_ptr(), table.len(), key, answer) }
     }
 
     #[inline(always)]

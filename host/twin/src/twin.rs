@@ -1,17 +1,24 @@
 //! The twin's side.
 
 use ragansils::raw::ragansils_make;
+use ragansils::Lookup;
 use ragansils_model::{Event, LEAST_LIST_WORDS, SUCCESS};
 
 use crate::Side;
 
 /// As `c/twin.h` has them.
 mod raw {
+    use ragansils::Lookup;
     use ragansils_model::LEAST_LIST_WORDS;
 
     extern "C" {
         pub fn twin_create(table: *mut u64, words: usize, c: u64, k: u64, mul1: u64, mul2: u64) -> u64;
-        pub fn twin_query(table: *const u64, words: usize, key: u64, answer: *mut u64) -> u64;
+        pub fn twin_query(
+            table: *const u64,
+            words: usize,
+            key: u64,
+            answer: *mut [u64; Lookup::WORDS],
+        ) -> u64;
         pub fn twin_insert(table: *mut u64, words: usize, key: u64, function: u64, place: u64) -> u64;
         pub fn twin_update(table: *mut u64, words: usize, key: u64, function: u64, place: u64) -> u64;
         pub fn twin_delete(table: *mut u64, words: usize, key: u64) -> u64;
@@ -41,11 +48,9 @@ impl Side for Twin {
     }
 
     #[inline(always)]
-    fn query(&self, table: &[u64], key: u64) -> (u64, [u64; 3]) {
-        let mut answer = [0; 3];
-        // SAFETY: the table's pointer is valid for the length beside it, and the answer has three words.
-        let number = unsafe { raw::twin_query(table.as_ptr(), table.len(), key, answer.as_mut_ptr()) };
-        (number, answer)
+    fn query(&self, table: &[u64], key: u64, answer: &mut [u64; Lookup::WORDS]) -> u64 {
+        // SAFETY: the table's pointer is valid for the length beside it, and the answer is a buffer of its own.
+        unsafe { raw::twin_query(table.as_ptr(), table.len(), key, answer) }
     }
 
     #[inline(always)]
@@ -91,8 +96,8 @@ impl Side for ListingTwin {
         Twin.create(table, c, k, mul1, mul2)
     }
 
-    fn query(&self, table: &[u64], key: u64) -> (u64, [u64; 3]) {
-        Twin.query(table, key)
+    fn query(&self, table: &[u64], key: u64, answer: &mut [u64; Lookup::WORDS]) -> u64 {
+        Twin.query(table, key, answer)
     }
 
     #[inline(always)]

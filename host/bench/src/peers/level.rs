@@ -2,7 +2,7 @@
 
 use ragansils::Creation;
 use ragansils_counts::{LevelTable, Record};
-use ragansils_model::{Event, SUCCESS};
+use ragansils_model::Event;
 use ragansils_twin::Side;
 
 use super::Peer;
@@ -25,10 +25,8 @@ impl<S: Side> Peer for LevelPeer<S> {
 
     #[inline(always)]
     fn get(&self, key: u64) -> Option<Record> {
-        match self.table.side.query(&self.table.words, key) {
-            (SUCCESS, [function, place, _]) => Some([function, place]),
-            _ => None,
-        }
+        let record = self.table.side.look_up(&self.table.words, key).ok()?.record()?;
+        Some([record.function, record.place])
     }
 
     #[inline(always)]

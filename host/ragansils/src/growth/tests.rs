@@ -7,7 +7,7 @@ use std::ops::Range;
 use std::panic::{catch_unwind, resume_unwind, AssertUnwindSafe};
 
 use super::*;
-use crate::{Creation, Key, OrdinaryMemory, Record, MULTIPLIER_1, MULTIPLIER_2};
+use crate::{Creation, Key, Level, OrdinaryMemory, Record, MULTIPLIER_1, MULTIPLIER_2};
 
 type OwnTable = Table<Vec<u64>, OrdinaryMemory>;
 
@@ -24,7 +24,7 @@ fn opened(words: &[u64]) -> OwnTable {
 }
 
 fn holds(words: &[u64], keys: &[u64]) -> bool {
-    let has = |&key: &u64| calls::query(words, key.into()).unwrap().record == Some(record_of(key));
+    let has = |&key: &u64| calls::query(words, key.into()).unwrap().record() == Some(record_of(key));
     keys.iter().all(has)
 }
 
@@ -99,10 +99,9 @@ impl Blocked {
         4 * (self.interim_buckets - (self.stuck_buckets.end - self.stuck_buckets.start))
     }
 
-    /// Found in the third bucket looked at.
     fn is_interim(&self, key: u64) -> bool {
-        let lookup = self.table.query(key.into()).unwrap();
-        lookup.record.is_some() && lookup.buckets == 3
+        let found = self.table.query(key.into()).unwrap().found;
+        found.map_or(false, |found| found.slot.level == Level::Interim)
     }
 
     fn interim_keys(&self) -> Vec<u64> {
@@ -321,7 +320,7 @@ fn a_growth_goes_on_between_other_changes() {
                 part => assert!(part.is_ok() || part == Err(Refusal::NoPlace)),
             }
         }
-        let told = |key: &u64| table.query((*key).into()).unwrap().record;
+        let told = |key: &u64| table.query((*key).into()).unwrap().record();
         assert!(map.iter().all(|(key, &record)| told(key) == Some(record)), "c = {c}, {tenths} tenths");
         assert_eq!(calls::recover(table.words()).unwrap().count(), 0);
     }

@@ -1,0 +1,165 @@
+//! Where a query tells that its key stands: held to the words of the table by the layout of document 01, and counted by level. The layout is
+//! written here once more, so that the model is not asked.
+
+use std::collections::BTreeMap;
+
+use ragansils::Level;
+use ragansils_model::SUCCESS;
+
+const STATE: usize = 4;
+const HEADER_WORDS: usize = 9;
+const BUCKET_WORDS: usize = 13;
+const SLOT_WORDS: usize = 3;
+const SLOTS: usize = 4;
+/// "state: k + 256·phase"; a table grows in phase 1.
+const PHASE_UNIT: u64 = 256;
+
+/// The level in which a query found its key; none with a refusal. Or says what is wrong with where it tells the key to stand.
+pub fn check(table: &[u64], key: u64, number: u64, answer: &[u64]) -> Result<Option<Level>, String> {
+    let (function, place, word, level) = match *answer {
+        [function, place, _buckets, word, level] => (function, place, word, level),
+        _ => return Err(format!("an answer of {} words", answer.len())),
+    };
+    if number != SUCCESS {
+        let is_none = (word, level) == (0, 0);
+        return if is_none { Ok(None) } else { Err(format!("word {word} and level {level} with a refusal")) };
+    }
+    let level = level_of(level).ok_or_else(|| format!("there is no level {level}"))?;
+    let words = slot_words(table, word).ok_or_else(|| format!("word {word} is no taken slot's key word"))?;
+    if *words != [key, function, place] {
+        return Err(format!("at word {word} stand {words:?}, and not the key and its record"));
+    }
+    match is_in_level(table, word, level) {
+        true => Ok(Some(level)),
+        false => Err(format!("word {word} is not in the {level} level")),
+    }
+}
+
+/// The level of a number, as answers tell it.
+pub fn level_of(number: u64) -> Option<Level> {
+    Level::ALL.into_iter().find(|level| level.number() == number)
+}
+
+/// The three words of a taken slot, by the index of the first: "Bucket j starts at word 9 + 13j: one token word, then four slots of three
+/// words", and "Token bit s is 1 when slot s is taken".
+fn slot_words(table: &[u64], word: u64) -> Option<&[u64]> {
+    let word = usize::try_from(word).ok()?;
+    let (bucket, offset) = bucket_and_offset(word)?;
+    let slot = offset.checked_sub(1)? / SLOT_WORDS;
+    let is_key_word = slot < SLOTS && offset == 1 + SLOT_WORDS * slot;
+    let is_taken = table.get(HEADER_WORDS + BUCKET_WORDS * bucket)? >> slot & 1 == 1;
+    table.get(word..word + SLOT_WORDS).filter(|_| is_key_word && is_taken)
+}
+
+/// The bucket of a word, and its place in it.
+fn bucket_and_offset(word: usize) -> Option<(usize, usize)> {
+    let behind_header = word.checked_sub(HEADER_WORDS)?;
+    Some((behind_header / BUCKET_WORDS, behind_header % BUCKET_WORDS))
+}
+
+/// "A level of M buckets is always buckets M - 1 to 2M - 2. The top has 2^k buckets, the bottom half that; while growing, an interim level
+/// has a quarter."
+fn is_in_level(table: &[u64], word: u64, level: Level) -> bool {
+    let (k, phase) = (table[STATE] % PHASE_UNIT, table[STATE] / PHASE_UNIT);
+    let in_use = if phase == 1 { 3 } else { 2 };
+    let buckets = 1 << (k - level.number());
+    let bucket = bucket_and_offset(word as usize).map(|(bucket, _)| bucket);
+    level.number() < in_use && bucket.map_or(false, |bucket| (buckets - 1..2 * buckets - 1).contains(&bucket))
+}
+
+/// In which levels queries found their keys.
+#[derive(Default)]
+pub struct LevelTally {
+    pub found: BTreeMap<Level, u64>,
+}
+
+impl LevelTally {
+    pub fn count(&mut self, level: Level) {
+        *self.found.entry(level).or_default() += 1;
+    }
+
+    /// The levels in which fewer keys were found than this.
+    pub fn rare(&self, least: u64) -> Vec<String> {
+        let found = |level| self.found.get(&level).copied().unwrap_or(0);
+        let rare = Level::ALL.into_iter().filter(|&level| found(level) < least);
+        rare.map(|level| format!("{level}: {}", found(level))).collect()
+    }
+}
+
+#[cfg(test)]
+mod tests {
+    use super::*;
+    use crate::test_table::{change, table_of};
+    use ragansils_model::Event;
+
+    /// Keys 1, 3, 5 and 7 in bucket 2, which is of the top; 9 and 11 in bucket 0, the bottom.
+    fn table() -> Vec<u64> {
+        table_of(&[1, 3, 5, 7, 9, 11].map(|key| [key, 100 + key, 200 + key]))
+    }
+
+    fn told(table: &[u64], key: u64, word: u64, level: u64) -> Result<Option<Level>, String> {
+        check(table, key, SUCCESS, &[100 + key, 200 + key, 1, word, level])
+    }
+
+    #[test]
+    fn a_slot_is_told_by_its_word_and_level() {
+        let mut table = table();
+        assert_eq!(told(&table, 3, 39, 0), Ok(Some(Level::Top)));
+        assert_eq!(told(&table, 11, 13, 1), Ok(Some(Level::Bottom)));
+        change(&mut table, Event::Begin);
+        assert_eq!(told(&table, 3, 39, 1), Ok(Some(Level::Bottom)));
+        assert_eq!(told(&table, 11, 13, 2), Ok(Some(Level::Interim)));
+    }
+
+    #[test]
+    fn a_wrong_word_is_found() {
+        let table = table();
+        // The token word, the function's word, another slot's, the header, and past the table's end.
+        for word in [35, 40, 36, 6, 0, 48, 99, 100, 101, u64::MAX] {
+            assert!(told(&table, 3, word, 0).is_err(), "word {word}");
+        }
+        // A free slot that has the same words.
+        let mut free = table.clone();
+        free[35] = 13;
+        assert!(told(&free, 3, 39, 0).is_err() && told(&free, 5, 42, 0).is_ok());
+    }
+
+    #[test]
+    fn a_wrong_level_is_found() {
+        let mut table = table();
+        // The level's size, another level, and one that is not in use.
+        for level in [1, 2, 3, u64::MAX] {
+            assert!(told(&table, 3, 39, level).is_err(), "level {level}");
+        }
+        assert!(told(&table, 11, 13, 0).is_err() && told(&table, 11, 13, 2).is_err());
+        change(&mut table, Event::Begin);
+        assert!(told(&table, 11, 13, 1).is_err() && told(&table, 3, 39, 0).is_err());
+    }
+
+    #[test]
+    fn a_wrong_record_is_found() {
+        let table = table();
+        assert!(check(&table, 3, SUCCESS, &[104, 203, 1, 39, 0]).is_err());
+        assert!(check(&table, 3, SUCCESS, &[103, 204, 1, 39, 0]).is_err());
+        assert!(check(&table, 4, SUCCESS, &[103, 203, 1, 39, 0]).is_err());
+        assert!(check(&table, 3, SUCCESS, &[103, 203, 1]).is_err());
+    }
+
+    #[test]
+    fn a_refusal_tells_no_slot() {
+        let table = table();
+        assert_eq!(check(&table, 2, 5, &[0, 0, 2, 0, 0]), Ok(None));
+        assert!(check(&table, 2, 5, &[0, 0, 2, 39, 0]).is_err());
+        assert!(check(&table, 2, 3, &[0, 0, 0, 0, 1]).is_err());
+    }
+
+    #[test]
+    fn levels_that_were_seldom_met_are_told() {
+        let mut tally = LevelTally::default();
+        for level in [Level::Top, Level::Top, Level::Interim] {
+            tally.count(level);
+        }
+        assert_eq!(tally.rare(1), ["bottom: 0"]);
+        assert_eq!(tally.rare(2), ["bottom: 0", "interim: 1"]);
+    }
+}
