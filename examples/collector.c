@@ -240,17 +240,25 @@ static void unload_function(struct collector *collector, struct counts *counts, 
     }
 }
 
+/* Where an answer stood. A word is eight bytes: whoever is sent the table finds key, function and line from byte 8 * word on. */
+static void tell_slot(uint64_t word, uint64_t level)
+{
+    static const char *const names[] = { [RAGANSILS_TOP] = "top", [RAGANSILS_BOTTOM] = "bottom", [RAGANSILS_INTERIM] = "interim" };
+    printf("    it stands in word %" PRIu64 ", in the %s level\n", word, names[level]);
+}
+
 static void answer_sample(const struct collector *collector, uint64_t function, uint64_t depth)
 {
     uint64_t answer[RAGANSILS_ANSWER_WORDS];
     uint64_t number = ragansils_query(collector->table, collector->words, key_of(function, depth), answer);
     printf("  sample of function %" PRIu64 " at depth %" PRIu64 ": ", function, depth);
-    if (number == RAGANSILS_DONE)
-        printf("function %" PRIu64 ", line %" PRIu64 "\n", answer[0], answer[1]);
-    else if (number == RAGANSILS_KEY_ABSENT)
+    if (number == RAGANSILS_KEY_ABSENT) {
         printf("not known\n");
-    else
-        must("query", number);
+        return;
+    }
+    must("query", number);
+    printf("function %" PRIu64 ", line %" PRIu64 "\n", answer[0], answer[1]);
+    tell_slot(answer[3], answer[4]);
 }
 
 /* All frames of a sample, the innermost first. Where one of them is missing there are none: a gap would name a wrong caller. */

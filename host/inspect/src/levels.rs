@@ -1,23 +1,25 @@
 //! How full the levels are.
 
-use ragansils_model::{Level, Slot, Table, SLOTS_PER_BUCKET};
+use std::fmt::Display;
 
-const NAMES: [&str; 3] = ["top", "bottom", "interim"];
+use ragansils::Level as Name;
+use ragansils_model::{Level, Slot, Table, SLOTS_PER_BUCKET};
 
 /// The width of a drawing, at most.
 const CELLS: usize = 64;
 
 /// The level in use that a slot stands in.
-pub fn name_of(table: &Table, slot: Slot) -> &'static str {
+pub fn name_of(table: &Table, slot: Slot) -> String {
     let holds = |level: &Level| level.buckets().contains(&slot.bucket);
-    table.levels_in_use().iter().position(holds).map_or("unused", |index| NAMES[index])
+    let index = table.levels_in_use().iter().position(holds);
+    index.map_or("unused".to_string(), |index| Name::ALL[index].to_string())
 }
 
 /// Each level in use with its fill, and its buckets drawn.
 pub fn lines(table: &Table) -> Vec<String> {
     let levels = table.levels_in_use();
     let mut lines = vec![];
-    for (level, name) in levels.iter().zip(NAMES) {
+    for (level, name) in levels.iter().zip(Name::ALL) {
         lines.push(fill_line(name, level.size, taken_in(table, *level)));
     }
     let (buckets, taken) = levels
@@ -25,7 +27,7 @@ pub fn lines(table: &Table) -> Vec<String> {
         .fold((0, 0), |(buckets, taken), level| (buckets + level.size, taken + taken_in(table, *level)));
     lines.push(fill_line("in all", buckets, taken));
     lines.push(format!("buckets, each by its taken slots{}:", cell_note(&levels)));
-    for (level, name) in levels.iter().zip(NAMES) {
+    for (level, name) in levels.iter().zip(Name::ALL) {
         lines.push(format!("{name:<8} |{}|", drawing(table, *level)));
     }
     lines
@@ -35,7 +37,7 @@ fn taken_in(table: &Table, level: Level) -> usize {
     level.buckets().map(|bucket| table.taken_count(bucket) as usize).sum()
 }
 
-fn fill_line(name: &str, buckets: usize, taken: usize) -> String {
+fn fill_line(name: impl Display, buckets: usize, taken: usize) -> String {
     let slots = buckets * SLOTS_PER_BUCKET;
     let percent = 100.0 * taken as f64 / slots as f64;
     let full = taken * 20 / slots;

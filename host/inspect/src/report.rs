@@ -3,7 +3,8 @@
 use ragansils::{calls, Refusal};
 use ragansils_model::Table;
 
-use crate::file::{Content, BYTES_PER_WORD};
+use crate::file::Content;
+use crate::text::{with_faults, Text};
 use crate::{faults, header, levels, recovery};
 
 /// What recovery would do.
@@ -14,36 +15,14 @@ pub enum Verdict {
     Refused,
 }
 
-#[derive(Default)]
-struct Text {
-    text: String,
-}
-
-impl Text {
-    fn part(&mut self, title: &str, lines: Vec<String>) {
-        self.text.push_str(title);
-        self.text.push('\n');
-        for line in lines {
-            self.text.push_str(&format!("  {line}\n"));
-        }
-    }
-}
-
 pub fn report(name: &str, content: &Content) -> (String, Verdict) {
-    let mut text = Text::default();
-    let words = content.length / BYTES_PER_WORD;
-    text.part(&format!("{name}: {} bytes, {words} words", content.length), vec![]);
-    if content.changing {
-        let warning =
-            "it changes while it is read: a collector is at work, and what follows may be of several moments";
-        text.part(&format!("  {warning}"), vec![]);
-    }
+    let mut text = Text::of_file(name, content);
     text.part("header", header::lines(&content.words));
     let verdict = match Table::read(&content.words) {
         Ok(table) if header::faults(content).is_empty() => table_parts(&mut text, &table, &content.words),
         _ => no_table(&mut text, content),
     };
-    (text.text, verdict)
+    (text.finish(), verdict)
 }
 
 fn no_table(text: &mut Text, content: &Content) -> Verdict {
@@ -71,11 +50,6 @@ fn table_parts(text: &mut Text, table: &Table, words: &[u64]) -> Verdict {
             Verdict::Refused
         }
     }
-}
-
-fn with_faults(title: &str, faults: Vec<String>) -> Vec<String> {
-    let faults = faults.into_iter().map(|fault| format!("- {fault}"));
-    std::iter::once(title.to_string()).chain(faults).collect()
 }
 
 fn refusal_line(refusal: Refusal) -> String {

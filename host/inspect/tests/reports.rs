@@ -1,15 +1,12 @@
 //! What the program tells of sound, cut and damaged tables, and of files that are none.
 
-use std::fs;
-use std::path::{Path, PathBuf};
-use std::process::Output;
+mod common;
 
-use ragansils::{bytes_of, calls, Creation, Record, Refusal};
+use ragansils::{bytes_of, calls, Creation, Refusal};
 use ragansils_compare::damage::damage;
 use ragansils_compare::random::Random;
-use ragansils_compare::runner::built;
 
-const MARKED: Creation = Creation { capacity: 2, first_top: 1, multipliers: [4294967297, 12884901889] };
+use common::{empty, has, path, run, table, told_of, told_of_bytes, with, MARKED};
 
 /// The exit statuses.
 const SOUND: i32 = 0;
@@ -17,61 +14,6 @@ const FAILED: i32 = 1;
 const WRONG_USAGE: i32 = 2;
 const MENDABLE: i32 = 3;
 const REFUSED: i32 = 4;
-
-/// A file of its own for each test.
-fn path(name: &str) -> PathBuf {
-    Path::new(env!("CARGO_TARGET_TMPDIR")).join(name)
-}
-
-fn run(arguments: &[&str]) -> Output {
-    built(env!("CARGO_BIN_EXE_ragansils-inspect")).args(arguments).output().unwrap()
-}
-
-/// What is told of a file of these bytes, and the exit status.
-fn told_of_bytes(name: &str, bytes: &[u8]) -> (String, i32) {
-    let path = path(name);
-    fs::write(&path, bytes).unwrap();
-    let output = run(&[path.to_str().unwrap()]);
-    assert!(output.stderr.is_empty(), "{}", String::from_utf8_lossy(&output.stderr));
-    assert_eq!(fs::read(&path).unwrap(), bytes, "the file is only read");
-    (String::from_utf8(output.stdout).unwrap(), output.status.code().unwrap())
-}
-
-fn told_of(name: &str, words: &[u64]) -> (String, i32) {
-    told_of_bytes(name, &bytes_of(words))
-}
-
-fn has(told: (String, i32), status: i32, lines: &[&str]) {
-    assert_eq!(told.1, status, "{}", told.0);
-    for line in lines {
-        assert!(told.0.lines().any(|told| told.trim() == *line), "no line '{line}' in\n{}", told.0);
-    }
-}
-
-fn empty(creation: &Creation) -> Vec<u64> {
-    let mut words = vec![0; creation.words().unwrap()];
-    calls::create(&mut words, creation).unwrap();
-    words
-}
-
-/// A table with these keys, each with a record of its own.
-fn table(keys: impl IntoIterator<Item = u64>) -> Vec<u64> {
-    let mut words = empty(&MARKED);
-    for key in keys {
-        let list =
-            calls::insert(&words, key.into(), Record { function: 100 + key, place: 200 + key }).unwrap();
-        calls::make(&mut words, list.words(), list.count()).unwrap();
-    }
-    words
-}
-
-/// The same with some words changed.
-fn with(mut words: Vec<u64>, changes: &[(usize, u64)]) -> Vec<u64> {
-    for &(index, value) in changes {
-        words[index] = value;
-    }
-    words
-}
 
 #[test]
 fn a_sound_table_is_drawn() {
@@ -224,16 +166,16 @@ fn a_bad_header_is_named() {
 #[test]
 fn bytes_that_are_no_words_are_told() {
     has(
-        told_of_bytes("empty", b""),
+        told_of_bytes("empty", b"", &[]),
         REFUSED,
         &["- the length 0 bytes is no table's length; a table of c = 1 has 384"],
     );
     let too_short = ["capacity     missing", "- the file is too short for a header of 9 words"];
-    has(told_of_bytes("letter", b"a letter"), REFUSED, &too_short);
+    has(told_of_bytes("letter", b"a letter", &[]), REFUSED, &too_short);
     let mut odd = bytes_of(&table([1]));
     odd.push(0);
     has(
-        told_of_bytes("odd", &odd),
+        told_of_bytes("odd", &odd, &[]),
         REFUSED,
         &["- the length 801 bytes is no table's length; a table of c = 2 has 800"],
     );
@@ -241,11 +183,15 @@ fn bytes_that_are_no_words_are_told() {
 
 #[test]
 fn usage_and_missing_files_are_told() {
-    for arguments in [&[][..], &["one", "two"], &["--unknown"]] {
+    for arguments in [&[][..], &["one", "two"], &["--unknown"], &["one", "--key", "1"]] {
         let output = run(arguments);
         assert_eq!(output.status.code(), Some(WRONG_USAGE));
         assert!(String::from_utf8(output.stderr).unwrap().starts_with("usage: "));
     }
+    let bad_key = run(&["one", "--key", "1", "256"]);
+    assert_eq!(bad_key.status.code(), Some(WRONG_USAGE));
+    let told = String::from_utf8(bad_key.stderr).unwrap();
+    assert!(told.starts_with("ragansils-inspect: '256' is no depth: a depth is 0 to 255\nusage: "), "{told}");
     let missing = path("missing-file");
     for name in [missing.to_str().unwrap(), env!("CARGO_TARGET_TMPDIR"), "/dev/null"] {
         let output = run(&[name]);

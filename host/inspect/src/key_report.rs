@@ -1,0 +1,95 @@
+//! What is told of a key: the answer of a query, and every bucket where the key may stand.
+
+use ragansils::{calls, Key, Lookup, Refusal};
+use ragansils_model::Table;
+
+use crate::buckets::{picture, slot_lines, token_words, MARKED};
+use crate::faults::key_words;
+use crate::file::{Content, BYTES_PER_WORD};
+use crate::header;
+use crate::places::{places, Place};
+use crate::text::{with_faults, Text};
+
+/// What a query of the key answers.
+#[derive(Clone, Copy, Debug, PartialEq, Eq)]
+pub enum Verdict {
+    Found,
+    Absent,
+    RecoveryFirst,
+    NoTable,
+}
+
+pub fn report(name: &str, content: &Content, key: Key) -> (String, Verdict) {
+    let mut text = Text::of_file(name, content);
+    text.part("key", vec![key_words(key.word())]);
+    let verdict = match Table::read(&content.words) {
+        Ok(table) if header::faults(content).is_empty() => search_parts(&mut text, &table, content, key),
+        _ => no_table(&mut text, content),
+    };
+    (text.finish(), verdict)
+}
+
+fn no_table(text: &mut Text, content: &Content) -> Verdict {
+    let mut lines = vec![refusal_line(Refusal::BadHeader)];
+    lines.extend(with_faults("this is no table:", header::faults(content)));
+    text.part("answer", lines);
+    Verdict::NoTable
+}
+
+/// The slot that is marked is the one that the query tells: nothing is looked for a second time.
+fn search_parts(text: &mut Text, table: &Table, content: &Content, key: Key) -> Verdict {
+    let places = places(table, key);
+    let answer = calls::query(&content.words, key);
+    let looked_at = answer.map_or(0, |lookup| lookup.buckets as usize);
+    let marked = answer.ok().and_then(|lookup| lookup.found).map(|found| found.slot.word);
+
+    let (mut lines, verdict) = answer_lines(answer);
+    lines.push(format!("buckets looked at: {looked_at} of {}", places.len()));
+    text.part("answer", lines);
+    let drawn =
+        places.iter().enumerate().flat_map(|(at, place)| place_lines(table, *place, at, looked_at, marked));
+    text.part("places, in the order in which they are looked at", drawn.collect());
+    verdict
+}
+
+fn answer_lines(answer: Result<Lookup, Refusal>) -> (Vec<String>, Verdict) {
+    let found = match answer {
+        Ok(Lookup { found: Some(found), .. }) => found,
+        Ok(Lookup { found: None, .. }) => {
+            return (vec!["absent: the key stands in none of its places".to_string()], Verdict::Absent)
+        }
+        Err(refusal) => {
+            let hint = "without --key this program tells what recovery would do";
+            return (vec![refusal_line(refusal), hint.to_string()], Verdict::RecoveryFirst);
+        }
+    };
+    let (record, slot) = (found.record, found.slot);
+    let byte = BYTES_PER_WORD * slot.word as u64;
+    let lines = vec![
+        format!("found: function {}, place {}", record.function, record.place),
+        format!(
+            "where: word {}, byte {byte} of the file, in the {} level; marked {MARKED} below",
+            slot.word, slot.level
+        ),
+    ];
+    (lines, Verdict::Found)
+}
+
+fn refusal_line(refusal: Refusal) -> String {
+    format!("refused: {refusal}")
+}
+
+fn place_lines(
+    table: &Table,
+    place: Place,
+    at: usize,
+    looked_at: usize,
+    marked: Option<usize>,
+) -> Vec<String> {
+    let Place { level, bucket } = place;
+    let not = if at < looked_at { "" } else { "not " };
+    let (picture, token) = (picture(table, bucket, marked), token_words(table, bucket));
+    let title = format!("{}. {level} bucket {bucket} {picture}, {not}looked at; {token}", at + 1);
+    let slots = slot_lines(table, bucket, marked).map(|line| format!("   {line}"));
+    std::iter::once(title).chain(slots).collect()
+}
