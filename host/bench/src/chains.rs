@@ -11,6 +11,7 @@ use ragansils_twin::{Proved, Side};
 
 use crate::clock::timed;
 use crate::instructions::{count_run, counted_calls, this_program, Count, SEED};
+use crate::limits::median;
 use crate::rounds::{Measured, Rounds};
 
 /// The depths of a usual chain, and of a long one.
@@ -70,7 +71,7 @@ impl Chains {
     /// The costs of a chain as multiples of those of its queries.
     fn ratios(&self) -> [(&'static str, f64); 2] {
         let [chain, queries] = &self.instructions;
-        let time = self.times.ratio(CHAIN, QUERIES).map_or(f64::NAN, |middle| middle.median);
+        let time = median(self.times.ratio(CHAIN, QUERIES));
         [("time", time), ("instructions", chain.instructions / queries.instructions)]
     }
 

@@ -54,9 +54,9 @@ fn count(program: &Path, operation: Operation, side: &str, c: u64, folder: &Path
     count_run(program, &["counted", operation.name(), side, &c.to_string()], folder)
 }
 
-/// An insert of one side by a build of this program.
-pub fn count_insert(program: &Path, side: &str, folder: &Path) -> Result<Count, String> {
-    count(program, Operation::Insert, side, USUAL_C, folder)
+/// One operation of one side, in the usual table, by a build of this program.
+pub fn count_usual(program: &Path, operation: Operation, side: &str, folder: &Path) -> Result<Count, String> {
+    count(program, operation, side, USUAL_C, folder)
 }
 
 pub fn this_program() -> Result<PathBuf, String> {

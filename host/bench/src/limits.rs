@@ -2,6 +2,8 @@
 
 use std::fmt::{Display, Formatter};
 
+use ragansils_counts::Middle;
+
 /// The capacities at which the library has a limit beside the twin.
 pub const TARGET_CAPACITIES: [u64; 2] = [14, 18];
 /// What an insert may take there, as a multiple of the twin's time.
@@ -52,6 +54,11 @@ impl Limit {
     pub fn measured_text(&self) -> String {
         format!("{:.3}", self.measured)
     }
+}
+
+/// The median of what was measured; no number where nothing was.
+pub fn median(middle: Option<Middle>) -> f64 {
+    middle.map_or(f64::NAN, |middle| middle.median)
 }
 
 /// Says which limits of a thing are missed.

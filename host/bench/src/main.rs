@@ -4,13 +4,14 @@
 //! - `peers`: what is measured;
 //! - `clock`, `rounds`: how it is timed, and what is said of the times;
 //! - `limits`: what something may cost;
-//! - `operations`, `recovery`, `growth` with its drivers and limits, `import`, `chains`: what is timed; `instructions`: what valgrind
-//!   counts of it;
+//! - `operations`, `recovery`, `growth` with its drivers and limits, `chains`: what is timed; `instructions`: what valgrind counts of it;
+//! - `builds`: what is measured before a change of the library and after it; `import`, `queries`: this, with their limits;
 //! - `plan`, `run`: how much, and all of it;
 //! - `svg`, `chart`, `plots`, `report`: what is written of it.
 //!
 //! The keys, the level tables and all counts that need no clock are host/counts'.
 
+mod builds;
 mod chains;
 mod chart;
 mod clock;
@@ -22,6 +23,7 @@ mod operations;
 mod peers;
 mod plan;
 mod plots;
+mod queries;
 mod recovery;
 mod report;
 mod rounds;
@@ -37,11 +39,12 @@ use ragansils_compare::{program, say};
 
 use crate::chains::Chains;
 use crate::growth::Growths;
+use crate::rounds::Measured;
 use crate::run::{Results, Run};
 
 const USAGE: &str =
     "usage: ragansils-bench quick|full SEED OUT-FOLDER LMDB-FOLDER   or   ragansils-bench chains|growth SEED OUT-FOLDER   or   \
-    ragansils-bench import SEED OUT-FOLDER BUILD-WITH-THE-LIBRARY-BEFORE";
+    ragansils-bench import|query SEED OUT-FOLDER BUILD-WITH-THE-LIBRARY-BEFORE";
 
 fn main() -> ExitCode {
     program::run(command)
@@ -68,13 +71,18 @@ fn command(arguments: &[String]) -> Result<(), String> {
             Ok(())
         }
         // By another build, or by the program itself.
-        ["import-round", seed, c] => {
-            say!("{}", import::run_round(number(seed)?, number(c)?)?);
+        ["import-round", c, seed] => {
+            say!("{}", import::run_round(number(c)?, number(seed)?)?);
+            Ok(())
+        }
+        ["query-round", when, c, seed] => {
+            say!("{}", queries::run_round(when, number(c)?, number(seed)?)?);
             Ok(())
         }
         ["chains", seed, out] => chains_alone(number(seed)?, Path::new(out)),
         ["growth", seed, out] => growth_alone(number(seed)?, Path::new(out)),
         ["import", seed, out, before] => import_alone(number(seed)?, Path::new(out), Path::new(before)),
+        ["query", seed, out, before] => query_alone(number(seed)?, Path::new(out), Path::new(before)),
         ["quick", seed, out, lmdb] => bench(&plan::QUICK, number(seed)?, Path::new(out), Path::new(lmdb)),
         ["full", seed, out, lmdb] => bench(&plan::FULL, number(seed)?, Path::new(out), Path::new(lmdb)),
         _ => Err(USAGE.to_string()),
@@ -106,11 +114,29 @@ fn growth_alone(seed: u64, out: &Path) -> Result<(), String> {
 fn import_alone(seed: u64, out: &Path, before: &Path) -> Result<(), String> {
     let begun = Instant::now();
     let imports = import::measure(&plan::HELD, seed, before, out, |part| note(begun, part))?;
-    let section = report::imports(&imports, seed);
-    write(out, "import.md", &section)?;
-    write(out, "import-rounds.txt", &report::rounds_of(imports.measured()))?;
-    program::say(section);
+    write_section("import", out, report::imports(&imports, seed), imports.measured())?;
     imports.check()
+}
+
+/// The same of queries.
+fn query_alone(seed: u64, out: &Path, before: &Path) -> Result<(), String> {
+    let begun = Instant::now();
+    let queries = queries::measure(seed, before, out, |part| note(begun, part))?;
+    write_section("query", out, report::queries(&queries, seed), queries.measured())?;
+    queries.check()
+}
+
+/// A part of the page, and every round of it, to files; and the part to standard output.
+fn write_section<'a>(
+    part: &str,
+    out: &Path,
+    section: String,
+    measured: impl Iterator<Item = &'a Measured>,
+) -> Result<(), String> {
+    write(out, &format!("{part}.md"), &section)?;
+    write(out, &format!("{part}-rounds.txt"), &report::rounds_of(measured))?;
+    program::say(section);
+    Ok(())
 }
 
 fn write_growths(growths: &Growths, seed: u64, out: &Path) -> Result<String, String> {

@@ -3,7 +3,7 @@
 use ragansils::Creation;
 use ragansils_compare::random::Random;
 use ragansils_counts::plan::{HIGH_LOAD, LOADS};
-use ragansils_counts::{draw, full_size, items_at, record_of, slots_of, Keys, Kind};
+use ragansils_counts::{draw, full_size, half_way, items_at, record_of, slots_of, Keys, Kind};
 use ragansils_model::Event;
 use ragansils_twin::Proved;
 
@@ -103,6 +103,11 @@ impl Filled<'_> {
         }
         self.items = items;
         Ok(())
+    }
+
+    /// Brings the level tables into the middle of a growth.
+    pub fn grow_half_way(&mut self) -> Result<(), String> {
+        self.peers.iter_mut().filter_map(|peer| peer.words()).try_for_each(|words| half_way(words))
     }
 
     fn name(&self, operation: Operation) -> String {

@@ -1,10 +1,13 @@
 //! The figures as text, for docs/BENCHMARKS.md.
 
+mod builds;
 mod growth;
 mod import;
+mod queries;
 
 pub use growth::growths;
 pub use import::imports;
+pub use queries::queries;
 
 use ragansils_counts::markdown::{heads, table};
 use ragansils_counts::Middle;

@@ -33,6 +33,11 @@ impl Measured {
         self.series.iter().find(|series| series.peer == peer)
     }
 
+    /// A peer's median; no number where it was not measured.
+    pub fn median_of(&self, peer: &str) -> f64 {
+        self.of(peer).map_or(f64::NAN, |series| series.middle().median)
+    }
+
     /// One peer's time as a multiple of another's.
     pub fn ratio(&self, one: &str, other: &str) -> Option<Middle> {
         Some(self.of(one)?.ratio_to(self.of(other)?))

@@ -6,7 +6,7 @@ use std::time::Instant;
 use ragansils::Creation;
 use ragansils_compare::random::Random;
 use ragansils_counts::plan::{HIGH_LOAD, LOADS};
-use ragansils_counts::{full_size, half_way, items_at, last_growth, Counts, Keys, Kind};
+use ragansils_counts::{full_size, items_at, last_growth, Counts, Keys, Kind};
 
 use crate::chains::{self, Chains};
 use crate::growth::{self, Growths};
@@ -116,9 +116,7 @@ impl Run<'_> {
         let keys = Keys::new(&mut self.random, kind, items_at(creation, HIGH_LOAD), self.plan.calls);
         let mut filled = self.peers(creation, &keys, "growing");
         filled.fill(keys.present().len())?;
-        for peer in &mut filled.peers {
-            peer.words().map_or(Ok(()), |words| half_way(words))?;
-        }
+        filled.grow_half_way()?;
         let measured = filled.queries(&mut self.random, self.plan.rounds_at(c), self.plan.calls)?;
         self.results.operations.extend(measured);
         Ok(())

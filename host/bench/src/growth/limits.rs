@@ -1,6 +1,6 @@
 //! What a whole growth may cost, and whether it costs more.
 
-use crate::limits::{self, Bound, Limit};
+use crate::limits::{self, median, Bound, Limit};
 use crate::peers::{CUCKOO, LIBRARY, TWIN};
 use crate::rounds::Measured;
 
@@ -45,7 +45,7 @@ impl Growths {
         Limit {
             what: format!("time as a multiple of {name}"),
             bound: Bound::AtMost(most),
-            measured: ratio.map_or(f64::NAN, |middle| middle.median),
+            measured: median(ratio),
             of: format!("to c = {LIMITED_C}"),
         }
     }

@@ -1,10 +1,11 @@
 //! What an insert and an import may cost, and whether they cost more.
 
+use crate::builds::BuildTimes;
 use crate::instructions;
-use crate::limits::{self, Bound, Limit, INSERT_TO_TWIN, TARGET_CAPACITIES};
+use crate::limits::{self, median, Bound, Limit, INSERT_TO_TWIN, TARGET_CAPACITIES};
 use crate::rounds::Measured;
 
-use super::{ImportTimes, Imports, AFTER, BEFORE};
+use super::Imports;
 
 /// An insert at the high load takes fewer instructions than these.
 const INSTRUCTIONS: f64 = 300.0;
@@ -23,8 +24,7 @@ impl Imports {
 
     fn insert_to_twin(&self) -> Limit {
         let ratio = |measured: &Measured| {
-            let median = measured.ratio_to_twin().map_or(f64::NAN, |middle| middle.median);
-            (median, format!("{}, c = {}", measured.operation, measured.c))
+            (median(measured.ratio_to_twin()), format!("{}, c = {}", measured.operation, measured.c))
         };
         let [smaller, larger] = TARGET_CAPACITIES;
         Limit::of_worst(
@@ -44,10 +44,7 @@ impl Imports {
     }
 
     fn import_to_before(&self) -> Limit {
-        let ratio = |times: &ImportTimes| {
-            let median = times.library.ratio(AFTER, BEFORE).map_or(f64::NAN, |middle| middle.median);
-            (median, format!("at c = {}", times.library.c))
-        };
+        let ratio = |times: &BuildTimes| (median(times.to_before()), format!("at c = {}", times.library.c));
         Limit::of_worst(
             "time of an import as a multiple of that before".to_string(),
             Bound::AtMost(MOST_TO_BEFORE),
