@@ -59,7 +59,11 @@ impl Queries {
 }
 
 pub fn about() -> String {
-    format!("Random keys. \"growing\" is a table whose last growth was begun at load {HIGH_LOAD}, with half of the interim items moved.")
+    format!(
+        "\"before\" is by the library of the commit that the command names, \"after\" by the library of the commit that was measured, in two \
+         builds of one driver; both must give the same answers. Random keys. \"growing\" is a table whose last growth was begun at load \
+         {HIGH_LOAD}, with half of the interim items moved."
+    )
 }
 
 /// Drawn from the seed alone. `before` is the build with the earlier library; callgrind's files go to a folder; `say` hears which part

@@ -26,6 +26,7 @@ pub trait Side {
     /// What a query's answer means.
     #[inline(always)]
     fn look_up(&self, table: &[u64], key: u64) -> Result<Lookup, Refusal> {
+        // Zeros, since an earlier library that is measured beside may write fewer words.
         let mut answer = [0; Lookup::WORDS];
         let number = self.query(table, key, &mut answer);
         Lookup::of_words(number, answer)
