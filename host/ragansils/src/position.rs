@@ -156,7 +156,7 @@ impl Lookup {
     pub const WORDS: usize = 5;
 
     /// What an answer of the library means, [`raw::ragansils_query`](crate::raw::ragansils_query): its number, and the words that it wrote.
-    /// An absent key is no refusal here.
+    /// An absent key is no refusal here. Panics at a level that is none, which the library does not answer.
     #[inline]
     pub fn of_words(number: u64, words: [u64; Lookup::WORDS]) -> Result<Lookup, Refusal> {
         let [function, place, buckets, word, level] = words;
