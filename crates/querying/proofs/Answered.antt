@@ -87,7 +87,8 @@ module _ (t : Table) (key : ℕ) where
       unfolding queryResult
       through = ap (queryAt t) (lookup-told-by l ∙ ap (λ (z : Header). lookup t z key) same) ∙ gate-open t (queryTests t) e (λ (r : Refusal). Unknown r 0) _ q
 
-      pub present : {x : Slot} {n : ℕ} {r : Record} {s : Spot} → f ≡ Stands x n → r ≡ recordIn t x → s ≡ spotOf x → Queried t key (Known r s n) t
+      pub present : {x : Slot} {n : ℕ} {r : Record} {s : Spot} → f ≡ Stands x n → r ≡ recordIn t x → s ≡ spotOf x
+          → Queried t key (Known r s n) t
       present {x} {n} {r} {s} p w v =
           let told : Known r s n ≡ queryAt t (Stands x n) = rw (w, v) in
           queried (told ∙ sym (ap (queryAt t) p) ∙ through)

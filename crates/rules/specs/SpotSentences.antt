@@ -64,37 +64,39 @@ pub record StoodAt (t : Table) (key f p n w name : ℕ) : Type 0 where
   pub function : word t (w + 1) ≡ f
   pub place : word t (w + 2) ≡ p
 
-abbrev pub asked : Table → ℕ → Meaning
-asked t key = queryMeans (queryResult t key)
+-- what a query tells
+abbrev pub told : Table → ℕ → Meaning
+told t key = queryMeans (queryResult t key)
 
 abbrev pub FoundStood : Type 0
 FoundStood =
-    (t : Table) (key : ℕ) → asked t key .number ≡ 0
-    → (f : ℕ) × (p : ℕ) × (n : ℕ) × (w : ℕ) × (name : ℕ) × (asked t key .values ≡ f ∷ p ∷ n ∷ w ∷ name ∷ []) × StoodAt t key f p n w name
+    (t : Table) (key : ℕ) → told t key .number ≡ 0
+    → (f : ℕ) × (p : ℕ) × (n : ℕ) × (w : ℕ) × (name : ℕ) × (told t key .values ≡ f ∷ p ∷ n ∷ w ∷ name ∷ [])
+    × StoodAt t key f p n w name
 
 -- "with any refusal, index 0 and top"
 abbrev pub RefusedStoodNowhere : Type 0
 RefusedStoodNowhere =
-    (t : Table) (key : ℕ) → (asked t key .number ≡ 0 → ⊥) → (n : ℕ) × (asked t key .values ≡ 0 ∷ 0 ∷ n ∷ 0 ∷ 0 ∷ [])
+    (t : Table) (key : ℕ) → (told t key .number ≡ 0 → ⊥) → (n : ℕ) × (told t key .values ≡ 0 ∷ 0 ∷ n ∷ 0 ∷ 0 ∷ [])
 
 -- the inner lookup answers the number, and behind function and place the values, that query answers with it
 abbrev pub LookupStood : Type 0
 LookupStood =
     (t : Table) (key : ℕ) → GoodHeader (length t) (headerOf t) → flagOf t ≡ 0
     → let m = lookupMeans (lookup t (headerOf t) key) in
-    (asked t key .number ≡ m .number) × (drop 2 (asked t key .values) ≡ take 3 (m .values))
+    (told t key .number ≡ m .number) × (drop 2 (told t key .values) ≡ take 3 (m .values))
 
 -- on a sound table it is the only taken slot with the key
 abbrev pub wordTold : Table → ℕ → ℕ
-wordTold t key = getD (asked t key .values) 3 0
+wordTold t key = getD (told t key .values) 3 0
 
 abbrev pub levelTold : Table → ℕ → ℕ
-levelTold t key = getD (asked t key .values) 4 0
+levelTold t key = getD (told t key .values) 4 0
 
 abbrev pub TheOneStood : Type 0
 TheOneStood =
     (t : Table) → SoundTable t → (x : Slot) (key : ℕ) → TakenSlot t x → word t (slotStart x) ≡ key
-    → (asked t key .number ≡ 0) × (wordTold t key ≡ slotStart x) × (levelTold t key ≡ x .level)
+    → (told t key .number ≡ 0) × (wordTold t key ≡ slotStart x) × (levelTold t key ≡ x .level)
 
 -- ==== "Delete, update, the chain of a) and the ledger of d) rest on that lookup"
 
@@ -109,11 +111,11 @@ pub record ChangesThere (t : Table) (key n : ℕ) : Type 0 where
   pub inserts : (r : Record) → outcome t n (insert key r) ≡ refused KeyPresent
 
 abbrev pub ChangesGoThere : Type 0
-ChangesGoThere = (t : Table) (key n : ℕ) → 20 ≤ n → asked t key .number ≡ 0 → ChangesThere t key n
+ChangesGoThere = (t : Table) (key n : ℕ) → 20 ≤ n → told t key .number ≡ 0 → ChangesThere t key n
 
 -- a chain's record of depth e stands behind the word that a query of that depth's key tells
 abbrev pub ChainStood : Type 0
 ChainStood =
     (t : Table) (address d : ℕ) (l : List ℕ) → chainMeans (chainResult t address d l .0) .number ≡ 0 → (e : ℕ) → e ≤ d
     → let w = wordTold t (keyAt address e) in let m = chainResult t address d l .1 in
-    (asked t (keyAt address e) .number ≡ 0) × (word m (2 * (d - e)) ≡ word t (w + 1)) × (word m (2 * (d - e) + 1) ≡ word t (w + 2))
+    (told t (keyAt address e) .number ≡ 0) × (word m (2 * (d - e)) ≡ word t (w + 1)) × (word m (2 * (d - e) + 1) ≡ word t (w + 2))

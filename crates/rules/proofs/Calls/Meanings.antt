@@ -17,6 +17,8 @@ use Rattle.rules.specs.Answers.{LookupTells}
 use Rattle.rules.specs.Answers.{PlacingTells, FindingTells, steppedMeans, steppedFromMeans}
 use Rattle.rules.specs.declared.Header.{Header}
 use Rattle.rules.specs.declared.Slot.{Slot}
+use Rattle.rules.specs.declared.Record.{Record}
+use Rattle.rules.specs.declared.Spot.{Spot}
 use Rattle.rules.specs.declared.Lookup.{Lookup}
 use Rattle.rules.specs.declared.Lookup.the-variants.{Stands, Absent}
 use Rattle.rules.specs.declared.Placing.{Placing}
@@ -124,7 +126,10 @@ pub change-one : (a b : Change) → changeMeans a ≡ changeMeans b → a ≡ b
 change-one a b e = told changeMeans readChange change-back a b e
 
 readQuery : Meaning → Query
-readQuery m = byNumber m (Known (record { function = value m 0; place = value m 1 }) (record { word = value m 3; level = value m 4 }) (value m 2)) (λ (r : Refusal). Unknown r (value m 2))
+readQuery m =
+    let r : Record = record { function = value m 0; place = value m 1 } in
+    let x : Spot = record { word = value m 3; level = value m 4 } in
+    byNumber m (Known r x (value m 2)) (λ (r : Refusal). Unknown r (value m 2))
 
 query-back : (a : Query) → readQuery (queryMeans a) ≡ a
 unfolding readQuery byNumber value

@@ -21,7 +21,7 @@ use Rattle.rules.specs.Results.{queryAt, queryResult}
 use Rattle.rules.specs.Chains.{chainResult}
 use Rattle.rules.specs.Demands.{FirstHolder, Growing, slotStart, AnswersRecord}
 use Rattle.rules.specs.ChainSentences.{keyAt, ChainWritten}
-use Rattle.rules.specs.SpotSentences.{KeyStands, LevelNamed, StoodAt, asked, FoundStood, RefusedStoodNowhere, LookupStood, wordTold, levelTold}
+use Rattle.rules.specs.SpotSentences.{KeyStands, LevelNamed, StoodAt, told, FoundStood, RefusedStoodNowhere, LookupStood, wordTold, levelTold}
 use Rattle.rules.specs.SpotSentences.{TheOneStood, ChangesGoThere, ChainStood}
 use Rattle.rules.specs.declared.Level.{Level}
 use Rattle.rules.specs.declared.Place.{Place}
@@ -106,13 +106,15 @@ module _ (t : Table) (key : ℕ) where
         place = refl;
       }
     where
-      lower-stands : (s : FirstHolder t key x) → x .bucket ≡ s .place .bucket → x .slot < 4 → (y : ℕ) → y < x .slot → KeyStands t key (x .bucket) y → ⊥
+      lower-stands : (s : FirstHolder t key x) → x .bucket ≡ s .place .bucket → x .slot < 4 → (y : ℕ) → y < x .slot
+          → KeyStands t key (x .bucket) y → ⊥
       lower-stands s at four y l k =
           none-stands t key (s .place) y (s .first (slotAt (s .place) y) (slot-inside (s .place) y (omega arith)) l) (rw at at k)
 
   -- a query is refused by a test, with count 0, or the tests pass and it answers by the lookup
   query-ways : (P : Query → Type 0) → ((r : Refusal) → P (Unknown r 0))
-      → (GoodHeader (length t) (headerOf t) → flagOf t ≡ 0 → (o : Lookup) → lookup t (headerOf t) key ≡ o → P (queryAt t o)) → P (queryResult t key)
+      → (GoodHeader (length t) (headerOf t) → flagOf t ≡ 0 → (o : Lookup) → lookup t (headerOf t) key ≡ o → P (queryAt t o))
+      → P (queryResult t key)
   unfolding queryResult queryTests headerGood flagClear
   query-ways P refuse pass = go (headerGood t) (flagClear t) refl refl
     where
@@ -131,7 +133,7 @@ module _ (t : Table) (key : ℕ) where
     pub found : lookup t (headerOf t) key ≡ Stands slot count
     pub answer : queryResult t key ≡ Known (recordIn t slot) (spotOf slot) count
 
-  finds : asked t key .number ≡ 0 → Finds
+  finds : told t key .number ≡ 0 → Finds
   finds z = query-ways P (λ r e n. absurd (number-not-zero r n)) by refl z
     where
       P : Query → Type 0
@@ -177,7 +179,7 @@ theOneStood t sound x key u e = go (lookup t (headerOf t) key) refl
     own = e
 
     go : (o : Lookup) → lookup t (headerOf t) key ≡ o
-        → (asked t key .number ≡ 0) × (wordTold t key ≡ slotStart x) × (levelTold t key ≡ x .level)
+        → (told t key .number ≡ 0) × (wordTold t key ≡ slotStart x) × (levelTold t key ≡ x .level)
     go (Stands y n) q =
         let s = holder-taken t key y (lookup-stands t key y n q .0) in
         let same : x ≡ y = sound .alone x y u (s .0) (own ∙ sym (s .1)) in
@@ -208,10 +210,10 @@ changesGoThere t key n l z =
 
 -- a record that a query answers stands behind the word told
 told-there : (t : Table) (key : ℕ) (r : Record) → AnswersRecord (queryResult t key) r
-    → (asked t key .number ≡ 0) × (r .function ≡ word t (wordTold t key + 1)) × (r .place ≡ word t (wordTold t key + 2))
+    → (told t key .number ≡ 0) × (r .function ≡ word t (wordTold t key + 1)) × (r .place ≡ word t (wordTold t key + 2))
 unfolding recordIn functionWord placeWord spotOf
 told-there t key r a =
-    let z : asked t key .number ≡ 0 = ap (λ (q : Query). queryMeans q .number) (a .2) in
+    let z : told t key .number ≡ 0 = ap (λ (q : Query). queryMeans q .number) (a .2) in
     let f = finds t key z in
     let same = sym (a .2) ∙ f .answer in
     let w : wordTold t key ≡ keyWord (f .slot) = ap (λ (q : Query). getD (queryMeans q .values) 3 0) (f .answer) in (
@@ -226,7 +228,7 @@ chainStood t address d l z e i = go (chainWrites t address d l)
     Stood : Type 0
     Stood =
         let w = wordTold t (keyAt address e) in let m = chainResult t address d l .1 in
-        (asked t (keyAt address e) .number ≡ 0) × (word m (2 * (d - e)) ≡ word t (w + 1)) × (word m (2 * (d - e) + 1) ≡ word t (w + 2))
+        (told t (keyAt address e) .number ≡ 0) × (word m (2 * (d - e)) ≡ word t (w + 1)) × (word m (2 * (d - e) + 1) ≡ word t (w + 2))
 
     go : ((chainMeans (chainResult t address d l .0) .number ≡ 0) × ChainWritten t address d l (chainResult t address d l .1))
         ⊎ ((chainMeans (chainResult t address d l .0) .number ≡ 0 → ⊥) × (chainResult t address d l .1 ≡ l)) → Stood
