@@ -62,9 +62,12 @@ fn bucket_and_offset(word: usize) -> Option<(usize, usize)> {
 fn is_in_level(table: &[u64], word: u64, level: Level) -> bool {
     let (k, phase) = (table[STATE] % PHASE_UNIT, table[STATE] / PHASE_UNIT);
     let in_use = if phase == 1 { 3 } else { 2 };
+    if level.number() >= in_use {
+        return false;
+    }
     let buckets = 1 << (k - level.number());
     let bucket = bucket_and_offset(word as usize).map(|(bucket, _)| bucket);
-    level.number() < in_use && bucket.map_or(false, |bucket| (buckets - 1..2 * buckets - 1).contains(&bucket))
+    bucket.map_or(false, |bucket| (buckets - 1..2 * buckets - 1).contains(&bucket))
 }
 
 /// In which levels queries found their keys.
