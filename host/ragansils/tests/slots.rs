@@ -17,7 +17,7 @@ const FLAG: usize = 5;
 type OwnTable = Table<Vec<u64>, OrdinaryMemory>;
 
 fn record_of(key: u64) -> Record {
-    Record { function: 100 + key, place: 200 + key }
+    Record { function: key.wrapping_add(100), place: key.wrapping_add(200) }
 }
 
 fn created(creation: &Creation) -> OwnTable {
@@ -91,6 +91,27 @@ fn every_key_of_a_table_is_told_in_its_own_slot() {
     words.sort_unstable();
     words.dedup();
     assert_eq!(words.len(), keys.len());
+}
+
+/// The largest table has 27 million words, so an index needs 25 bits.
+#[test]
+fn a_key_is_told_in_tables_of_every_capacity() {
+    let keys = [0, 1, 1 << 32, u64::MAX];
+    let mut last = 0;
+    for capacity in 1..=20 {
+        let first_top = 1.max(capacity - 1);
+        let creation = Creation { capacity, first_top, multipliers: [MULTIPLIER_1, MULTIPLIER_2] };
+        let mut table = filled(&creation, keys);
+        let is_told_in =
+            |table: &OwnTable, level| check_all(table, &keys) == BTreeMap::from([(level, keys.len())]);
+        assert!(is_told_in(&table, Level::Top), "c = {capacity}");
+        if capacity > 1 {
+            table.begin().unwrap();
+            assert!(is_told_in(&table, Level::Bottom), "c = {capacity}");
+        }
+        last = keys.iter().map(|&key| slot_of(table.words(), key).word).max().unwrap();
+    }
+    assert!(last > 1 << 23, "word {last}");
 }
 
 /// Power failed before the last store of a step: the key stands in the interim level too.
