@@ -45,6 +45,7 @@ fn search_parts(text: &mut Text, table: &Table, content: &Content, key: Key) -> 
 
     let (mut lines, verdict) = answer_lines(answer);
     lines.push(format!("buckets looked at: {looked_at} of {}", places.len()));
+    lines.extend(unsound_line(&content.words));
     text.part("answer", lines);
     let drawn =
         places.iter().enumerate().flat_map(|(at, place)| place_lines(table, *place, at, looked_at, marked));
@@ -58,10 +59,7 @@ fn answer_lines(answer: Result<Lookup, Refusal>) -> (Vec<String>, Verdict) {
         Ok(Lookup { found: None, .. }) => {
             return (vec!["absent: the key stands in none of its places".to_string()], Verdict::Absent)
         }
-        Err(refusal) => {
-            let hint = "without --key this program tells what recovery would do";
-            return (vec![refusal_line(refusal), hint.to_string()], Verdict::RecoveryFirst);
-        }
+        Err(refusal) => return (vec![refusal_line(refusal)], Verdict::RecoveryFirst),
     };
     let (record, slot) = (found.record, found.slot);
     let byte = BYTES_PER_WORD * slot.word as u64;
@@ -73,6 +71,13 @@ fn answer_lines(answer: Result<Lookup, Refusal>) -> (Vec<String>, Verdict) {
         ),
     ];
     (lines, Verdict::Found)
+}
+
+/// A query does not judge the table: a key may stand twice, or be absent since it stands in a wrong place.
+fn unsound_line(words: &[u64]) -> Option<String> {
+    let is_sound = calls::recover(words).map_or(false, |list| list.count() == 0);
+    let hint = "the table is not sound: without --key this program tells why, and what recovery would do";
+    (!is_sound).then(|| hint.to_string())
 }
 
 fn refusal_line(refusal: Refusal) -> String {

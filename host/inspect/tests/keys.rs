@@ -14,6 +14,10 @@ const RECOVERY_FIRST: i32 = 3;
 const NO_TABLE: i32 = 4;
 const ABSENT: i32 = 5;
 
+/// Told of a key in every table that is not sound, and in no other.
+const NOT_SOUND: &str =
+    "the table is not sound: without --key this program tells why, and what recovery would do";
+
 /// What is told of a key that is a depth of address 0.
 fn told_of_key(name: &str, words: &[u64], depth: u64) -> (String, i32) {
     told_of_bytes(name, &bytes_of(words), &["--key", "0x0", &depth.to_string()])
@@ -77,6 +81,7 @@ fn of_a_key_that_stands_twice_the_first_slot_is_marked() {
         told_of_key("key-doubled", &doubled, 3),
         FOUND,
         &[
+            NOT_SOUND,
             "* slot 0, word 36: key 3 (address 0x0, depth 3), function 103, place 203",
             "2. bottom bucket 0 [#...], not looked at; its token, word 9, is 1",
             "slot 0, word 10: key 3 (address 0x0, depth 3), function 103, place 203",
@@ -98,6 +103,7 @@ fn an_absent_key_is_looked_for_everywhere() {
         ABSENT,
         &[
             "absent: the key stands in none of its places",
+            NOT_SOUND,
             "buckets looked at: 2 of 2",
             "1. top bucket 2 [#...], looked at; its token, word 35, is 17, and read as 1",
             "slot 1, word 39: free",
@@ -115,7 +121,7 @@ fn where_an_update_was_cut_the_places_are_drawn_and_none_is_marked() {
         RECOVERY_FIRST,
         &[
             "refused: the update flag is not 0, so recovery comes first (refusal 3)",
-            "without --key this program tells what recovery would do",
+            NOT_SOUND,
             "buckets looked at: 0 of 2",
             "1. top bucket 2 [#...], not looked at; its token, word 35, is 1",
             "slot 0, word 36: key 1 (address 0x0, depth 1), function 101, place 201",
@@ -149,6 +155,8 @@ fn a_key_of_a_damaged_table_is_shown_as_the_library_answers() {
             Err(_) => NO_TABLE,
         };
         assert_eq!(status, expected, "{told}");
+        let is_sound = matches!(calls::recover(&words), Ok(list) if list.count() == 0);
+        assert_eq!(told.contains(NOT_SOUND), !is_sound && status != NO_TABLE, "{told}");
         let marks: Vec<&str> = told.lines().filter(|line| line.trim_start().starts_with('*')).collect();
         let slot = answer.ok().and_then(|lookup| lookup.found).map(|found| found.slot);
         assert_eq!(marks.len(), slot.iter().count(), "{told}");
