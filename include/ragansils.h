@@ -118,12 +118,12 @@ uint64_t ragansils_create(uint64_t *table, size_t words, uint64_t c, uint64_t k,
 
 /*
  * Looks a key up. answer[0] is its function, answer[1] its place, answer[2] the number of buckets looked at, at most four, or six while
- * the table grows. Where that record stands: answer[3] is the index of the word of the table that holds the key, and the two words behind
+ * the table grows. Where that record stands: answer[3] is the index of the word of the table that holds the key, and the two words after
  * it hold function and place; answer[4] is the level (enum ragansils_level). Where the key stands twice, as a cut may leave it, this is the
  * slot that is looked at first. The next change may move the key.
  *
  * With refusal 5 answer[2] is the number of all buckets where the key may stand, and the other four are 0; with 1 or 3 all five are 0. So
- * a refusal tells no slot: word 0 is none, since the header begins there.
+ * a refusal tells no slot: word 0 is never a slot's, since the header begins there.
  */
 uint64_t ragansils_query(const uint64_t *table, size_t words, uint64_t key, uint64_t answer[RAGANSILS_ANSWER_WORDS]);
 

@@ -64,7 +64,7 @@ fn demand_refusals(tally: &Tally, possible: std::ops::RangeInclusive<u64>) -> An
     }
 }
 
-/// Where all keys stand in one level, any level told is right.
+/// Where all keys stand in one level, a library that always tells that level is right.
 fn demand_levels(tally: &Tally) -> Answer {
     let rare = tally.levels.rare(LEAST_OF_EACH_LEVEL);
     match rare[..] {

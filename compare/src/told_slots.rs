@@ -1,5 +1,5 @@
-//! Where a query tells that its key stands: held to the words of the table by the layout of document 01, and counted by level. The layout is
-//! written here once more, so that the model is not asked.
+//! Checks where a query says that its key stands against the words of the table, by the layout of document 01, and counts the levels. The
+//! layout is written here once more, so that the model is not asked.
 
 use std::collections::BTreeMap;
 

@@ -14,8 +14,8 @@ use crate::operations::{Filled, Operation};
 use crate::peers::{two_sides, LIBRARY, TWIN};
 use crate::rounds::Measured;
 
-/// The capacities of the tables, and how many rounds each has by turns with the others. A process finds its memory well or badly, which
-/// tells most in the smaller tables, and these take little time.
+/// The capacities of the tables, and how many rounds each has by turns with the others. Where the
+/// memory of a process happens to lie matters most in the smaller tables, and these take little time.
 const QUERIED: [(u64, usize); 2] = [(14, 5), (18, 1)];
 /// The rounds of the largest tables.
 const ROUNDS: usize = 31;

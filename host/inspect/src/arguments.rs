@@ -26,7 +26,7 @@ pub fn read(arguments: &[OsString]) -> Result<Asked, Option<String>> {
     }
 }
 
-/// What begins like an option is none of a file's names here.
+/// A name that begins as an option does is not taken for a file's.
 fn path_of(argument: &OsString) -> Result<PathBuf, Option<String>> {
     match argument.to_string_lossy().starts_with('-') {
         true => Err(None),

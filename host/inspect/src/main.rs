@@ -38,7 +38,7 @@ usage: ragansils-inspect FILE
 Tells what the table in FILE holds, and what recovery would do with it. With --key it tells what a query of a key answers, where the key
 stands, and what stands in every bucket where it may. ADDRESS and DEPTH are decimal, or hexadecimal with 0x before them. FILE is only read.
 exit status: 0 the table is sound;             with --key: the key was found
-             1 FILE could not be read, or the answer not be written
+             1 FILE could not be read, or the answer could not be written
              2 the command line is wrong
              3 recovery would mend the table;  with --key: the update flag is set, and recovery comes first
              4 recovery would refuse it;       with --key: FILE is no table

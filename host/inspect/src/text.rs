@@ -7,7 +7,7 @@ pub struct Text {
 }
 
 impl Text {
-    /// With what every report begins with.
+    /// Begins a report, as every report begins.
     pub fn of_file(name: &str, content: &Content) -> Text {
         let words = content.length / BYTES_PER_WORD;
         let mut text = Text { text: String::new() };

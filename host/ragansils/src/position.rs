@@ -103,7 +103,7 @@ impl fmt::Display for Level {
 /// Where a key stands. The next change may move it.
 #[derive(Clone, Copy, Debug, PartialEq, Eq, Hash)]
 pub struct Slot {
-    /// The index of the table's word that holds the key; the two words behind it hold function and place.
+    /// The index of the table's word that holds the key; the two words after it hold function and place.
     pub word: usize,
     /// The level that it stands in.
     pub level: Level,

@@ -211,7 +211,7 @@ fn both_create(seen: &mut Seen, setting: Setting, garbage: &[u64]) -> Result<Vec
 }
 
 fn both_query(seen: &mut Seen, table: &[u64], key: u64) -> Result<(), String> {
-    // No words of an answer, so that one which is not written is seen.
+    // No answer has these words, so one that is not written is seen.
     let (mut answer, mut twin_answer) = ([u64::MAX; Lookup::WORDS], [u64::MAX; Lookup::WORDS]);
     let number = Proved::default().query(table, key, &mut answer);
     let twin_number = Twin.query(table, key, &mut twin_answer);
