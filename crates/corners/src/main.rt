@@ -10,7 +10,7 @@
 //   view FROM TO              tells words FROM to TO − 1 of the table
 //   pairs                     tells all words of the list
 //   create C K A1 A2, make N  tell the answer's number
-//   query KEY                 tells number, function, place and probes
+//   query KEY                 tells number, function, place, probes, word and level
 //   insert KEY F P, update KEY F P, delete KEY, begin, step, end, recover
 //                             tell number, stores and the words of the stores; step tells the placing besides
 //   all KEY F P               query and each of the other calls in this order, on the same table
