@@ -18,7 +18,7 @@ use Rattle.rules.specs.Calls.{headerGood, listLong, flagClear, changingT
 use Rattle.rules.specs.Calls.{interimBucket, itemsFrom, hasPlace, stepItem, stepTests, stepOf, insert, update, delete, begin, step, outcome}
 use Rattle.rules.specs.Results.{changeResult, queryResult, createTests, created, createResult, makeTests, makeResult}
 use Rattle.rules.specs.declared.Record.{Record}
-use Rattle.rules.specs.Examples.{Row, row, tells, asks, inserted, madeFirst, madeAll, recordOf, fresh, usual, afterE1, beforeE8}
+use Rattle.rules.specs.Examples.{Row, row, tells, asks, madeFirst, madeAll, recordOf, fresh, usual, afterE1, beforeE8}
 
 -- keys 1, 3, 5, 7 stand in bucket 2, and 9, 11, 13, 15 in bucket 0; the same while it grows; after a step, which moves key 9 to bucket 4; and
 -- with key 17 in bucket 6, its second place, as bucket 4 has an item more

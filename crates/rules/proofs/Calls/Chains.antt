@@ -33,7 +33,6 @@ use Rattle.rules.specs.declared.Query.{Query}
 use Rattle.rules.specs.declared.Query.the-variants.{Known, Unknown}
 use Rattle.rules.specs.declared.Chain.{Chain}
 use Rattle.rules.specs.declared.Chain.the-variants.{Whole, Broken}
-use Rattle.rules.proofs.Basics.Lists.{never}
 use Rattle.rules.proofs.Words.Headers.{good-header, header-passes}
 use Rattle.rules.proofs.Calls.Meanings.{number-not-zero}
 use Rattle.rules.proofs.Calls.Queries.{query-by-lookup, queryAnswers, probesAreFew}

@@ -129,7 +129,7 @@ readQuery : Meaning → Query
 readQuery m =
     let r : Record = record { function = value m 0; place = value m 1 } in
     let x : Spot = record { word = value m 3; level = value m 4 } in
-    byNumber m (Known r x (value m 2)) (λ (r : Refusal). Unknown r (value m 2))
+    byNumber m (Known r x (value m 2)) (λ (e : Refusal). Unknown e (value m 2))
 
 query-back : (a : Query) → readQuery (queryMeans a) ≡ a
 unfolding readQuery byNumber value

@@ -4,7 +4,7 @@
 use Prim.Native.Nat.{ℕ, _+_, _-_, _*_, _<_}
 use mathlib.Core.Path.{_≡_, refl, sym, ap, _∙_}
 use mathlib.Core.Bool.{Bool, true, false, cond}
-use mathlib.Core.List.{List, [], _∷_, List·Memᴰ as In}
+use mathlib.Core.List.{[], _∷_, List·Memᴰ as In}
 use mathlib.Core.Logic.{_⊎_, inl, inr}
 use native.Mathlib.Omega.{arith}
 use lib.ListN.{length, getD}
@@ -14,12 +14,12 @@ use Rattle.rules.specs.Words.{tokenWord, keyWord, functionWord, placeWor
 use Rattle.rules.specs.Places.{holds, lookup}
 use Rattle.rules.specs.Stores.{clearStores, updateStores}
 use Rattle.rules.specs.Placing.{freeSlot}
-use Rattle.rules.specs.Soundness.{TakenSlot, SoundTable}
+use Rattle.rules.specs.Soundness.{TakenSlot}
 use Rattle.rules.specs.Answers.{queryMeans, chainMeans}
-use Rattle.rules.specs.Calls.{headerGood, flagClear, checked, queryTests, changingTests, refused, insertIn, updateIn, deleteIn, outcome}
+use Rattle.rules.specs.Calls.{headerGood, flagClear, queryTests, insertIn, updateIn, deleteIn, outcome}
 use Rattle.rules.specs.Results.{queryAt, queryResult}
 use Rattle.rules.specs.Chains.{chainResult}
-use Rattle.rules.specs.Demands.{FirstHolder, Growing, slotStart, AnswersRecord}
+use Rattle.rules.specs.Demands.{FirstHolder, slotStart, AnswersRecord}
 use Rattle.rules.specs.ChainSentences.{keyAt, ChainWritten}
 use Rattle.rules.specs.SpotSentences.{KeyStands, LevelNamed, StoodAt, told, FoundStood, RefusedStoodNowhere, LookupStood, wordTold, levelTold}
 use Rattle.rules.specs.SpotSentences.{TheOneStood, ChangesGoThere, ChainStood}
