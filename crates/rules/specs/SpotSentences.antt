@@ -103,6 +103,7 @@ TheOneStood =
 -- delete and update list their stores for the slot of the word told, and insert refuses its key
 pub record ChangesThere (t : Table) (key n : ℕ) : Type 0 where
   pub slot : Slot
+  pub four : slot .slot < 4
   pub index : wordTold t key ≡ slotStart slot
   pub level : levelTold t key ≡ slot .level
   pub deletes : outcome t n (delete key) ≡ listed ((bucketStart (slot .bucket), hide (headerOf t) (tokenOf t (slot .bucket)) (slot .slot)) ∷ [])

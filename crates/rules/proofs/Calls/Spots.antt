@@ -197,6 +197,7 @@ changesGoThere t key n l z =
     let h = headerOf t in
     record {
       slot = f .slot;
+      four = holder-taken t key (f .slot) (lookup-stands t key (f .slot) (f .count) (f .found) .0) .0 .used .slot;
       index = ap (λ (q : Query). getD (queryMeans q .values) 3 0) (f .answer);
       level = ap (λ (q : Query). getD (queryMeans q .values) 4 0) (f .answer);
       deletes = pass (deleteIn t h (lookup t h key)) ∙ ap (deleteIn t h) (f .found);
