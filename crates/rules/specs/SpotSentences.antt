@@ -47,6 +47,7 @@ pub record StoodAt (t : Table) (key f p n w name : ℕ) : Type 0 where
   -- the key word of a taken slot with that key
   pub four : slot < 4
   pub index : w ≡ 9 + 13 * bucket + (1 + 3 * slot)
+  pub inside : w + 2 < length t
   pub stands : KeyStands t key bucket slot
   -- in a level in use of that name
   pub level : LevelNamed t name bucket

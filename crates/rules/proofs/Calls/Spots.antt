@@ -39,6 +39,7 @@ use Rattle.rules.proofs.Words.Headers.{good-header}
 use Rattle.rules.proofs.Words.Levels.{OfThree, level-cases}
 use Rattle.rules.proofs.Words.FreeSlots.{slot-place}
 use Rattle.rules.proofs.Words.SlotsInUse.{slots-of-place}
+use Rattle.rules.proofs.Places.PlacesInUse.{slot-within}
 use Rattle.rules.proofs.Places.Lookups.{lookup-stands, holder-taken, placed-in, lookup-sees}
 use Rattle.rules.proofs.Calls.Meanings.{number-not-zero, lookup-told}
 use Rattle.rules.proofs.Calls.Passing.{passes-tests}
@@ -79,10 +80,10 @@ level-named t x u = go (level-cases (headerOf t .state) (u .used .level) (u .use
 
 module _ (t : Table) (key : ℕ) where
   -- the slot that the lookup finds
-  stood-at : (x : Slot) (n : ℕ) → lookup t (headerOf t) key ≡ Stands x n
+  stood-at : GoodHeader (length t) (headerOf t) → (x : Slot) (n : ℕ) → lookup t (headerOf t) key ≡ Stands x n
       → StoodAt t key (recordIn t x .function) (recordIn t x .place) n (spotOf x .word) (spotOf x .level)
   unfolding recordIn functionWord placeWord spotOf keyWord tokenWord placeOf slotAt
-  stood-at x n e =
+  stood-at g x n e =
       let found = lookup-stands t key x n e in
       let s = found .0 in
       let u = holder-taken t key x s .0 in
@@ -92,6 +93,7 @@ module _ (t : Table) (key : ℕ) where
         slot = x .slot;
         four = u .used .slot;
         index = refl;
+        inside = let i = slot-within (length t) (headerOf t) g x (u .used) in omega (arith, i .0, i .1);
         stands = holds-words t key x .0 (s .holding);
         level = level-named t x u;
         before = s .before;
@@ -153,7 +155,7 @@ foundStood t key z =
       spotOf (f .slot) .word,
       spotOf (f .slot) .level,
       ap (λ (q : Query). queryMeans q .values) (f .answer),
-      stood-at t key (f .slot) (f .count) (f .found),
+      stood-at t key (f .header) (f .slot) (f .count) (f .found),
     )
 
 pub refusedStoodNowhere : RefusedStoodNowhere
