@@ -36,7 +36,8 @@ const USAGE: &str = "\
 usage: ragansils-inspect FILE
        ragansils-inspect FILE --key ADDRESS DEPTH
 Tells what the table in FILE holds, and what recovery would do with it. With --key it tells what a query of a key answers, where the key
-stands, and what stands in every bucket where it may. ADDRESS and DEPTH are decimal, or hexadecimal with 0x before them. FILE is only read.
+stands, and what stands in every bucket where it may. ADDRESS and DEPTH are decimal, or hexadecimal with 0x before them;
+the key that the table holds is ADDRESS * 256 + DEPTH. FILE is only read.
 exit status: 0 the table is sound;             with --key: the key was found
              1 FILE could not be read, or the answer could not be written
              2 the command line is wrong

@@ -13,7 +13,7 @@
 //! let list = calls::insert(&words, Key::from(1), Record { function: 10, place: 20 })?;
 //! assert_eq!(list.words(), [36, 1, 37, 10, 38, 20, 35, 1]);
 //!
-//! // Power goes before the token is stored: the key is not there.
+//! // Power fails before the token is stored: the key is not there.
 //! calls::make(&mut words, list.words(), 3)?;
 //! assert_eq!(calls::query(&words, Key::from(1))?.record(), None);
 //! calls::make(&mut words, list.words(), list.count())?;
