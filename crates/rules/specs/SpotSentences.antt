@@ -1,5 +1,5 @@
--- Document 02, request e), a second time: its sentences in facts about the words of the table, without the lookup. They are types, as those of
--- `Demands` are: a law of proofs/ that proves one bears its name, beginning with a small letter.
+-- Document 02, request e), a second time: its sentences in facts about the words of the table; only `LookupStood` names the lookup. They are
+-- types, as those of `Demands` are: a law of proofs/ that proves one bears its name, beginning with a small letter.
 -- Assumes nothing.
 use Prim.Native.Nat.{ℕ, _+_, _-_, _*_, _/_, _%_, _^_, _≤_, _<_}
 use mathlib.Core.Path.{_≡_}
@@ -87,13 +87,14 @@ LookupStood =
     → let m = lookupMeans (lookup t (headerOf t) key) in
     (told t key .number ≡ m .number) × (drop 2 (told t key .values) ≡ take 3 (m .values))
 
--- on a sound table it is the only taken slot with the key
+-- the word and the level that a query tells
 abbrev pub wordTold : Table → ℕ → ℕ
 wordTold t key = getD (told t key .values) 3 0
 
 abbrev pub levelTold : Table → ℕ → ℕ
 levelTold t key = getD (told t key .values) 4 0
 
+-- on a sound table it is the only taken slot with the key
 abbrev pub TheOneStood : Type 0
 TheOneStood =
     (t : Table) → SoundTable t → (x : Slot) (key : ℕ) → TakenSlot t x → word t (slotStart x) ≡ key
