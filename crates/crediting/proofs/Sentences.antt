@@ -9,19 +9,26 @@ use native.Mathlib.Omega.{arith}
 use lib.ListN.{length, length-append}
 use borrow.Author.Tests.{eq-eqb, ne-eqb}
 use Rattle.rules.specs.Choice.{all}
-use Rattle.rules.specs.Words.{Table}
+use Rattle.rules.specs.Words.{Table, word}
 use Rattle.rules.specs.Soundness.{PlainMap, mapOf}
 use Rattle.rules.specs.Calls.{recover}
-use Rattle.rules.specs.Results.{changeResult}
+use Rattle.rules.specs.Results.{changeResult, queryResult}
+use Rattle.rules.specs.Answers.{queryMeans}
+use Rattle.rules.specs.SpotSentences.{wordTold}
 use Rattle.rules.specs.Histories.{Accepted}
 use Rattle.rules.specs.declared.ScriptCall.the-variants.{Recover}
 use Rattle.rules.specs.declared.Change.{Change}
 use Rattle.rules.specs.declared.Change.the-variants.{Listed, Refused}
 use Rattle.rules.specs.declared.Record.{Record}
 use Rattle.rules.specs.declared.Refusal.{Refusal}
+use Rattle.rules.specs.declared.Query.{Query}
+use Rattle.rules.specs.declared.Query.the-variants.{Known, Unknown}
 use Rattle.rules.specs.declared.Verdict.the-variants.{Done, Denied}
 use Rattle.rules.proofs.Tables.Maps.{sound-map}
+use Rattle.rules.proofs.Calls.Meanings.{number-not-zero}
+use Rattle.rules.proofs.Calls.Spots.{told-there}
 use Rattle.rules.proofs.Cutting.Restoring.{recovery-restores}
+use Rattle.tallying.specs.Credits.{credited}
 use Rattle.tallying.specs.Sentences.{total}
 use Rattle.tallying.proofs.Sentences.{allSamplesCount}
 use Rattle.lines.specs.Lines.{lineOf}
@@ -48,8 +55,8 @@ use Rattle.crediting.specs.Ledgers.{samplesBegin, unlessEnded, reportFro
 use Rattle.crediting.specs.Sentences.{NoSample, GoesOn, Read, nothing, line, BadLinesEnd, BadEnd, RefusedTablesEnd, finalTable}
 use Rattle.crediting.specs.Sentences.{FinalMap, UnrecoveredEnds, UnrecoveredAtEnd, Words, finalFigures, numberBehind, SamplesReported}
 use Rattle.crediting.specs.Sentences.{OtherLinesEnd, TornSamplesEnd, BadFirstSampleEnds, EndsAreKnown, CountsExact, MissingCounted}
-use Rattle.crediting.specs.Sentences.{NamedInOrder, BucketsAdded, SumIsSamples}
-use Rattle.crediting.specs.Books.{reportAt, reportIn, knownAt}
+use Rattle.crediting.specs.Sentences.{NamedInOrder, BucketsAdded, CreditsStood, SumIsSamples}
+use Rattle.crediting.specs.Books.{figuresWith, reportAt, reportIn, knownAt}
 use Rattle.crediting.specs.declared.Stage.{Stage}
 use Rattle.crediting.specs.declared.Stage.the-variants.{Script as InScript, Samples, Unmade, Unrecovered, Bad as BadStage}
 use Rattle.crediting.proofs.Figures.{lookedIn}
@@ -416,3 +423,13 @@ unfolding reportOf
 sumIsSamples room ls torn x few e =
     let c = report-counted x ls torn room begun e in
     rw (← (c .figures)) (figures-sum (c .map-of) (c .looked) (c .keys) (omega (arith, c .few, few)))
+
+-- ---- where a credit comes from
+
+pub creditsStood : CreditsStood
+creditsStood x t key z = go (queryResult t key) refl
+  where
+    go : (q : Query) → queryResult t key ≡ q → figuresWith x (queryResult t key) .credits ≡ credited (word t (wordTold t key + 1)) (x .credits)
+    go (Known r s n) e =
+        ap (λ (q : Query). figuresWith x q .credits) e ∙ ap (λ (f : ℕ). credited f (x .credits)) (told-there t key r (s, n, e) .1)
+    go (Unknown k n) e = absurd (number-not-zero k (sym (ap (λ (q : Query). queryMeans q .number) e) ∙ z))

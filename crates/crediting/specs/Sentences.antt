@@ -7,16 +7,18 @@ use mathlib.Core.Bool.{Bool, true, false}
 use mathlib.Core.List.{List, [], _∷_, _++_, map}
 use mathlib.Core.Option.{none, some}
 use lib.ListN.{length}
-use Rattle.rules.specs.Words.{Table}
+use Rattle.rules.specs.Words.{Table, word}
 use Rattle.rules.specs.Soundness.{PlainMap, SoundTable, HasMap, mapOf}
 use Rattle.rules.specs.Calls.{recover}
 use Rattle.rules.specs.Results.{changeResult, queryResult}
 use Rattle.rules.specs.Histories.{whole, after}
 use Rattle.rules.specs.Demands.{countOf}
+use Rattle.rules.specs.SpotSentences.{told, wordTold}
 use Rattle.rules.specs.declared.Record.{Record}
 use Rattle.rules.specs.declared.Refusal.{Refusal}
 use Rattle.rules.specs.declared.Change.the-variants.{Listed, Refused}
 use Rattle.rules.specs.declared.Verdict.the-variants.{Denied}
+use Rattle.tallying.specs.Credits.{credited}
 use Rattle.tallying.specs.Sentences.{total}
 use Rattle.lines.specs.Lines.{lineOf}
 use Rattle.lines.specs.Samples.{sampleOf, sampleText}
@@ -27,7 +29,7 @@ use Rattle.replaying.specs.Replays.{begun, tableOf, turnOf, finishOf}
 use Rattle.replaying.specs.declared.Answer.{Answer}
 use Rattle.replaying.specs.declared.Answer.the-variants.{Created, Bad}
 use Rattle.replaying.specs.declared.Replay.{Replay}
-use Rattle.crediting.specs.Books.{Book, reportIn, knownAt}
+use Rattle.crediting.specs.Books.{Book, figuresWith, reportIn, knownAt}
 use Rattle.crediting.specs.Ledgers.{noneIn, namedIn, bucketsIn, Figures, figuresOf, unmade, unrecovered, badLine, counts, reportOf}
 
 -- ---- the script
@@ -167,6 +169,12 @@ NamedInOrder = (m : PlainMap) (before behind : List ℕ) (key : ℕ) → (namedI
 abbrev pub BucketsAdded : Type 0
 BucketsAdded = (looked : ℕ → ℕ) (before behind : List ℕ) (key : ℕ) → (bucketsIn looked [] ≡ 0)
     × (bucketsIn looked (before ++ (key ∷ behind)) ≡ bucketsIn looked (before ++ behind) + looked key)
+
+-- request e), "Delete, update, the chain of a) and the ledger of d) rest on that lookup": a sample whose query finds its key is credited to the
+-- function that stands after the word told
+abbrev pub CreditsStood : Type 0
+CreditsStood = (x : Figures) (t : Table) (key : ℕ) → told t key .number ≡ 0
+    → figuresWith x (queryResult t key) .credits ≡ credited (word t (wordTold t key + 1)) (x .credits)
 
 -- "exact whole numbers": a number below 2^64 is told as it is
 abbrev pub CountsExact : Type 0

@@ -6,7 +6,7 @@ use Rattle.replaying.proofs.Enough.{roomIsEnough, roomMakesAll}
 use Rattle.crediting.proofs.Whole.{reportsAreOne}
 use Rattle.crediting.proofs.Counting.{linesCounted}
 use Rattle.crediting.proofs.Sentences.{badLinesEnd, badEnd, refusedTablesEnd, finalMap, unrecoveredEnds, unrecoveredAtEnd, samplesReported, otherLinesEnd}
-use Rattle.crediting.proofs.Sentences.{tornSamplesEnd, badFirstSampleEnds, endsAreKnown, missingCounted, namedInOrder, bucketsAdded, countsExact}
+use Rattle.crediting.proofs.Sentences.{tornSamplesEnd, badFirstSampleEnds, endsAreKnown, missingCounted, namedInOrder, bucketsAdded, creditsStood, countsExact}
 use Rattle.crediting.proofs.Sentences.{sumIsSamples}
 use Rattle.posting.proofs.Whole.{bytesReportedAsLines, partsArePosted, knownStays}
 use Rattle.ledger.specs.Request.{SampleLedger}
@@ -42,6 +42,7 @@ sampleLedger =
             missingCounted = missingCounted;
             namedInOrder = namedInOrder;
             bucketsAdded = bucketsAdded;
+            creditsStood = creditsStood;
             countsExact = countsExact;
           };
       functions =

@@ -6,7 +6,7 @@ use Rattle.replaying.specs.Rooms.{RoomIsEnough, RoomMakesAll}
 use Rattle.crediting.specs.Books.{ReportsAreOne}
 use Rattle.crediting.specs.Sentences.{LinesCounted, BadLinesEnd, BadEnd, RefusedTablesEnd, FinalMap, UnrecoveredEnds, UnrecoveredAtEnd}
 use Rattle.crediting.specs.Sentences.{SamplesReported, OtherLinesEnd, TornSamplesEnd, BadFirstSampleEnds, MissingCounted, NamedInOrder, BucketsAdded}
-use Rattle.crediting.specs.Sentences.{EndsAreKnown, CountsExact, SumIsSamples}
+use Rattle.crediting.specs.Sentences.{EndsAreKnown, CreditsStood, CountsExact, SumIsSamples}
 use Rattle.posting.specs.Posts.{BytesReportedAsLines, PartsArePosted, KnownStays}
 use Rattle.ledger.specs.Parts.{PartsWritten, KnownPartsWritten}
 
@@ -37,6 +37,8 @@ pub record CountsByTheMap : Type 0 where
   pub missingCounted : MissingCounted
   pub namedInOrder : NamedInOrder
   pub bucketsAdded : BucketsAdded
+  -- request e): "the ledger of d) rest on that lookup"
+  pub creditsStood : CreditsStood
   pub countsExact : CountsExact
 
 -- "The first 512 different functions in input order are counted; samples of further ones count as `other`", and the total

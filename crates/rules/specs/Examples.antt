@@ -2,7 +2,8 @@
 --
 -- A row holds what the rules compute and what document 01 writes. Where document 01 names no record, the row holds for
 -- whatever record r gives a key. Tables come about as a caller makes them: created in used words, each call with a list
--- of 20 words, the stores that it reports made from that list. "top bucket 0" of E8 is bucket 1, whose token word is 22.
+-- of 20 words, the stores that it reports made from that list. "top bucket 0" of E8 is bucket 1, whose token word is 22. Word and level in
+-- the answers of queries are document 02's, request e).
 -- Assumes nothing.
 use Prim.Native.Nat.{ℕ, _+_, _%_}
 use mathlib.Core.Path.{_≡_, refl}

@@ -126,7 +126,7 @@ pub record WhereItStood : Type 0 where
   pub refusedStoodNowhere : RefusedStoodNowhere
   -- on a sound table there is one slot to tell
   pub theOneStood : TheOneStood
-  -- "Delete, update, the chain of a) .. rest on that lookup" (the ledger credits what a query answers: crate `crediting`)
+  -- "Delete, update, the chain of a) and the ledger of d) rest on that lookup": of the ledger it is `CreditsStood` of the crate `crediting`
   pub changesGoThere : ChangesGoThere
   pub chainStood : ChainStood
 

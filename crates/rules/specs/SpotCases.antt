@@ -31,9 +31,13 @@ stepped r = madeAll (growing r) step
 unfoldable pub filled : (ℕ → Record) → Table
 filled r = madeAll (stepped r) (insert 17 (r 17))
 
--- key 1 put by hand to slot 0 of the bucket with that token word, which becomes w
+-- key 1 with the record 7, 8 put by hand to slot 0 of the bucket with that token word, which becomes w
 abbrev pub putBy : Table → ℕ → ℕ → Table
-putBy t token w = set (set t token w) (1 + token) 1
+putBy t token w = set (set (set (set t token w) (1 + token) 1) (2 + token) 7) (3 + token) 8
+
+-- key 1 in slots 1 and 3 of bucket 2, with two functions, whatever its token word w says of them; slot 0 has another key
+unfoldable pub twice : ℕ → Table
+twice w = set (set (set (set (set (set usual 35 w) 36 7) 39 1) 40 5) 45 1) 46 6
 
 unfoldable pub cases : (ℕ → Record) → List Row
 cases r =
@@ -55,13 +59,13 @@ cases r =
     ∷ row 12 (asks (madeAll afterE1 (delete 1)) 1) (tells 5 (0 ∷ 0 ∷ 2 ∷ 0 ∷ 0 ∷ []))
     -- the first such slot in probe order: key 1 in the bottom as well, and then there alone; in bucket 1, which is no place of it
     ∷ row 13 (asks (putBy afterE1 9 1) 1) (tells 0 (10 ∷ 20 ∷ 1 ∷ 36 ∷ 0 ∷ []))
-    ∷ row 14 (asks (set (putBy afterE1 9 1) 35 0) 1) (tells 0 (0 ∷ 0 ∷ 2 ∷ 10 ∷ 1 ∷ []))
+    ∷ row 14 (asks (set (putBy afterE1 9 1) 35 0) 1) (tells 0 (7 ∷ 8 ∷ 2 ∷ 10 ∷ 1 ∷ []))
     ∷ row 15 (asks (putBy usual 22 1) 1) (tells 5 (0 ∷ 0 ∷ 2 ∷ 0 ∷ 0 ∷ []))
     -- twice in one bucket, in slots 1 and 3; and in slot 3 alone, beside a free slot 1 with that key
-    ∷ row 16 (asks (set (set (set (putBy usual 35 10) 36 7) 39 1) 45 1) 1) (tells 0 (0 ∷ 0 ∷ 1 ∷ 39 ∷ 0 ∷ []))
-    ∷ row 17 (asks (set (set (set (putBy usual 35 8) 36 7) 39 1) 45 1) 1) (tells 0 (0 ∷ 0 ∷ 1 ∷ 45 ∷ 0 ∷ []))
+    ∷ row 16 (asks (twice 10) 1) (tells 0 (5 ∷ 0 ∷ 1 ∷ 39 ∷ 0 ∷ []))
+    ∷ row 17 (asks (twice 8) 1) (tells 0 (6 ∷ 0 ∷ 1 ∷ 45 ∷ 0 ∷ []))
     -- "Calls read token words modulo 16"
-    ∷ row 18 (asks (putBy usual 35 4097) 1) (tells 0 (0 ∷ 0 ∷ 1 ∷ 36 ∷ 0 ∷ []))
+    ∷ row 18 (asks (putBy usual 35 4097) 1) (tells 0 (7 ∷ 8 ∷ 1 ∷ 36 ∷ 0 ∷ []))
     -- "with any refusal, index 0 and top": 5, 3 and 1
     ∷ row 19 (asks (growing r) 17) (tells 5 (0 ∷ 0 ∷ 4 ∷ 0 ∷ 0 ∷ []))
     ∷ row 20 (asks (set (growing r) 5 1) 9) (tells 3 (0 ∷ 0 ∷ 0 ∷ 0 ∷ 0 ∷ []))
@@ -75,5 +79,5 @@ unfolding productOf hashOf flatMap wordsFor stateOf stateWord atRest headerOf fl
     isTaken show hide takenOf taken hashesOf firstPlace secondPlace samePlace placesIn probes placesOf holds hitIn lookup takenIn freeSlot fewer emptier
     roomIn placing putStores clearStores placingStores updateStores beginStores stepStores written headerGood listLong flagClear changingTests queryTests
     beginTests beginOf interimSlots interimItems interimBucket itemsFrom hasPlace stepItem stepTests stepOf outcome changeResult queryResult createTests
-    created createResult makeTests makeResult madeFirst madeAll fresh usual afterE1 beforeE8 growing stepped filled cases
+    created createResult makeTests makeResult madeFirst madeAll fresh usual afterE1 beforeE8 growing stepped filled twice cases
 spotCases r = refl

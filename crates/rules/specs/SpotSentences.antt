@@ -80,12 +80,17 @@ abbrev pub RefusedStoodNowhere : Type 0
 RefusedStoodNowhere =
     (t : Table) (key : ℕ) → (told t key .number ≡ 0 → ⊥) → (n : ℕ) × (told t key .values ≡ 0 ∷ 0 ∷ n ∷ 0 ∷ 0 ∷ [])
 
--- the inner lookup answers the number, and behind function and place the values, that query answers with it
+-- the inner lookup answers the number, and after function and place the values, that query answers with it; then, where it finds the key, the
+-- bucket and the slot of the word told
+abbrev pub SlotBehind : ℕ → List ℕ → Type 0
+SlotBehind w values = (j : ℕ) × (s : ℕ) × (values ≡ j ∷ s ∷ []) × (s < 4) × (w ≡ 9 + 13 * j + (1 + 3 * s))
+
 abbrev pub LookupStood : Type 0
 LookupStood =
     (t : Table) (key : ℕ) → GoodHeader (length t) (headerOf t) → flagOf t ≡ 0
     → let m = lookupMeans (lookup t (headerOf t) key) in
     (told t key .number ≡ m .number) × (drop 2 (told t key .values) ≡ take 3 (m .values))
+    × (m .number ≡ 0 → SlotBehind (getD (m .values) 1 0) (drop 3 (m .values)))
 
 -- the word and the level that a query tells
 abbrev pub wordTold : Table → ℕ → ℕ

@@ -7,7 +7,7 @@ use mathlib.Core.Bool.{Bool, true, false, cond}
 use mathlib.Core.List.{[], _∷_, List·Memᴰ as In}
 use mathlib.Core.Logic.{_⊎_, inl, inr}
 use native.Mathlib.Omega.{arith}
-use lib.ListN.{length, getD}
+use lib.ListN.{length, getD, drop}
 use borrow.Author.Tests.{eq-eqb, eqb-true}
 use Rattle.rules.specs.Words.{Table, word, headerOf, GoodHeader, flagOf, atRest, topOf, bottomOf, interimOf, InLevel, slotAt, slotsIn, placeOf}
 use Rattle.rules.specs.Words.{tokenWord, keyWord, functionWord, placeWord, spotOf, keyIn, recordIn, tokenOf, tokenNumber, isTaken, taken}
@@ -15,14 +15,14 @@ use Rattle.rules.specs.Places.{holds, lookup}
 use Rattle.rules.specs.Stores.{clearStores, updateStores}
 use Rattle.rules.specs.Placing.{freeSlot}
 use Rattle.rules.specs.Soundness.{TakenSlot}
-use Rattle.rules.specs.Answers.{queryMeans, chainMeans}
+use Rattle.rules.specs.Answers.{queryMeans, lookupMeans, chainMeans}
 use Rattle.rules.specs.Calls.{headerGood, flagClear, queryTests, insertIn, updateIn, deleteIn, outcome}
 use Rattle.rules.specs.Results.{queryAt, queryResult}
 use Rattle.rules.specs.Chains.{chainResult}
 use Rattle.rules.specs.Demands.{FirstHolder, slotStart, AnswersRecord}
 use Rattle.rules.specs.ChainSentences.{keyAt, ChainWritten}
-use Rattle.rules.specs.SpotSentences.{KeyStands, LevelNamed, StoodAt, told, FoundStood, RefusedStoodNowhere, LookupStood, wordTold, levelTold}
-use Rattle.rules.specs.SpotSentences.{TheOneStood, ChangesGoThere, ChainStood}
+use Rattle.rules.specs.SpotSentences.{KeyStands, LevelNamed, StoodAt, told, FoundStood, RefusedStoodNowhere, SlotBehind, LookupStood, wordTold}
+use Rattle.rules.specs.SpotSentences.{levelTold, TheOneStood, ChangesGoThere, ChainStood}
 use Rattle.rules.specs.declared.Level.{Level}
 use Rattle.rules.specs.declared.Place.{Place}
 use Rattle.rules.specs.declared.Slot.{Slot}
@@ -169,7 +169,19 @@ refusedStoodNowhere t key = query-ways t key P (λ r n. (0, refl)) by
     by g f (Absent n) q z = (n, refl)
 
 pub lookupStood : LookupStood
-lookupStood t key g f = rw (query-by-lookup t key g f) (lookup-told t (lookup t (headerOf t) key))
+unfolding spotOf keyWord tokenWord
+lookupStood t key g f =
+    let l = lookup-told t (lookup t (headerOf t) key) in
+    let q = query-by-lookup t key g f in (
+      ap (λ (a : Query). queryMeans a .number) q ∙ l .0,
+      ap (λ (a : Query). drop 2 (queryMeans a .values)) q ∙ l .1,
+      go (lookup t (headerOf t) key) refl,
+    )
+  where
+    go : (o : Lookup) → lookup t (headerOf t) key ≡ o → lookupMeans o .number ≡ 0
+        → SlotBehind (getD (lookupMeans o .values) 1 0) (drop 3 (lookupMeans o .values))
+    go (Stands x n) e z = (x .bucket, x .slot, refl, holder-taken t key x (lookup-stands t key x n e .0) .0 .used .slot, refl)
+    go (Absent n) e z = absurd (number-not-zero KeyAbsent z)
 
 -- ---- on a sound table
 
@@ -212,7 +224,7 @@ changesGoThere t key n l z =
     }
 
 -- a record that a query answers stands behind the word told
-told-there : (t : Table) (key : ℕ) (r : Record) → AnswersRecord (queryResult t key) r
+pub told-there : (t : Table) (key : ℕ) (r : Record) → AnswersRecord (queryResult t key) r
     → (told t key .number ≡ 0) × (r .function ≡ word t (wordTold t key + 1)) × (r .place ≡ word t (wordTold t key + 2))
 unfolding recordIn functionWord placeWord spotOf
 told-there t key r a =
