@@ -44,89 +44,97 @@ smallest events = bytes "cap=1\ntop=1\nmul1=1\nmul2=1\n" ++ bytes events
 abbrev pub growing : String → List ℕ
 growing events = bytes "cap=2\ntop=1\nmul1=1\nmul2=1\n" ++ bytes events
 
-abbrev pub cases : List (List ℕ × String)
+abbrev pub cases : List (List ℕ × List ℕ)
 cases =
     -- "Whole case, lines joined by commas here."
     (
       bytes "cap=2\ntop=1\nmul1=4294967297\nmul2=12884901889\nop=insert\nkey=1\nfn=10\nat=20\nop=query\nkey=1\nop=query\nkey=3\n",
-      "made=0\nanswer=0\nstores=4\nanswer=0\nfn=10\nat=20\nprobes=1\nword=36\nlevel=0\nanswer=5\nfn=0\nat=0\nprobes=2\nword=0\nlevel=0\nevents=3\n",
+      bytes "made=0\nanswer=0\nstores=4\nanswer=0\nfn=10\nat=20\nprobes=1\nword=36\nlevel=0\n"
+          ++ bytes "answer=5\nfn=0\nat=0\nprobes=2\nword=0\nlevel=0\nevents=3\n",
     )
     -- "Program cap is at most 8; a larger one gives `made=13`." "After `made=13` comes `events=0`, and no event line is read."
-    ∷ (bytes "cap=9\ntop=1\nmul1=1\nmul2=1\nop=what\n", "made=13\nevents=0\n")
+    ∷ (bytes "cap=9\ntop=1\nmul1=1\nmul2=1\nop=what\n", bytes "made=13\nevents=0\n")
     -- and all four lines are read before
-    ∷ (bytes "cap=9\ntop=1\nmul1=x\n", "bad=3\n")
+    ∷ (bytes "cap=9\ntop=1\nmul1=x\n", bytes "bad=3\n")
     -- "A number of 2^64 or more is bad, and so is the line missing where input ends too soon."
-    ∷ (bytes "", "bad=1\n")
-    ∷ (bytes "cap=1\ntop=1\n", "bad=3\n")
-    ∷ (smallest "op=query\nkey=18446744073709551615\n", "made=0\nanswer=5\nfn=0\nat=0\nprobes=2\nword=0\nlevel=0\nevents=1\n")
-    ∷ (smallest "op=query\nkey=18446744073709551616\n", "made=0\nbad=6\n")
+    ∷ (bytes "", bytes "bad=1\n")
+    ∷ (bytes "cap=1\ntop=1\n", bytes "bad=3\n")
+    ∷ (smallest "op=query\nkey=18446744073709551615\n", bytes "made=0\nanswer=5\nfn=0\nat=0\nprobes=2\nword=0\nlevel=0\nevents=1\n")
+    ∷ (smallest "op=query\nkey=18446744073709551616\n", bytes "made=0\nbad=6\n")
     -- "no leading zeros, each ended by a newline"
-    ∷ (bytes "cap=01\n", "bad=1\n")
-    ∷ (smallest "op=end", "made=0\nbad=5\n")
+    ∷ (bytes "cap=01\n", bytes "bad=1\n")
+    ∷ (smallest "op=end", bytes "made=0\nbad=5\n")
     -- and by nothing else: neither a tab nor a carriage return ends a line or may stand in it, and an empty line is a bad one
-    ∷ (bytes "cap=1\ttop=1\tmul1=1\tmul2=1\t", "bad=1\n")
-    ∷ (bytes "cap=1\r\ntop=1\n", "bad=1\n")
-    ∷ (bytes "\ncap=1\n", "bad=1\n")
-    ∷ (smallest "op=end\n\nop=end\n", "made=0\nanswer=8\nstores=0\nbad=6\n")
+    ∷ (bytes "cap=1\ttop=1\tmul1=1\tmul2=1\t", bytes "bad=1\n")
+    ∷ (bytes "cap=1\r\ntop=1\n", bytes "bad=1\n")
+    ∷ (bytes "\ncap=1\n", bytes "bad=1\n")
+    ∷ (smallest "op=end\n\nop=end\n", bytes "made=0\nanswer=8\nstores=0\nbad=6\n")
     -- "First bad line: `bad=` its number, from 1, and stop.", after what was answered before
-    ∷ (smallest "op=end\nop=what\nop=end\n", "made=0\nanswer=8\nstores=0\nbad=6\n")
+    ∷ (smallest "op=end\nop=what\nop=end\n", bytes "made=0\nanswer=8\nstores=0\nbad=6\n")
     -- "`op=cut` with `after`, which must stand right before a changing event or recover (else the cut line is the bad line)"
-    ∷ (smallest "op=cut\nafter=1\nop=query\nkey=1\n", "made=0\nbad=5\n")
-    ∷ (smallest "op=cut\nafter=1\n", "made=0\nbad=5\n")
-    ∷ (smallest "op=cut\nafter=x\nop=end\n", "made=0\nbad=6\n")
+    ∷ (smallest "op=cut\nafter=1\nop=query\nkey=1\n", bytes "made=0\nbad=5\n")
+    ∷ (smallest "op=cut\nafter=1\n", bytes "made=0\nbad=5\n")
+    ∷ (smallest "op=cut\nafter=x\nop=end\n", bytes "made=0\nbad=6\n")
     -- "lets only that many of its stores be made, or all if there are fewer"; "An event under a cut line adds `kept=` .. the cut
     -- line itself is neither answered nor counted."
     ∷ (
       smallest "op=cut\nafter=3\nop=insert\nkey=1\nfn=2\nat=3\nop=query\nkey=1\n",
-      "made=0\nanswer=0\nstores=4\nkept=3\nanswer=5\nfn=0\nat=0\nprobes=2\nword=0\nlevel=0\nevents=2\n",
+      bytes "made=0\nanswer=0\nstores=4\nkept=3\nanswer=5\nfn=0\nat=0\nprobes=2\nword=0\nlevel=0\nevents=2\n",
     )
     ∷ (
       smallest "op=cut\nafter=9\nop=insert\nkey=1\nfn=2\nat=3\nop=query\nkey=1\n",
-      "made=0\nanswer=0\nstores=4\nkept=4\nanswer=0\nfn=2\nat=3\nprobes=1\nword=23\nlevel=0\nevents=2\n",
+      bytes "made=0\nanswer=0\nstores=4\nkept=4\nanswer=0\nfn=2\nat=3\nprobes=1\nword=23\nlevel=0\nevents=2\n",
     )
     -- each event with its lines, in their order
     ∷ (
       growing "op=insert\nkey=1\nfn=2\nat=3\nop=update\nkey=1\nfn=4\nat=5\nop=query\nkey=1\nop=delete\nkey=1\nop=begin\nop=step\nop=end\nop=recover\n",
-      "made=0\nanswer=0\nstores=4\nanswer=0\nstores=4\nanswer=0\nfn=4\nat=5\nprobes=1\nword=26\nlevel=0\nanswer=0\nstores=1\nanswer=0\nstores=1\nanswer=11\nstores=0\nanswer=0\nstores=1\nanswer=0\nstores=0\nevents=8\n",
+      bytes "made=0\nanswer=0\nstores=4\nanswer=0\nstores=4\nanswer=0\nfn=4\nat=5\nprobes=1\nword=26\nlevel=0\nanswer=0\nstores=1\n"
+          ++ bytes "answer=0\nstores=1\nanswer=11\nstores=0\nanswer=0\nstores=1\nanswer=0\nstores=0\nevents=8\n",
     )
     -- each that a cut line may stand before, under one
     ∷ (
-      growing "op=insert\nkey=1\nfn=2\nat=3\nop=cut\nafter=2\nop=insert\nkey=4\nfn=5\nat=6\nop=cut\nafter=3\nop=update\nkey=1\nfn=4\nat=5\nop=cut\nafter=0\nop=delete\nkey=1\nop=query\nkey=1\n",
-      "made=0\nanswer=0\nstores=4\nanswer=0\nstores=4\nkept=2\nanswer=0\nstores=4\nkept=3\nanswer=0\nstores=1\nkept=0\nanswer=0\nfn=2\nat=3\nprobes=1\nword=23\nlevel=0\nevents=5\n",
+      growing "op=insert\nkey=1\nfn=2\nat=3\nop=cut\nafter=2\nop=insert\nkey=4\nfn=5\nat=6\nop=cut\nafter=3\nop=update\nkey=1\n"
+          ++ bytes "fn=4\nat=5\nop=cut\nafter=0\nop=delete\nkey=1\nop=query\nkey=1\n",
+      bytes "made=0\nanswer=0\nstores=4\nanswer=0\nstores=4\nkept=2\nanswer=0\nstores=4\nkept=3\nanswer=0\nstores=1\nkept=0\n"
+          ++ bytes "answer=0\nfn=2\nat=3\nprobes=1\nword=23\nlevel=0\nevents=5\n",
     )
     ∷ (
       growing "op=cut\nafter=1\nop=begin\nop=cut\nafter=7\nop=step\nop=cut\nafter=0\nop=end\nop=cut\nafter=0\nop=recover\nop=end\n",
-      "made=0\nanswer=0\nstores=1\nkept=1\nanswer=11\nstores=0\nkept=0\nanswer=0\nstores=1\nkept=0\nanswer=0\nstores=0\nkept=0\nanswer=0\nstores=1\nevents=5\n",
+      bytes "made=0\nanswer=0\nstores=1\nkept=1\nanswer=11\nstores=0\nkept=0\nanswer=0\nstores=1\nkept=0\nanswer=0\nstores=0\n"
+          ++ bytes "kept=0\nanswer=0\nstores=1\nevents=5\n",
     )
     -- before any other line it is the bad one, whatever stands there
-    ∷ (smallest "op=cut\nafter=1\nop=cut\nafter=1\nop=end\n", "made=0\nbad=5\n")
-    ∷ (smallest "op=cut\nafter=1\nkey=1\n", "made=0\nbad=5\n")
+    ∷ (smallest "op=cut\nafter=1\nop=cut\nafter=1\nop=end\n", bytes "made=0\nbad=5\n")
+    ∷ (smallest "op=cut\nafter=1\nkey=1\n", bytes "made=0\nbad=5\n")
     -- lines in another order, or missing
-    ∷ (bytes "top=1\ncap=1\n", "bad=1\n")
-    ∷ (smallest "op=insert\nfn=1\n", "made=0\nbad=6\n")
-    ∷ (smallest "op=update\nkey=1\nat=1\n", "made=0\nbad=7\n")
-    ∷ (smallest "op=insert\nkey=1\nfn=2\n", "made=0\nbad=8\n")
-    ∷ (smallest "op=delete\nop=end\n", "made=0\nbad=6\n")
-    ∷ (smallest "op=query\nfn=1\n", "made=0\nbad=6\n")
-    ∷ (smallest "op=cut\nop=end\n", "made=0\nbad=6\n")
-    ∷ (smallest "op=end\nkey=1\n", "made=0\nanswer=8\nstores=0\nbad=6\n")
+    ∷ (bytes "top=1\ncap=1\n", bytes "bad=1\n")
+    ∷ (smallest "op=insert\nfn=1\n", bytes "made=0\nbad=6\n")
+    ∷ (smallest "op=update\nkey=1\nat=1\n", bytes "made=0\nbad=7\n")
+    ∷ (smallest "op=insert\nkey=1\nfn=2\n", bytes "made=0\nbad=8\n")
+    ∷ (smallest "op=delete\nop=end\n", bytes "made=0\nbad=6\n")
+    ∷ (smallest "op=query\nfn=1\n", bytes "made=0\nbad=6\n")
+    ∷ (smallest "op=cut\nop=end\n", bytes "made=0\nbad=6\n")
+    ∷ (smallest "op=end\nkey=1\n", bytes "made=0\nanswer=8\nstores=0\nbad=6\n")
     -- `op=step` is the step from the first interim bucket on: the fifth of these keys has no room in the top, and moves up in a growth
     ∷ (
       growing "op=insert\nkey=1\nfn=1\nat=1\nop=insert\nkey=2\nfn=2\nat=2\nop=insert\nkey=3\nfn=3\nat=3\n"
           ++ bytes "op=insert\nkey=4\nfn=4\nat=4\nop=insert\nkey=5\nfn=5\nat=6\nop=begin\nop=step\nop=step\nop=query\nkey=5\n",
-      "made=0\nanswer=0\nstores=4\nanswer=0\nstores=4\nanswer=0\nstores=4\nanswer=0\nstores=4\nanswer=0\nstores=4\nanswer=0\nstores=1\nanswer=0\nstores=5\nanswer=11\nstores=0\nanswer=0\nfn=5\nat=6\nprobes=1\nword=49\nlevel=0\nevents=9\n",
+      bytes "made=0\nanswer=0\nstores=4\nanswer=0\nstores=4\nanswer=0\nstores=4\nanswer=0\nstores=4\nanswer=0\nstores=4\nanswer=0\n"
+          ++ bytes "stores=1\nanswer=0\nstores=5\nanswer=11\nstores=0\nanswer=0\nfn=5\nat=6\nprobes=1\nword=49\nlevel=0\nevents=9\n",
     )
     -- document 02, request e): "`word=` and `level=` (0, 1, 2) after `probes=`"; the fifth of these keys stands in the bottom, and while the table
     -- grows in the interim level
     ∷ (
       growing "op=insert\nkey=1\nfn=1\nat=1\nop=insert\nkey=2\nfn=2\nat=2\nop=insert\nkey=3\nfn=3\nat=3\nop=insert\nkey=4\nfn=4\nat=4\n"
           ++ bytes "op=insert\nkey=5\nfn=5\nat=6\nop=query\nkey=5\nop=begin\nop=query\nkey=5\nop=query\nkey=4\n",
-      "made=0\nanswer=0\nstores=4\nanswer=0\nstores=4\nanswer=0\nstores=4\nanswer=0\nstores=4\nanswer=0\nstores=4\nanswer=0\nfn=5\nat=6\nprobes=2\nword=10\nlevel=1\nanswer=0\nstores=1\nanswer=0\nfn=5\nat=6\nprobes=3\nword=10\nlevel=2\nanswer=0\nfn=4\nat=4\nprobes=2\nword=32\nlevel=1\nevents=9\n",
+      bytes "made=0\nanswer=0\nstores=4\nanswer=0\nstores=4\nanswer=0\nstores=4\nanswer=0\nstores=4\nanswer=0\nstores=4\nanswer=0\n"
+          ++ bytes "fn=5\nat=6\nprobes=2\nword=10\nlevel=1\nanswer=0\nstores=1\nanswer=0\nfn=5\nat=6\nprobes=3\nword=10\nlevel=2\nanswer=0\n"
+          ++ bytes "fn=4\nat=4\nprobes=2\nword=32\nlevel=1\nevents=9\n",
     )
     ∷ []
 
 -- the definitions compute what document 01 writes, on used words
-pub cases-computed : map (λ (x : List ℕ × String). outputTo (replicate 100 7) (x .0)) cases ≡ map (λ (x : List ℕ × String). bytes (x .1)) cases
+pub cases-computed : map (λ (x : List ℕ × List ℕ). outputTo (replicate 100 7) (x .0)) cases ≡ map (λ (x : List ℕ × List ℕ). x .1) cases
 unfolding productOf hashOf flatMap wordsFor stateOf stateWord atRest headerOf flagOf stateGood odd capacityTests headerTests topOf bottomOf interimOf
     levelsInUse bucketsOf allBuckets exponentInUse unusedBuckets slotAt slotsIn placeOf placeAt slotsOf slotsInUse tokenWord keyWord spotOf functionWord
     placeWord keyIn recordIn tokenOf tokenNumber isTaken show hide takenOf meant taken meantOf hashesOf firstPlace secondPlace samePlace placesIn
