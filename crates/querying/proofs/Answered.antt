@@ -85,7 +85,9 @@ module _ (t : Table) (key : ℕ) where
     module _ {h : Header} (q : g ≡ Open h) (same : h ≡ headerOf t) {f : Lookup} (l : LookupTells f (lookup t h key)) where
       through : queryAt t f ≡ queryResult t key
       unfolding queryResult
-      through = ap (queryAt t) (lookup-told-by l ∙ ap (λ (z : Header). lookup t z key) same) ∙ gate-open t (queryTests t) e (λ (r : Refusal). Unknown r 0) _ q
+      through =
+          ap (queryAt t) (lookup-told-by l ∙ ap (λ (z : Header). lookup t z key) same)
+          ∙ gate-open t (queryTests t) e (λ (r : Refusal). Unknown r 0) _ q
 
       pub present : {x : Slot} {n : ℕ} {r : Record} {s : Spot} → f ≡ Stands x n → r ≡ recordIn t x → s ≡ spotOf x
           → Queried t key (Known r s n) t

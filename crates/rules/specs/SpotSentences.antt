@@ -121,7 +121,7 @@ pub record ChangesThere (t : Table) (key n : ℕ) : Type 0 where
 abbrev pub ChangesGoThere : Type 0
 ChangesGoThere = (t : Table) (key n : ℕ) → 20 ≤ n → told t key .number ≡ 0 → ChangesThere t key n
 
--- a chain's record of depth e stands behind the word that a query of that depth's key tells
+-- a chain's record of depth e stands after the word that a query of that depth's key tells
 abbrev pub ChainStood : Type 0
 ChainStood =
     (t : Table) (address d : ℕ) (l : List ℕ) → chainMeans (chainResult t address d l .0) .number ≡ 0 → (e : ℕ) → e ≤ d

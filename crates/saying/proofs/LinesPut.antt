@@ -35,7 +35,8 @@ pub last-line : (x : Line) {at r : ℕ} {l m : List ℕ} → Put (named x) at l 
 unfolding flatMap
 last-line x p = rw (append-nil, ← (line-text x)) p
 
-pub line-before : (x : Line) (xs : List Line) {at r₁ r₂ : ℕ} {l m₁ m₂ : List ℕ} → Put (named x) at l r₁ m₁ → Put (flatMap lineText xs) r₁ m₁ r₂ m₂
+pub line-before : (x : Line) (xs : List Line) {at r₁ r₂ : ℕ} {l m₁ m₂ : List ℕ} → Put (named x) at l r₁ m₁
+    → Put (flatMap lineText xs) r₁ m₁ r₂ m₂
     → Put (flatMap lineText (x ∷ xs)) at l r₂ m₂
 unfolding flatMap
 line-before x xs p q = rw (← (line-text x)) (then p q)
@@ -45,7 +46,8 @@ unfolding flatMap
 lines-after [] x = rw (append-nil, line-text x)
 lines-after (y ∷ ys) x = rw (append-assoc (lineText y) (flatMap lineText ys) (named x), lines-after ys x)
 
-pub line-after : (xs : List Line) (x : Line) {at r₁ r₂ : ℕ} {l m₁ m₂ : List ℕ} → Put (flatMap lineText xs) at l r₁ m₁ → Put (named x) r₁ m₁ r₂ m₂
+pub line-after : (xs : List Line) (x : Line) {at r₁ r₂ : ℕ} {l m₁ m₂ : List ℕ} → Put (flatMap lineText xs) at l r₁ m₁
+    → Put (named x) r₁ m₁ r₂ m₂
     → Put (flatMap lineText (xs ++ (x ∷ []))) at l r₂ m₂
 line-after xs x p q = rw (← (lines-after xs x)) (then p q)
 
@@ -68,7 +70,8 @@ module _ {v : Verdict} {n : ℕ} (number : told n ≡ verdictMeans v) {at r : �
   pub created-done : v ≡ Done → Put (named ("made", n)) at l r m → Put (flatMap lineText (createdLines v)) at l r m
   created-done e p = rw e (last-line _ (rw (told-as number e) at p))
 
-  pub created-denied : {d : Refusal} → v ≡ Denied d → Put (named ("made", n)) at l r m → {r₂ : ℕ} {m₂ : List ℕ} → Put (named ("events", 0)) r m r₂ m₂
+  pub created-denied : {d : Refusal} → v ≡ Denied d → Put (named ("made", n)) at l r m → {r₂ : ℕ} {m₂ : List ℕ}
+      → Put (named ("events", 0)) r m r₂ m₂
       → Put (flatMap lineText (createdLines v)) at l r₂ m₂
   created-denied e p q = rw e (line-before _ _ (rw (told-as number e) at p) (last-line _ q))
 

@@ -60,7 +60,8 @@ pub fn tell(number: u64, out: &mut [u8; TEXT_BYTES], at: usize) -> usize
 // Puts a line, of a name with its `=` and a number, "ended by a newline", and answers as `copy` does.
 pub fn line(name: &[u8], number: u64, out: &mut [u8; TEXT_BYTES], at: usize) -> usize
     requires { ⌜ at + length (now name) + 21 ≤ textBytes ⌝ }
-    ensures { λ r. ⌜ Put (lineWith (now (name .entry)) number) at (now (out .entry)) r (now (out .exit)) × (r ≤ at + length (now (name .entry)) + 21) ⌝ }
+    ensures { λ r. ⌜ Put (lineWith (now (name .entry)) number) at (now (out .entry)) r (now (out .exit))
+        × (r ≤ at + length (now (name .entry)) + 21) ⌝ }
 {
     let named = copy_text(name, name.len(), out, at);
     let told = tell(number, out, named);

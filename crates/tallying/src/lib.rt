@@ -35,7 +35,8 @@ struct Range {
 // Looks at the function in the middle, and leaves half at most.
 fn halve(functions: &[u64], used: usize, range: Range, function: u64) -> Range
     requires { ⌜ Searched (now functions) used function × Between function (take used (now functions)) used (range .low) (range .high) ⌝ }
-    ensures { λ r. ⌜ Between function (take used (now (functions .entry))) used (r .low) (r .high) × (r .high - r .low ≤ (range .high - range .low) / 2) ⌝ }
+    ensures { λ r. ⌜ Between function (take used (now (functions .entry))) used (r .low) (r .high)
+        × (r .high - r .low ≤ (range .high - range .low) / 2) ⌝ }
 {
     let low = range.low;
     let high = range.high;

@@ -170,7 +170,8 @@ module _ (t : Table) (m : PlainMap) (sound : SoundTable t) (map : HasMap t m) (a
   walk-answers d l (missing n) k = inr (refl, refl, (k .depth, k .within, rw (k .gap .2) at (depth-says (k .depth))))
 
 -- the tests pass
-passes : (t : Table) (address d : ℕ) (l : List ℕ) → GoodHeader (length t) (headerOf t) → flagOf t ≡ 0 → address < 2 ^ 56 → d ≤ 255 → 2 * (d + 1) ≤ length l
+passes : (t : Table) (address d : ℕ) (l : List ℕ) → GoodHeader (length t) (headerOf t) → flagOf t ≡ 0 → address < 2 ^ 56 → d ≤ 255
+    → 2 * (d + 1) ≤ length l
     → chainResult t address d l ≡ chainOf (walk (asked t address) d) l
 unfolding chainResult chainTests positionTests queryTests headerGood flagClear positionGood recordsLong
 passes t address d l g f a b c =

@@ -127,7 +127,7 @@ module _ (t : Table) (key : ℕ) where
       go false b p q = refuse BadHeader
 
   -- where it answers 0, the tests pass and the lookup finds the key
-  pub record Finds : Type 0 where
+  pub record KeyFound : Type 0 where
     pub header : GoodHeader (length t) (headerOf t)
     pub flag : flagOf t ≡ 0
     pub slot : Slot
@@ -135,11 +135,11 @@ module _ (t : Table) (key : ℕ) where
     pub found : lookup t (headerOf t) key ≡ Stands slot count
     pub answer : queryResult t key ≡ Known (recordIn t slot) (spotOf slot) count
 
-  finds : told t key .number ≡ 0 → Finds
-  finds z = query-ways P (λ r e n. absurd (number-not-zero r n)) by refl z
+  key-found : told t key .number ≡ 0 → KeyFound
+  key-found z = query-ways P (λ r e n. absurd (number-not-zero r n)) by refl z
     where
       P : Query → Type 0
-      P q = queryResult t key ≡ q → queryMeans q .number ≡ 0 → Finds
+      P q = queryResult t key ≡ q → queryMeans q .number ≡ 0 → KeyFound
 
       by : GoodHeader (length t) (headerOf t) → flagOf t ≡ 0 → (o : Lookup) → lookup t (headerOf t) key ≡ o → P (queryAt t o)
       by g f (Stands x n) q e n0 = record { header = g; flag = f; slot = x; count = n; found = q; answer = e }
@@ -147,7 +147,7 @@ module _ (t : Table) (key : ℕ) where
 
 pub foundStood : FoundStood
 foundStood t key z =
-    let f = finds t key z in
+    let f = key-found t key z in
     let r = recordIn t (f .slot) in (
       r .function,
       r .place,
@@ -206,7 +206,7 @@ theOneStood t sound x key u e = go (lookup t (headerOf t) key) refl
 pub changesGoThere : ChangesGoThere
 unfolding outcome spotOf keyWord tokenWord clearStores updateStores
 changesGoThere t key n l z =
-    let f = finds t key z in
+    let f = key-found t key z in
     let pass = passes-tests t n (f .header) l (f .flag) in
     let h = headerOf t in
     record {
@@ -229,7 +229,7 @@ pub told-there : (t : Table) (key : ℕ) (r : Record) → AnswersRecord (queryRe
 unfolding recordIn functionWord placeWord spotOf
 told-there t key r a =
     let z : told t key .number ≡ 0 = ap (λ (q : Query). queryMeans q .number) (a .2) in
-    let f = finds t key z in
+    let f = key-found t key z in
     let same = sym (a .2) ∙ f .answer in
     let w : wordTold t key ≡ keyWord (f .slot) = ap (λ (q : Query). getD (queryMeans q .values) 3 0) (f .answer) in (
       z,
