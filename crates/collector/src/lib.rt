@@ -4,8 +4,10 @@ use chaining::chain;
 use changing::delete;
 use changing::insert;
 use changing::update;
+use growing::back;
 use growing::begin;
 use growing::end;
+use growing::shrink;
 use growing::step_from;
 use making::create;
 use making::make;
@@ -21,6 +23,7 @@ ghost use mathlib.Core.Path.{_≡_};
 ghost use mathlib.Core.List.{[], _∷_};
 ghost use Rattle.rules.specs.Answers.{changeMeans};
 ghost use Rattle.rules.specs.Calls.{insert as insertCall, update as updateCall, delete as deleteCall, begin as beginCall};
+ghost use Rattle.rules.specs.Calls.{shrink as shrinkCall, back as backCall};
 ghost use Rattle.rules.specs.Calls.{end as endCall, recover as recoverCall};
 ghost use Rattle.rules.specs.Calls.{step as stepCall};
 ghost use Rattle.querying.specs.Promises.{QueriedBy};
@@ -140,6 +143,20 @@ pub extern "C" fn ragansils_begin(table: &[u64], list: &mut [u64], stores: &mut 
     ensures { λ r. ⌜ Reported beginCall (now (table .entry)) (now (list .entry)) r (now (stores .exit)) (now (table .exit)) (now (list .exit)) ⌝ }
 {
     report(begin(table, list), stores)
+}
+
+#[no_mangle]
+pub extern "C" fn ragansils_shrink(table: &[u64], list: &mut [u64], stores: &mut u64) -> u64
+    ensures { λ r. ⌜ Reported shrinkCall (now (table .entry)) (now (list .entry)) r (now (stores .exit)) (now (table .exit)) (now (list .exit)) ⌝ }
+{
+    report(shrink(table, list), stores)
+}
+
+#[no_mangle]
+pub extern "C" fn ragansils_back(table: &[u64], list: &mut [u64], stores: &mut u64) -> u64
+    ensures { λ r. ⌜ Reported backCall (now (table .entry)) (now (list .entry)) r (now (stores .exit)) (now (table .exit)) (now (list .exit)) ⌝ }
+{
+    report(back(table, list), stores)
 }
 
 // A step's number; its stores, and the bucket to go on from, in the words lent for them. C is not told the placing, and both steps come

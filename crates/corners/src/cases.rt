@@ -38,6 +38,8 @@ fn changed(t: &[u64], list: &mut [u64], letter: u8, key: u64, r: Record) -> Chan
         b'u' => changing::update(t, list, key, r),
         b'd' => changing::delete(t, list, key),
         b'b' => growing::begin(t, list),
+        b'h' => growing::shrink(t, list),
+        b't' => growing::back(t, list),
         b'e' => growing::end(t, list),
         _ => recovering::recover(t, list),
     }
@@ -65,7 +67,7 @@ fn listed(t: &[u64], list: &mut [u64], letter: u8, key: u64, r: Record) {
 // Query and then each call that lists stores, all on the same table.
 fn every(t: &[u64], list: &mut [u64], key: u64, r: Record) {
     query(querying::query(t, key));
-    let letters = b"iudbser";
+    let letters = b"iudbhtser";
     for i in 0..letters.len() {
         listed(t, list, letters[i], key, r);
     }

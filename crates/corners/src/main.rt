@@ -11,8 +11,9 @@
 //   pairs                     tells all words of the list
 //   create C K A1 A2, make N  tell the answer's number
 //   query KEY                 tells number, function, place, probes, word and level
-//   insert KEY F P, update KEY F P, delete KEY, begin, step, end, recover
-//                             tell number, stores and the words of the stores; step tells the placing besides
+//   insert KEY F P, update KEY F P, delete KEY, begin, halve, turn, step, end, recover
+//                             tell number, stores and the words of the stores; step tells the placing besides. halve is the call
+//                             shrink, and turn the call back
 //   all KEY F P               query and each of the other calls in this order, on the same table
 //   # ..                      is a remark
 // Each line is written as it stands, with what it tells after a colon. Before a call that lists stores every word of the

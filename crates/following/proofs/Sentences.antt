@@ -9,7 +9,7 @@ use lib.ListN.{length, drop, getD, drop-of-length-le}
 use lib.Dec.{eqb}
 use borrow.Author.Tests.{eqb-true}
 use Rattle.rules.specs.declared.ScriptCall.{ScriptCall}
-use Rattle.rules.specs.declared.ScriptCall.the-variants.{Query, Insert, Update, Delete, Begin, Step, End, Recover}
+use Rattle.rules.specs.declared.ScriptCall.the-variants.{Query, Insert, Update, Delete, Begin, Shrink, Back, Step, End, Recover}
 use Rattle.lines.specs.Lines.{blank}
 use Rattle.lines.specs.declared.Name.{Name}
 use Rattle.lines.specs.declared.Name.the-variants.{Cap, Top, Mul1, Mul2, Key, Fn, At, After}
@@ -208,6 +208,8 @@ event-waits s (Delete key) b (k ∷ vs) name later e = absurd (no-name (Key ∷ 
 event-waits s (Query key) b [] name later e = key-waits s _ b refl e
 event-waits s (Query key) b (k ∷ vs) name later e = absurd (no-name (Key ∷ []) (k ∷ vs) (omega arith) e)
 event-waits s Begin b vs name later e = absurd (no-name [] vs (omega arith) e)
+event-waits s Shrink b vs name later e = absurd (no-name [] vs (omega arith) e)
+event-waits s Back b vs name later e = absurd (no-name [] vs (omega arith) e)
 event-waits s Step b vs name later e = absurd (no-name [] vs (omega arith) e)
 event-waits s End b vs name later e = absurd (no-name [] vs (omega arith) e)
 event-waits s Recover b vs name later e = absurd (no-name [] vs (omega arith) e)
@@ -245,6 +247,8 @@ call-asks s (Insert k r) b = asks-by s (blank (Insert k r)) b _ refl (due-here _
 call-asks s (Update k r) b = asks-by s (blank (Update k r)) b _ refl (due-here _ refl refl) (omega arith)
 call-asks s (Delete k) b = asks-by s (Delete 0) b _ refl (due-here _ refl refl) (omega arith)
 call-asks s Begin b = asks-by s Begin b [] refl (due-here _ refl refl) (omega arith)
+call-asks s Shrink b = asks-by s Shrink b [] refl (due-here _ refl refl) (omega arith)
+call-asks s Back b = asks-by s Back b [] refl (due-here _ refl refl) (omega arith)
 call-asks s Step b = asks-by s Step b [] refl (due-here _ refl refl) (omega arith)
 call-asks s End b = asks-by s End b [] refl (due-here _ refl refl) (omega arith)
 call-asks s Recover b = asks-by s Recover b [] refl (due-here _ refl refl) (omega arith)
@@ -257,6 +261,8 @@ cut-may (Insert key r) c = (refl, refl)
 cut-may (Update key r) c = (refl, refl)
 cut-may (Delete key) c = (refl, refl)
 cut-may Begin c = (refl, refl)
+cut-may Shrink c = (refl, refl)
+cut-may Back c = (refl, refl)
 cut-may Step c = (refl, refl)
 cut-may End c = (refl, refl)
 cut-may Recover c = (refl, refl)
@@ -308,6 +314,8 @@ module _ (s : Script) (d : EventDue s) (n : ℕ) where
   no-change (Event (Update key r)) h = absurd (h (Update key r) tt refl)
   no-change (Event (Delete key)) h = absurd (h (Delete key) tt refl)
   no-change (Event Begin) h = absurd (h Begin tt refl)
+  no-change (Event Shrink) h = absurd (h Shrink tt refl)
+  no-change (Event Back) h = absurd (h Back tt refl)
   no-change (Event Step) h = absurd (h Step tt refl)
   no-change (Event End) h = absurd (h End tt refl)
   no-change (Event Recover) h = absurd (h Recover tt refl)

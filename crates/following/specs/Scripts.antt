@@ -4,7 +4,7 @@ use Prim.Native.Nat.{ℕ, _+_, _%_, _^_}
 use mathlib.Core.Bool.{Bool, true, false, cond}
 use lib.Dec.{eqb}
 use Rattle.rules.specs.declared.ScriptCall.{ScriptCall}
-use Rattle.rules.specs.declared.ScriptCall.the-variants.{Query, Insert, Update, Delete, Begin, Step, End, Recover}
+use Rattle.rules.specs.declared.ScriptCall.the-variants.{Query, Insert, Update, Delete, Begin, Shrink, Back, Step, End, Recover}
 use Rattle.lines.specs.declared.Name.{Name}
 use Rattle.lines.specs.declared.Name.the-variants.{Cap, Top, Mul1, Mul2, Key, Fn, At, After}
 use Rattle.lines.specs.declared.Line.{Line}
@@ -59,6 +59,8 @@ numbersIn (Insert key r) = 3
 numbersIn (Update key r) = 3
 numbersIn (Delete key) = 1
 numbersIn Begin = 0
+numbersIn Shrink = 0
+numbersIn Back = 0
 numbersIn Step = 0
 numbersIn End = 0
 numbersIn Recover = 0
@@ -70,6 +72,8 @@ filled (Insert key r) k f p = Insert k (record { function = f; place = p })
 filled (Update key r) k f p = Update k (record { function = f; place = p })
 filled (Delete key) k f p = Delete k
 filled Begin k f p = Begin
+filled Shrink k f p = Shrink
+filled Back k f p = Back
 filled Step k f p = Step
 filled End k f p = End
 filled Recover k f p = Recover
@@ -111,6 +115,8 @@ mayBeCut (Insert key r) = true
 mayBeCut (Update key r) = true
 mayBeCut (Delete key) = true
 mayBeCut Begin = true
+mayBeCut Shrink = true
+mayBeCut Back = true
 mayBeCut Step = true
 mayBeCut End = true
 mayBeCut Recover = true

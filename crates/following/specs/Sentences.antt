@@ -8,7 +8,7 @@ use mathlib.Core.Bool.{Bool, true, false}
 use mathlib.Core.List.{List, [], _∷_, _++_}
 use lib.ListN.{length, drop}
 use Rattle.rules.specs.declared.ScriptCall.{ScriptCall}
-use Rattle.rules.specs.declared.ScriptCall.the-variants.{Query, Insert, Update, Delete, Begin, Step, End, Recover}
+use Rattle.rules.specs.declared.ScriptCall.the-variants.{Query, Insert, Update, Delete, Begin, Shrink, Back, Step, End, Recover}
 use Rattle.lines.specs.Lines.{noRecord, blank}
 use Rattle.lines.specs.declared.Name.{Name}
 use Rattle.lines.specs.declared.Name.the-variants.{Cap, Top, Mul1, Mul2, Key, Fn, At, After}
@@ -36,6 +36,8 @@ namesOf (Insert key r) = Key ∷ Fn ∷ At ∷ []
 namesOf (Update key r) = Key ∷ Fn ∷ At ∷ []
 namesOf (Delete key) = Key ∷ []
 namesOf Begin = []
+namesOf Shrink = []
+namesOf Back = []
 namesOf Step = []
 namesOf End = []
 namesOf Recover = []
@@ -63,6 +65,8 @@ numbersOf (Insert key r) = key ∷ r .function ∷ r .place ∷ []
 numbersOf (Update key r) = key ∷ r .function ∷ r .place ∷ []
 numbersOf (Delete key) = key ∷ []
 numbersOf Begin = []
+numbersOf Shrink = []
+numbersOf Back = []
 numbersOf Step = []
 numbersOf End = []
 numbersOf Recover = []
@@ -80,6 +84,8 @@ Changing (Insert key r) = Unit {0}
 Changing (Update key r) = Unit {0}
 Changing (Delete key) = Unit {0}
 Changing Begin = Unit {0}
+Changing Shrink = Unit {0}
+Changing Back = Unit {0}
 Changing Step = Unit {0}
 Changing End = Unit {0}
 Changing Recover = Unit {0}

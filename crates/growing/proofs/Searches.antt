@@ -81,8 +81,8 @@ few-buckets m exponent e low = rw e (pow-mono low)
 
 pub bucket-within : (n : ℕ) (h : Header) {m i : ℕ} {l : Level} → GoodHeader n h → atRest (h .state) ≡ false → l ≡ interimOf (h .state)
     → m ≡ sizeOf l → i < m → 9 + 13 * (m - 1 + i) + 13 ≤ n
-bucket-within n h good growing e q r =
-    let fits = exponent-fits (h .c) (h .state) (good .state) (interimOf (h .state)) (interim-used (h .state) growing) in
+bucket-within n h good resizing e q r =
+    let fits = exponent-fits (h .c) (h .state) (good .state) (interimOf (h .state)) (interim-used (h .state) resizing) in
     next-bucket-fits n h good _ (rw e fits) q _ r
 
 -- ---- along the level's buckets, from the i-th on
@@ -321,15 +321,15 @@ module _ (t : Table) (h : Header) where
   pub begins-there : (b : ℕ) (x : Slot) → atRest (h .state) ≡ false → head? (itemsFrom t h b) ≡ some x
       → stepItem t h b ≡ stepItem t h (interimBucket (h .state) x)
   unfolding foundFrom along bucketsOf interimBucket
-  begins-there b x growing k =
+  begins-there b x resizing k =
       let n = sizeOf (interimOf (h .state)) in
-      let r = along-begins (foundIn h itemAt) (foundIn h (placeable t h)) nothing-placeable (drop b (from (n - 1) n)) x (sym (items-from b growing) ∙ k) in
+      let r = along-begins (foundIn h itemAt) (foundIn h (placeable t h)) nothing-placeable (drop b (from (n - 1) n)) x (sym (items-from b resizing) ∙ k) in
       let on = drop-drop (r .index) b (from (n - 1) n) in
       let j : r .element ≡ n - 1 + (b + r .index) = at-index n (b + r .index) (sym on ∙ r .next) in
       let i : x .bucket ≡ r .element = item-bucket (r .element) x (r .gives) in
       let same : b + r .index ≡ x .bucket - (n - 1) = omega (arith, i, j) in
-      placeable-all b growing ∙ r .same ∙ ap (firstOf (foundIn h (placeable t h))) on ∙ ap (foundFrom h (placeable t h)) same
-      ∙ sym (placeable-all (x .bucket - (n - 1)) growing)
+      placeable-all b resizing ∙ r .same ∙ ap (firstOf (foundIn h (placeable t h))) on ∙ ap (foundFrom h (placeable t h)) same
+      ∙ sym (placeable-all (x .bucket - (n - 1)) resizing)
     where
       at-index : (size i : ℕ) {a : ℕ} {rest : List ℕ} → drop i (from (size - 1) size) ≡ a ∷ rest → a ≡ size - 1 + i
       at-index size i {a} next = go (decLe size i)

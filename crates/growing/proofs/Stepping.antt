@@ -22,7 +22,7 @@ use Rattle.rules.specs.declared.Slot.{Slot}
 use Rattle.rules.specs.declared.Record.{Record}
 use Rattle.rules.specs.declared.Placing.{Placing}
 use Rattle.rules.specs.declared.Refusal.{Refusal}
-use Rattle.rules.specs.declared.Refusal.the-variants.{NotGrowing, InterimEmpty, NoPlace}
+use Rattle.rules.specs.declared.Refusal.the-variants.{NotResizing, InterimEmpty, NoPlace}
 use Rattle.rules.specs.declared.Change.the-variants.{Listed}
 use Rattle.rules.specs.declared.SteppedFrom.{SteppedFrom}
 use Rattle.rules.proofs.Placing.{the-type as placing-type}
@@ -55,7 +55,7 @@ some-first (x ∷ l) e = refl
 -- ---- the outcomes
 
 module _ (t : Table) (h : Header) (b : ℕ) where
-  pub step-resting : atRest (h .state) ≡ true → refused NotGrowing ≡ stepOf t h b
+  pub step-resting : atRest (h .state) ≡ true → refused NotResizing ≡ stepOf t h b
   unfolding stepOf stepTests
   step-resting e = rw e
 

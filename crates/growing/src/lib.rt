@@ -1,4 +1,4 @@
-// Growth in small steps: begin, step and end.
+// Growing and shrinking in small steps: begin, shrink, back, step and end.
 pub mod interim;
 
 use interim::Item;
@@ -17,6 +17,7 @@ use rules::Change;
 use rules::Header;
 use rules::Placing;
 use rules::Refusal;
+use rules::State;
 use rules::Stepped;
 use rules::SteppedFrom;
 use rules::layout::STATE;
@@ -24,27 +25,36 @@ ghost use mathlib.Core.Path.{_≡_};
 ghost use mathlib.Core.Bool.{false};
 ghost use Prim.Native.Nat.{_≤_};
 ghost use lib.ListN.{length};
-ghost use Rattle.rules.specs.Words.{GoodHeader, atRest};
-ghost use Rattle.rules.specs.Calls.{beginOf, stepItem, stepIn, stepOf, endOf};
-ghost use Rattle.rules.specs.Calls.{begin as beginCall, end as endCall};
+ghost use Rattle.rules.specs.Words.{GoodState, GoodHeader, atRest};
+ghost use Rattle.rules.specs.Stores.{stateStores};
+ghost use Rattle.rules.specs.Calls.{listed as listedOf, beginOf, shrinkOf, backOf, stepItem, stepIn, stepOf, endOf};
+ghost use Rattle.rules.specs.Calls.{begin as beginCall, shrink as shrinkCall, back as backCall, end as endCall};
 ghost use Rattle.reading.specs.Gates.{Headed};
 ghost use Rattle.listing.specs.Promises.{Changed, StepTaken, StepTakenFrom, Did};
 ghost use Rattle.growing.specs.Steps.{RefusedStep, DidStep};
 
+// A new state, handed on by value: it is stored by one store.
+fn restate(list: &mut [u64], s: State) -> Change
+    requires { ⌜ (20 ≤ length (now list)) × (s .k ≤ 21) × (s .phase ≤ 2) ⌝ }
+    ensures { λ r. ⌜ Did (listedOf (stateStores s)) (now (list .entry)) r (now (list .exit)) ⌝ }
+{
+    let listed = store(list, 0, STATE, s.word());
+    Change::Listed(listed as u64)
+}
+
 // "begin growth | state: k + 1, phase 1"
 fn begin_at(list: &mut [u64], h: Header) -> Change
-    requires { ⌜ (20 ≤ length (now list)) × (h .state .k ≤ 20) ⌝ }
+    requires { ⌜ (20 ≤ length (now list)) × GoodState 20 (h .state) ⌝ }
     ensures { λ r. ⌜ Did (beginOf h) (now (list .entry)) r (now (list .exit)) ⌝ }
 {
     let state = h.state;
     if !state.at_rest() {
-        return Change::Refused(Refusal::AlreadyGrowing);
+        return Change::Refused(Refusal::AlreadyResizing);
     }
     if state.k == h.c {
         return Change::Refused(Refusal::AtCapacity);
     }
-    let listed = store(list, 0, STATE, state.begun().word());
-    Change::Listed(listed as u64)
+    restate(list, state.begun())
 }
 
 // After the tests 1, 2 and 3: "7 | already growing", "9 | k = c".
@@ -55,6 +65,56 @@ pub fn begin(t: &[u64], list: &mut [u64]) -> Change
     match gate {
         Gate::Shut(refusal) => Change::Refused(refusal),
         Gate::Open(h) => begin_at(list, h),
+    }
+}
+
+// "the state goes from rest with k to phase 2 with k − 1, in one store"
+fn shrink_at(list: &mut [u64], h: Header) -> Change
+    requires { ⌜ (20 ≤ length (now list)) × GoodState 20 (h .state) ⌝ }
+    ensures { λ r. ⌜ Did (shrinkOf h) (now (list .entry)) r (now (list .exit)) ⌝ }
+{
+    let state = h.state;
+    if !state.at_rest() {
+        return Change::Refused(Refusal::AlreadyResizing);
+    }
+    if state.k < 2 {
+        return Change::Refused(Refusal::TooSmall);
+    }
+    restate(list, state.shrunk())
+}
+
+// After the tests 1, 2 and 3: 7 in either phase, then "It needs k at least 2, else new refusal 17".
+pub fn shrink(t: &[u64], list: &mut [u64]) -> Change
+    ensures { λ r. ⌜ Changed shrinkCall (now (t .entry)) (now (list .entry)) r (now (t .exit)) (now (list .exit)) ⌝ }
+{
+    let gate = change_gate(t, list.len());
+    match gate {
+        Gate::Shut(refusal) => Change::Refused(refusal),
+        Gate::Open(h) => shrink_at(list, h),
+    }
+}
+
+// "A shrinking table becomes a growing one with k + 1, and a growing one a shrinking one with k − 1, by one state store."
+fn back_at(list: &mut [u64], h: Header) -> Change
+    requires { ⌜ (20 ≤ length (now list)) × GoodState 20 (h .state) ⌝ }
+    ensures { λ r. ⌜ Did (backOf h) (now (list .entry)) r (now (list .exit)) ⌝ }
+{
+    let state = h.state;
+    if state.at_rest() {
+        return Change::Refused(Refusal::NotResizing);
+    }
+    let turned = state.turned();
+    restate(list, turned)
+}
+
+// After the tests 1, 2 and 3: "At rest it, step and end give 8."
+pub fn back(t: &[u64], list: &mut [u64]) -> Change
+    ensures { λ r. ⌜ Changed backCall (now (t .entry)) (now (list .entry)) r (now (t .exit)) (now (list .exit)) ⌝ }
+{
+    let gate = change_gate(t, list.len());
+    match gate {
+        Gate::Shut(refusal) => Change::Refused(refusal),
+        Gate::Open(h) => back_at(list, h),
     }
 }
 
@@ -102,7 +162,7 @@ fn step_at(t: &[u64], list: &mut [u64], h: Header, b: u64) -> SteppedFrom
 {
     let state = h.state;
     if state.at_rest() {
-        return unplaced(Refusal::NotGrowing);
+        return unplaced(Refusal::NotResizing);
     }
     let item = first_item(t, h, b);
     let Item::At(first) = item else {
@@ -130,21 +190,20 @@ pub fn step(t: &[u64], list: &mut [u64]) -> Stepped
     went.stepped
 }
 
-// "end growth | state: phase 0"
+// "end growth | state: phase 0"; a shrink ends in the same way.
 fn end_at(t: &[u64], list: &mut [u64], h: Header) -> Change
     requires { ⌜ (20 ≤ length (now list)) × GoodHeader (length (now t)) h ⌝ }
     ensures { λ r. ⌜ Did (endOf (now (t .entry)) h) (now (list .entry)) r (now (list .exit)) ⌝ }
 {
     let state = h.state;
     if state.at_rest() {
-        return Change::Refused(Refusal::NotGrowing);
+        return Change::Refused(Refusal::NotResizing);
     }
     let item = first_item(t, h, 0);
     let Item::Empty = item else {
         return Change::Refused(Refusal::InterimTaken);
     };
-    let stores = store(list, 0, STATE, state.ended().word());
-    Change::Listed(stores as u64)
+    restate(list, state.ended())
 }
 
 // After the tests 1, 2 and 3: "8 | not growing", "10 | interim not empty".

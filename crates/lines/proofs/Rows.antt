@@ -40,8 +40,8 @@ none-of : (n m : ℕ) → NoneOf n m → n ≤ m
 none-of zero m h = omega arith
 none-of (suc n) m h = ⊎-elim (λ e. absurd (h .1 (sym e))) (λ l. l) (eq-or-lt-of-le (none-of n m (h .0)))
 
-pub no-row : (n : ℕ) → NoneOf 17 n → Bad ≡ rowAt n
-no-row n h = sym (List·getD-eq-default rows Bad (none-of 17 n h))
+pub no-row : (n : ℕ) → NoneOf 19 n → Bad ≡ rowAt n
+no-row n h = sym (List·getD-eq-default rows Bad (none-of 19 n h))
 
 -- ---- the search for a row
 

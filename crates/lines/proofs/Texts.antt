@@ -14,7 +14,7 @@ use Rattle.lines.specs.Texts.{decimalText, decimalAfter, lineText, Good,
 use Rattle.lines.specs.declared.Name.{Name}
 use Rattle.lines.specs.declared.Name.the-variants.{Cap, Top, Mul1, Mul2, Key, Fn, At, After}
 use Rattle.rules.specs.declared.ScriptCall.{ScriptCall}
-use Rattle.rules.specs.declared.ScriptCall.the-variants.{Query, Insert, Update, Delete, Begin, Step, End, Recover}
+use Rattle.rules.specs.declared.ScriptCall.the-variants.{Query, Insert, Update, Delete, Begin, Shrink, Back, Step, End, Recover}
 use Rattle.lines.specs.declared.Line.{Line}
 use Rattle.lines.specs.declared.Line.the-variants.{Number, Event, Cut, Bad}
 use Rattle.lines.proofs.Decimals.{all-both, decimal-read, decimal-spelt}
@@ -40,6 +40,8 @@ event-said (Update key r) = refl
 event-said (Delete key) = refl
 event-said (Query key) = refl
 event-said Begin = refl
+event-said Shrink = refl
+event-said Back = refl
 event-said Step = refl
 event-said End = refl
 event-said Recover = refl

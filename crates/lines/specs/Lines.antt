@@ -12,7 +12,7 @@ use lib.Dec.{eqb, leb, ltb}
 use Rattle.rules.specs.Choice.{all, given}
 use Rattle.rules.specs.declared.Record.{Record}
 use Rattle.rules.specs.declared.ScriptCall.{ScriptCall}
-use Rattle.rules.specs.declared.ScriptCall.the-variants.{Query, Insert, Update, Delete, Begin, Step, End, Recover}
+use Rattle.rules.specs.declared.ScriptCall.the-variants.{Query, Insert, Update, Delete, Begin, Shrink, Back, Step, End, Recover}
 use Rattle.lines.specs.declared.Name.{Name}
 use Rattle.lines.specs.declared.Name.the-variants.{Cap, Top, Mul1, Mul2, Key, Fn, At, After}
 use Rattle.lines.specs.declared.Line.{Line}
@@ -34,13 +34,16 @@ nameText Fn = "fn="
 nameText At = "at="
 nameText After = "after="
 
--- "`op=insert` or `op=update` ..; `op=delete` or `op=query` ..; `op=begin`, `op=step`, `op=end`, `op=recover`"
+-- "`op=insert` or `op=update` ..; `op=delete` or `op=query` ..; `op=begin`, `op=step`, `op=end`, `op=recover`"; document 02, request f):
+-- "Scripts gain `op=shrink` and `op=back`."
 abbrev pub eventText : ScriptCall → String
 eventText (Insert key r) = "op=insert"
 eventText (Update key r) = "op=update"
 eventText (Delete key) = "op=delete"
 eventText (Query key) = "op=query"
 eventText Begin = "op=begin"
+eventText Shrink = "op=shrink"
+eventText Back = "op=back"
 eventText Step = "op=step"
 eventText End = "op=end"
 eventText Recover = "op=recover"
@@ -55,6 +58,8 @@ blank (Update key r) = Update 0 noRecord
 blank (Delete key) = Delete 0
 blank (Query key) = Query 0
 blank Begin = Begin
+blank Shrink = Shrink
+blank Back = Back
 blank Step = Step
 blank End = End
 blank Recover = Recover
@@ -77,6 +82,8 @@ rows =
     ∷ Event (Delete 0)
     ∷ Event (Query 0)
     ∷ Event Begin
+    ∷ Event Shrink
+    ∷ Event Back
     ∷ Event Step
     ∷ Event End
     ∷ Event Recover

@@ -32,7 +32,7 @@ pub enum Line {
 
 // The texts that a line may begin with, each filled up with spaces to a row of 10 bytes. None begins with another, so that their
 // order says nothing: those come first that a script has most of.
-const TEXTS: [u8; 170] = *b"key=      \
+const TEXTS: [u8; 190] = *b"key=      \
                             fn=       \
                             at=       \
                             op=insert \
@@ -40,6 +40,8 @@ const TEXTS: [u8; 170] = *b"key=      \
                             op=delete \
                             op=query  \
                             op=begin  \
+                            op=shrink \
+                            op=back   \
                             op=step   \
                             op=end    \
                             op=recover\
@@ -75,15 +77,17 @@ fn says(row: usize) -> Line
         5 => Line::Event(ScriptCall::Delete(0)),
         6 => Line::Event(ScriptCall::Query(0)),
         7 => Line::Event(ScriptCall::Begin),
-        8 => Line::Event(ScriptCall::Step),
-        9 => Line::Event(ScriptCall::End),
-        10 => Line::Event(ScriptCall::Recover),
-        11 => Line::Cut,
-        12 => Line::Number(Name::After, 0),
-        13 => Line::Number(Name::Cap, 0),
-        14 => Line::Number(Name::Top, 0),
-        15 => Line::Number(Name::Mul1, 0),
-        16 => Line::Number(Name::Mul2, 0),
+        8 => Line::Event(ScriptCall::Shrink),
+        9 => Line::Event(ScriptCall::Back),
+        10 => Line::Event(ScriptCall::Step),
+        11 => Line::Event(ScriptCall::End),
+        12 => Line::Event(ScriptCall::Recover),
+        13 => Line::Cut,
+        14 => Line::Number(Name::After, 0),
+        15 => Line::Number(Name::Cap, 0),
+        16 => Line::Number(Name::Top, 0),
+        17 => Line::Number(Name::Mul1, 0),
+        18 => Line::Number(Name::Mul2, 0),
         _ => Line::Bad,
     }
 }

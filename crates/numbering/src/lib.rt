@@ -19,8 +19,8 @@ pub fn number(refusal: Refusal) -> u64
         Refusal::KeyPresent => 4,
         Refusal::KeyAbsent => 5,
         Refusal::NoPlace => 6,
-        Refusal::AlreadyGrowing => 7,
-        Refusal::NotGrowing => 8,
+        Refusal::AlreadyResizing => 7,
+        Refusal::NotResizing => 8,
         Refusal::AtCapacity => 9,
         Refusal::InterimTaken => 10,
         Refusal::InterimEmpty => 11,
@@ -29,6 +29,7 @@ pub fn number(refusal: Refusal) -> u64
         Refusal::BadMaking => 14,
         Refusal::ShortRecords => 15,
         Refusal::BadPosition => 16,
+        Refusal::TooSmall => 17,
     }
 }
 

@@ -35,7 +35,7 @@ abbrev pub countOf : Meaning → ℕ
 countOf m = getD (m .values) 2 0
 
 -- query answers a number and its values: those of document 01, and of the count: that position, at most four at rest and six while
--- growing. u is the table at exit
+-- growing or shrinking. u is the table at exit
 pub record QueriedBy (t : Table) (key : ℕ) (told : Meaning) (u : Table) : Type 0 where
   pub answer : told ≡ queryMeans (queryResult t key)
   pub count : countOf told ≡ probeCount t key

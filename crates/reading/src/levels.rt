@@ -31,11 +31,17 @@ pub fn bottom(s: State) -> Level
     }
 }
 
-// "while growing, an interim level has a quarter"
+// "while growing, an interim level has a quarter"; while shrinking it is the old top, with twice as many as the top.
 pub fn interim(s: State) -> Level
     requires { ⌜ GoodState 20 s × (atRest s ≡ false) ⌝ }
     ensures { λ l. ⌜ (l ≡ interimOf s) × (l .exponent ≤ 20) ⌝ }
 {
+    if s.shrinking() {
+        return Level {
+            name: 2,
+            exponent: s.k + 1,
+        };
+    }
     Level {
         name: 2,
         exponent: s.k - 2,
@@ -67,10 +73,13 @@ pub fn nth_level(s: State, n: usize) -> Level
     }
 }
 
-// The first bucket of the n-th: "buckets M − 1 to 2M − 2". M halves from level to level, so all come from one power of two by a shift.
+// The first bucket of the n-th: "buckets M − 1 to 2M − 2". The bottom's M is half the top's, so both come from one power of two by a shift.
 pub fn nth_first(s: State, n: usize) -> usize
     requires { ⌜ GoodState 20 s × (n < length (levelsInUse s)) ⌝ }
     ensures { λ r. ⌜ (r ≡ sizeOf (nthLevel s n) - 1) × (r < 2 ^ 20) ⌝ }
 {
+    if n == 2 {
+        return power(interim(s).exponent) - 1;
+    }
     (power(s.k) - 1) >> n
 }

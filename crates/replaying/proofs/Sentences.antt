@@ -15,7 +15,7 @@ use Rattle.rules.specs.Histories.{reported}
 use Rattle.rules.specs.declared.Change.{Change}
 use Rattle.rules.specs.declared.Change.the-variants.{Listed, Refused}
 use Rattle.rules.specs.declared.ScriptCall.{ScriptCall}
-use Rattle.rules.specs.declared.ScriptCall.the-variants.{Query, Insert, Update, Delete, Begin, Step, End, Recover}
+use Rattle.rules.specs.declared.ScriptCall.the-variants.{Query, Insert, Update, Delete, Begin, Shrink, Back, Step, End, Recover}
 use Rattle.rules.specs.declared.Refusal.the-variants.{BadCreation}
 use Rattle.rules.specs.declared.Verdict.{Verdict}
 use Rattle.rules.specs.declared.Verdict.the-variants.{Done, Denied}
@@ -47,6 +47,8 @@ no-query (Insert key r) c = refl
 no-query (Update key r) c = refl
 no-query (Delete key) c = refl
 no-query Begin c = refl
+no-query Shrink c = refl
+no-query Back c = refl
 no-query Step c = refl
 no-query End c = refl
 no-query Recover c = refl

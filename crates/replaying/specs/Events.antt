@@ -6,11 +6,11 @@ use mathlib.Core.List.{List}
 use mathlib.Core.Option.{Option, none, some}
 use lib.ListN.{replicate}
 use Rattle.rules.specs.Words.{Table}
-use Rattle.rules.specs.Calls.{Call, query, insert, update, delete, begin, step, end, recover}
+use Rattle.rules.specs.Calls.{Call, query, insert, update, delete, begin, shrink, back, step, end, recover}
 use Rattle.rules.specs.Results.{changeResult, queryResult, makeResult}
 use Rattle.rules.specs.Histories.{Event, whole, cut, reported, after}
 use Rattle.rules.specs.declared.ScriptCall.{ScriptCall}
-use Rattle.rules.specs.declared.ScriptCall.the-variants.{Query, Insert, Update, Delete, Begin, Step, End, Recover}
+use Rattle.rules.specs.declared.ScriptCall.the-variants.{Query, Insert, Update, Delete, Begin, Shrink, Back, Step, End, Recover}
 use Rattle.rules.specs.declared.Change.{Change}
 use Rattle.following.specs.declared.Cut.{Cut}
 use Rattle.following.specs.declared.Cut.the-variants.{None, After}
@@ -28,6 +28,8 @@ callOf (Insert key r) = insert key r
 callOf (Update key r) = update key r
 callOf (Delete key) = delete key
 callOf Begin = begin
+callOf Shrink = shrink
+callOf Back = back
 callOf Step = step
 callOf End = end
 callOf Recover = recover
@@ -39,6 +41,8 @@ queried (Insert key r) = none
 queried (Update key r) = none
 queried (Delete key) = none
 queried Begin = none
+queried Shrink = none
+queried Back = none
 queried Step = none
 queried End = none
 queried Recover = none

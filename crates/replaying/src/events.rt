@@ -4,8 +4,10 @@ use changing::delete;
 use changing::insert;
 use changing::update;
 use following::Cut;
+use growing::back;
 use growing::begin;
 use growing::end;
+use growing::shrink;
 use growing::step;
 use making::make;
 use numbering::reported;
@@ -26,6 +28,8 @@ fn called(t: &[u64], list: &mut [u64], call: ScriptCall) -> Answer
         ScriptCall::Update(key, record) => Answer::Changed(update(t, list, key, record)),
         ScriptCall::Delete(key) => Answer::Changed(delete(t, list, key)),
         ScriptCall::Begin => Answer::Changed(begin(t, list)),
+        ScriptCall::Shrink => Answer::Changed(shrink(t, list)),
+        ScriptCall::Back => Answer::Changed(back(t, list)),
         ScriptCall::Step => {
             let taken = step(t, list);
             let change = taken.change;

@@ -17,7 +17,8 @@ pub mod Inserting
 pub mod Updating
 pub mod GrowthSteps
 pub mod StuckItems
-pub mod BeginEnd
+pub mod StateChanges
+pub mod ResizeSentences
 pub mod MadeLists
 pub mod ChainWalks
 pub mod Chains

@@ -1,5 +1,6 @@
--- What one whole growth costs.
+-- What one whole growth costs, and one whole shrink.
 pub mod InterimBits
 pub mod InterimKept
 pub mod GrowthCost
+pub mod CostlyShrink
 pub mod Passes

@@ -1,6 +1,6 @@
 -- The user's three demands and document 02's requests, proved: one theorem. Each field is the law of the same name.
 -- Assumes nothing.
-use Rattle.rules.specs.Mission.{Demand1, Demand2, Demand3, InlinedCallers, StubbornItems, GoesOn, WhereItStood, Mission}
+use Rattle.rules.specs.Mission.{Demand1, Demand2, Demand3, InlinedCallers, StubbornItems, GoesOn, WhereItStood, UnloadedLevel, Mission}
 use Rattle.rules.proofs.Tables.Sound.{soundnessIsTested}
 use Rattle.rules.proofs.Tables.Maps.{mapExists}
 use Rattle.rules.proofs.Tables.Findings.{recoverAnswers, recoveryAccepts}
@@ -21,11 +21,14 @@ use Rattle.rules.proofs.Calls.Inside.{storesInside, tokenStoresLow}
 use Rattle.rules.proofs.Calls.Inserting.{insertAnswers}
 use Rattle.rules.proofs.Calls.Updating.{updateAnswers, deleteAnswers}
 use Rattle.rules.proofs.Calls.GrowthSteps.{stepAnswers}
-use Rattle.rules.proofs.Calls.BeginEnd.{beginAnswers, endAnswers}
+use Rattle.rules.proofs.Calls.StateChanges.{beginAnswers, shrinkAnswers, backAnswers, endAnswers}
+use Rattle.rules.proofs.Calls.ResizeSentences.{shrinkStores, levelsAreThree, levelsShrink, sevenExactly, seventeenExactly, backStores}
+use Rattle.rules.proofs.Calls.ResizeSentences.{levelsTurn, turnedTwice, eightExactly, ownStoresCount}
 use Rattle.rules.proofs.Calls.MadeLists.{makeTakesTheList}
 use Rattle.rules.proofs.Cutting.Recurring.{recoveryMayBeCut}
 use Rattle.rules.proofs.Cutting.MadeCuts.{cutsAreSafe}
-use Rattle.rules.proofs.Growth.GrowthCost.{growthBound}
+use Rattle.rules.proofs.Growth.GrowthCost.{growthBound, shrinkBound}
+use Rattle.rules.proofs.Growth.CostlyShrink.{twentyTooFew}
 use Rattle.rules.proofs.Calls.ChainRefusals.{chainRefusals}
 use Rattle.rules.proofs.Calls.Chains.{chainWrites, chainCounts, chainLooksAtFew, chainAnswers}
 use Rattle.rules.proofs.Cutting.ChainCuts.{chainsAfterCuts}
@@ -55,6 +58,8 @@ demand2 =
       updateAnswers = updateAnswers;
       deleteAnswers = deleteAnswers;
       beginAnswers = beginAnswers;
+      shrinkAnswers = shrinkAnswers;
+      backAnswers = backAnswers;
       stepAnswers = stepAnswers;
       endAnswers = endAnswers;
       recoverAnswers = recoverAnswers;
@@ -70,6 +75,7 @@ demand3 =
       recoveryAccepts = recoveryAccepts;
       recoveryMayBeCut = recoveryMayBeCut;
       growthBound = growthBound;
+      shrinkBound = shrinkBound;
       probesAreFew = probesAreFew;
       probesAreDistinct = probesAreDistinct;
       queryCounts = queryCounts;
@@ -126,6 +132,22 @@ whereItStood =
       chainStood = chainStood;
     }
 
+pub unloadedLevel : UnloadedLevel
+unloadedLevel =
+    record {
+      shrinkStores = shrinkStores;
+      levelsShrink = levelsShrink;
+      seventeenExactly = seventeenExactly;
+      sevenExactly = sevenExactly;
+      levelsAreThree = levelsAreThree;
+      backStores = backStores;
+      levelsTurn = levelsTurn;
+      turnedTwice = turnedTwice;
+      eightExactly = eightExactly;
+      ownStoresCount = ownStoresCount;
+      twentyTooFew = twentyTooFew;
+    }
+
 pub mission : Mission
 mission =
     record {
@@ -136,4 +158,5 @@ mission =
       stubbornItems = stubbornItems;
       goesOn = goesOn;
       whereItStood = whereItStood;
+      unloadedLevel = unloadedLevel;
     }

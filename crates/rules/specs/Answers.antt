@@ -14,9 +14,9 @@ use Rattle.rules.specs.declared.Placing.the-variants.{Free, Move, Nowher
 use Rattle.rules.specs.declared.Finding.{Finding}
 use Rattle.rules.specs.declared.Finding.the-variants.{Sound, Doubled, Flagged, Neither}
 use Rattle.rules.specs.declared.Refusal.{Refusal}
-use Rattle.rules.specs.declared.Refusal.the-variants.{BadHeader, ShortList, FlagSet, KeyPresent, KeyAbsent, NoPlace, AlreadyGrowing, NotGrowing}
+use Rattle.rules.specs.declared.Refusal.the-variants.{BadHeader, ShortList, FlagSet, KeyPresent, KeyAbsent, NoPlace, AlreadyResizing, NotResizing}
 use Rattle.rules.specs.declared.Refusal.the-variants.{AtCapacity, InterimTaken, InterimEmpty, NoKind, BadCreation, BadMaking}
-use Rattle.rules.specs.declared.Refusal.the-variants.{ShortRecords, BadPosition}
+use Rattle.rules.specs.declared.Refusal.the-variants.{ShortRecords, BadPosition, TooSmall}
 use Rattle.rules.specs.declared.Change.{Change}
 use Rattle.rules.specs.declared.Change.the-variants.{Listed, Refused}
 use Rattle.rules.specs.declared.Stepped.{Stepped}
@@ -36,8 +36,8 @@ numberOf FlagSet = 3  -- "flag not 0"
 numberOf KeyPresent = 4  -- "key present"
 numberOf KeyAbsent = 5  -- "key absent"
 numberOf NoPlace = 6  -- "no place"
-numberOf AlreadyGrowing = 7  -- "already growing"
-numberOf NotGrowing = 8  -- "not growing"
+numberOf AlreadyResizing = 7  -- "already growing"; document 02, request f): "in phase 1 or 2"
+numberOf NotResizing = 8  -- "not growing"; request f): "At rest"
 numberOf AtCapacity = 9  -- "k = c"
 numberOf InterimTaken = 10  -- "interim not empty"
 numberOf InterimEmpty = 11  -- "interim empty"
@@ -47,6 +47,8 @@ numberOf BadMaking = 14  -- "n pairs are not in the list, or an index among them
 -- document 02, request a)
 numberOf ShortRecords = 15  -- "fewer than 2(d + 1) words"
 numberOf BadPosition = 16  -- "an address of 2^56 or more, or a depth above 255"
+-- document 02, request f)
+numberOf TooSmall = 17  -- "k at least 2, else"
 
 -- this paper's number, "0 is success", and the values beside it
 pub record Meaning : Type 0 where

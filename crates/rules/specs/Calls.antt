@@ -1,5 +1,6 @@
 -- Document 01, "Refusal numbers": what each call refuses, in its order, and which stores it lists, on every table.
--- "Order: 1, 2, 3, then the rest; for insert 4 before 6; for begin 7 before 9; for step and end 8 first."
+-- "Order: 1, 2, 3, then the rest; for insert 4 before 6; for begin 7 before 9; for step and end 8 first." Document 02, request f), adds the
+-- calls shrink and back: for shrink 7 before 17.
 -- Assumes nothing.
 use Prim.Native.Nat.{ℕ, _-_}
 use mathlib.Core.Bool.{Bool, not, cond}
@@ -12,7 +13,8 @@ use Rattle.rules.specs.Words.{Table, headerOf, headerTests, flagOf, logg
 use Rattle.rules.specs.Words.{tokenOf, taken}
 use Rattle.rules.specs.Places.{lookup}
 use Rattle.rules.specs.Placing.{placing, somewhere}
-use Rattle.rules.specs.Stores.{Store, clearStores, placingStores, updateStores, beginStores, endStores, stepStores, redoStores}
+use Rattle.rules.specs.Stores.{Store, clearStores, placingStores, updateStores, begunOf, shrunkOf, turnedOf, endedOf, stateStores, stepStores}
+use Rattle.rules.specs.Stores.{redoStores}
 use Rattle.rules.specs.Soundness.{finding}
 use Rattle.rules.specs.declared.State.{State}
 use Rattle.rules.specs.declared.Header.{Header}
@@ -26,16 +28,18 @@ use Rattle.rules.specs.declared.Placing.the-variants.{Free, Move, Nowher
 use Rattle.rules.specs.declared.Finding.{Finding}
 use Rattle.rules.specs.declared.Finding.the-variants.{Sound, Doubled, Flagged, Neither}
 use Rattle.rules.specs.declared.Refusal.{Refusal}
-use Rattle.rules.specs.declared.Refusal.the-variants.{BadHeader, ShortList, FlagSet, KeyPresent, KeyAbsent, NoPlace, AlreadyGrowing, NotGrowing}
-use Rattle.rules.specs.declared.Refusal.the-variants.{AtCapacity, InterimTaken, InterimEmpty, NoKind}
+use Rattle.rules.specs.declared.Refusal.the-variants.{BadHeader, ShortList, FlagSet, KeyPresent, KeyAbsent, NoPlace, AlreadyResizing, NotResizing}
+use Rattle.rules.specs.declared.Refusal.the-variants.{AtCapacity, InterimTaken, InterimEmpty, NoKind, TooSmall}
 
--- the calls on a table, but for create, and make, which makes their stores: document 01's, and `step_from`
+-- the calls on a table, but for create, and make, which makes their stores: document 01's, `step_from`, and request f)'s
 pub data Call : Type 0 where
   query : ℕ → Call
   insert : ℕ → Record → Call
   update : ℕ → Record → Call
   delete : ℕ → Call
   begin : Call
+  shrink : Call
+  back : Call
   stepFrom : ℕ → Call
   end : Call
   recover : Call
@@ -98,10 +102,24 @@ deleteIn t h (Absent n) = refused KeyAbsent
 
 -- begin: "7 | already growing", "9 | k = c"
 unfoldable pub beginTests : Header → List (Bool × Refusal)
-beginTests h = (atRest (h .state), AlreadyGrowing) ∷ (not (eqb (h .state .k) (h .c)), AtCapacity) ∷ []
+beginTests h = (atRest (h .state), AlreadyResizing) ∷ (not (eqb (h .state .k) (h .c)), AtCapacity) ∷ []
 
 unfoldable pub beginOf : Header → Outcome
-beginOf h = checked refused (beginTests h) (listed (beginStores (h .state)))
+beginOf h = checked refused (beginTests h) (listed (stateStores (begunOf (h .state))))
+
+-- shrink: "It needs k at least 2, else new refusal 17; a table in phase 1 or 2 refuses both begins with 7, tested first."
+unfoldable pub shrinkTests : Header → List (Bool × Refusal)
+shrinkTests h = (atRest (h .state), AlreadyResizing) ∷ (leb 2 (h .state .k), TooSmall) ∷ []
+
+unfoldable pub shrinkOf : Header → Outcome
+shrinkOf h = checked refused (shrinkTests h) (listed (stateStores (shrunkOf (h .state))))
+
+-- back: "At rest it, step and end give 8."
+unfoldable pub backTests : Header → List (Bool × Refusal)
+backTests h = (not (atRest (h .state)), NotResizing) ∷ []
+
+unfoldable pub backOf : Header → Outcome
+backOf h = checked refused (backTests h) (listed (stateStores (turnedOf (h .state))))
 
 -- the taken interim slots, "bucket, then slot ascending"
 unfoldable pub interimSlots : State → List Slot
@@ -127,7 +145,7 @@ stepItem t h b = firstOf (λ (x : Slot). given (hasPlace t h x) x) (itemsFrom t 
 -- step: "8 | not growing", "11 | interim empty". "Refusal 6 is then given exactly when interim items remain and none has one; 11 keeps
 -- its meaning."
 unfoldable pub stepTests : Table → Header → ℕ → List (Bool × Refusal)
-stepTests t h b = (not (atRest (h .state)), NotGrowing) ∷ (not (empty (itemsFrom t h b)), InterimEmpty) ∷ []
+stepTests t h b = (not (atRest (h .state)), NotResizing) ∷ (not (empty (itemsFrom t h b)), InterimEmpty) ∷ []
 
 abbrev pub stepIn : Table → Header → Option Slot → Outcome
 stepIn t h none = refused NoPlace
@@ -142,10 +160,10 @@ step = stepFrom 0
 
 -- end: "8 | not growing", "10 | interim not empty"
 unfoldable pub endTests : Table → Header → List (Bool × Refusal)
-endTests t h = (not (atRest (h .state)), NotGrowing) ∷ (empty (interimItems t h), InterimTaken) ∷ []
+endTests t h = (not (atRest (h .state)), NotResizing) ∷ (empty (interimItems t h), InterimTaken) ∷ []
 
 unfoldable pub endOf : Table → Header → Outcome
-endOf t h = checked refused (endTests t h) (listed (endStores (h .state)))
+endOf t h = checked refused (endTests t h) (listed (stateStores (endedOf (h .state))))
 
 -- recover: "sound: no stores"; "clear the later ..: one store"; "function and place from words 7 and 8, then flag 0: three
 -- stores"; "12 | none of the three kinds above"
@@ -163,6 +181,8 @@ testsOf t n (insert key r) = changingTests t n
 testsOf t n (update key r) = changingTests t n
 testsOf t n (delete key) = changingTests t n
 testsOf t n begin = changingTests t n
+testsOf t n shrink = changingTests t n
+testsOf t n back = changingTests t n
 testsOf t n (stepFrom b) = changingTests t n
 testsOf t n end = changingTests t n
 testsOf t n recover = recoverTests t n
@@ -178,6 +198,8 @@ actOf t h (insert key r) = insertIn t h (lookup t h key) key r
 actOf t h (update key r) = updateIn t h (lookup t h key) key r
 actOf t h (delete key) = deleteIn t h (lookup t h key)
 actOf t h begin = beginOf h
+actOf t h shrink = shrinkOf h
+actOf t h back = backOf h
 actOf t h (stepFrom b) = stepOf t h b
 actOf t h end = endOf t h
 actOf t h recover = recoverOf t h (finding t)

@@ -7,12 +7,12 @@ use mathlib.Core.Path.{_≡_, refl}
 use mathlib.Core.List.{List, [], _∷_, _++_, map, flatMap}
 use lib.ListN.{replicate, set}
 use Rattle.words.specs.Product.{productOf, hashOf}
-use Rattle.rules.specs.Words.{Table, wordsFor, stateOf, stateWord, atRest, headerOf, flagOf, stateGood, odd, capacityTests, headerTests, topOf}
+use Rattle.rules.specs.Words.{Table, wordsFor, stateOf, stateWord, atRest, shrinking, headerOf, flagOf, stateGood, odd, capacityTests, headerTests, topOf}
 use Rattle.rules.specs.Words.{bottomOf, interimOf, levelsInUse, slotAt, slotsIn, placeAt, tokenWord, keyWord, functionWord, placeWord, keyIn}
 use Rattle.rules.specs.Words.{recordIn, tokenOf, tokenNumber, isTaken, show, hide, takenOf, taken}
 use Rattle.rules.specs.Places.{hashesOf, firstPlace, secondPlace, samePlace, placesIn, probes, placesOf, holds, hitIn, lookup}
 use Rattle.rules.specs.Placing.{takenIn, freeSlot, fewer, emptier, roomIn, placing}
-use Rattle.rules.specs.Stores.{putStores, clearStores, placingStores, beginStores, written}
+use Rattle.rules.specs.Stores.{putStores, clearStores, placingStores, stateStores, written}
 use Rattle.rules.specs.Answers.{chainMeans}
 use Rattle.rules.specs.Calls.{headerGood, listLong, flagClear, changingTests, queryTests, beginTests, beginOf, delete, begin, outcome}
 use Rattle.rules.specs.Results.{changeResult, createTests, created, createResult, makeTests, makeResult}
@@ -68,10 +68,10 @@ cases r =
 
 -- the rules compute what request a) asks for
 pub chainCases : (r : ℕ → Record) → map (λ (x : Row). x .computed) (cases r) ≡ map (λ (x : Row). x .paper) (cases r)
-unfolding productOf hashOf flatMap wordsFor stateOf stateWord atRest headerOf flagOf stateGood odd capacityTests headerTests topOf bottomOf interimOf
+unfolding productOf hashOf flatMap wordsFor stateOf stateWord atRest shrinking headerOf flagOf stateGood odd capacityTests headerTests topOf bottomOf interimOf
     levelsInUse slotAt slotsIn placeAt tokenWord keyWord functionWord placeWord keyIn recordIn tokenOf tokenNumber isTaken show hide takenOf taken
     hashesOf firstPlace secondPlace samePlace placesIn probes holds hitIn lookup takenIn freeSlot fewer emptier roomIn placing putStores clearStores
-    placingStores beginStores written placesOf headerGood listLong flagClear changingTests queryTests beginTests beginOf outcome changeResult createTests
+    placingStores stateStores written placesOf headerGood listLong flagClear changingTests queryTests beginTests beginOf outcome changeResult createTests
     created createResult makeTests makeResult madeFirst madeAll fresh usual keyOf positionGood recordsLong positionTests chainTests walk queryOf chainResult
     chained growing cropped cases
 chainCases r = refl

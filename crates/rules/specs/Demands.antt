@@ -19,10 +19,11 @@ use Rattle.rules.specs.Placing.{freeSlot, placing}
 use Rattle.rules.specs.Stores.{Store, clearStores, redoStores, made}
 use Rattle.rules.specs.Soundness.{finding, soundTests, TakenSlot, SoundTable, PlainMap, HasMap, Before, DoubledTable, FlaggedTable}
 use Rattle.rules.specs.Answers.{numberOf, Meaning, changeMeans, queryMeans, steppedMeans, verdictMeans}
-use Rattle.rules.specs.Calls.{Outcome, refused, listed, Call, query, insert, update, delete, begin, stepFrom, step, end, recover, outcome}
+use Rattle.rules.specs.Calls.{Outcome, refused, listed, Call, query, insert, update, delete, begin, shrink, back, stepFrom, step, end, recover}
+use Rattle.rules.specs.Calls.{outcome}
 use Rattle.rules.specs.Results.{changeResult, stepResult, queryResult, createResult, makeResult}
 use Rattle.rules.specs.NoPlace.{NoPlaceFor}
-use Rattle.rules.specs.Histories.{Event, whole, cut, after, History, Whole, Recovery, spent, Accepted, OneGrowth}
+use Rattle.rules.specs.Histories.{Event, whole, cut, after, History, Whole, Recovery, spent, Accepted, OneResizing, NoTurningBack}
 use Rattle.rules.specs.declared.State.{State}
 use Rattle.rules.specs.declared.Header.{Header}
 use Rattle.rules.specs.declared.Place.{Place}
@@ -34,8 +35,8 @@ use Rattle.rules.specs.declared.Placing.the-variants.{Free, Move, Nowher
 use Rattle.rules.specs.declared.Finding.{Finding}
 use Rattle.rules.specs.declared.Finding.the-variants.{Sound, Doubled, Flagged, Neither}
 use Rattle.rules.specs.declared.Refusal.{Refusal}
-use Rattle.rules.specs.declared.Refusal.the-variants.{BadHeader, ShortList, FlagSet, KeyPresent, KeyAbsent, NoPlace, AlreadyGrowing, NotGrowing}
-use Rattle.rules.specs.declared.Refusal.the-variants.{AtCapacity, InterimTaken, InterimEmpty, NoKind}
+use Rattle.rules.specs.declared.Refusal.the-variants.{BadHeader, ShortList, FlagSet, KeyPresent, KeyAbsent, NoPlace, AlreadyResizing, NotResizing}
+use Rattle.rules.specs.declared.Refusal.the-variants.{AtCapacity, InterimTaken, InterimEmpty, NoKind, TooSmall}
 use Rattle.rules.specs.declared.Change.{Change}
 use Rattle.rules.specs.declared.Change.the-variants.{Listed}
 use Rattle.rules.specs.declared.Query.{Query}
@@ -105,12 +106,18 @@ MakeAnswers =
     → (Outside t l n × (verdictMeans (makeResult t l n .0) ≡ record { number = 14; values = [] }) × (makeResult t l n .1 ≡ t))
     ⊎ ((Outside t l n → ⊥) × (verdictMeans (makeResult t l n .0) ≡ record { number = 0; values = [] }) × MakesFirst t l n (makeResult t l n .1))
 
--- "phase 0 at rest, 1 growing"; "Other states are bad."
+-- "phase 0 at rest, 1 growing", and 2 shrinking; "Other states are bad." Growing or shrinking, a table is resizing
 abbrev pub AtRest : Table → Type 0
 AtRest t = headerOf t .state .phase ≡ 0
 
+abbrev pub Resizing : Table → Type 0
+Resizing t = AtRest t → ⊥
+
 abbrev pub Growing : Table → Type 0
-Growing t = AtRest t → ⊥
+Growing t = headerOf t .state .phase ≡ 1
+
+abbrev pub Shrinking : Table → Type 0
+Shrinking t = headerOf t .state .phase ≡ 2
 
 -- "checks its own input": when each refusal is given, in facts. The key stands in a probed bucket
 abbrev pub Held : Table → ℕ → Type 0
@@ -141,9 +148,9 @@ None Items = (x : Slot) → Items x → ⊥
 abbrev pub NoInterim : Table → Type 0
 NoInterim t = None (InterimItem t)
 
--- how many buckets the interim level has: "a quarter" of 2^k
+-- how many buckets the interim level has: "a quarter" of 2^k; while shrinking, as the old top, twice as many as 2^k
 abbrev pub interimSize : Table → ℕ
-interimSize t = 2 ^ (headerOf t .state .k - 2)
+interimSize t = cond (eqb (headerOf t .state .phase) 2) (2 * 2 ^ headerOf t .state .k) (2 ^ (headerOf t .state .k - 2))
 
 -- the step that goes on: an interim item "from there on", that is in the level's bucket b, "counted from 0 in the level", or in a later one.
 -- "A level of M buckets .. is always buckets M − 1 to 2M − 2"
@@ -169,14 +176,15 @@ pub record OfNoKind (t : Table) : Type 0 where
   pub unflagged : (x : Slot) → FlaggedTable t x → ⊥
 
 -- "length, form, c, multipliers or state", by the words themselves: "At rest 1 ≤ k ≤ c, while growing 2 ≤ k ≤ c. Other states are
--- bad.", with k + 256·phase in word 4
+-- bad.", with k + 256·phase in word 4; request f): "States with phase 2 need 1 ≤ k < c."
 pub record HeaderWords (t : Table) : Type 0 where
   pub long : length t ≡ 9 + 13 * (2 ^ (word t 1 + 1) - 1)
   pub form : word t 0 ≡ 1
   pub capacity : (1 ≤ word t 1) × (word t 1 ≤ 20)
   pub odd1 : word t 2 % 2 ≡ 1
   pub odd2 : word t 3 % 2 ≡ 1
-  pub state : ((1 ≤ word t 4) × (word t 4 ≤ word t 1)) ⊎ ((258 ≤ word t 4) × (word t 4 ≤ 256 + word t 1))
+  pub state : ((1 ≤ word t 4) × (word t 4 ≤ word t 1)) ⊎ (((258 ≤ word t 4) × (word t 4 ≤ 256 + word t 1))
+      ⊎ ((513 ≤ word t 4) × (word t 4 < 512 + word t 1)))
 
 abbrev pub badHeader : Table → Type 0 × Refusal
 badHeader t = ((HeaderWords t → ⊥), BadHeader)
@@ -187,15 +195,23 @@ flagNotZero t = ((word t 5 ≡ 0 → ⊥), FlagSet)
 abbrev pub changingRefusals : Table → ℕ → List (Type 0 × Refusal)
 changingRefusals t n = badHeader t ∷ (n < 20, ShortList) ∷ flagNotZero t ∷ []
 
+-- none of these: what is refused then has another reason
+pub record MayChange (t : Table) (n : ℕ) : Type 0 where
+  pub header : HeaderWords t
+  pub list : 20 ≤ n
+  pub flag : word t 5 ≡ 0
+
 abbrev pub refusals : Table → ℕ → Call → List (Type 0 × Refusal)
 refusals t n (query key) = badHeader t ∷ flagNotZero t ∷ ((Held t key → ⊥), KeyAbsent) ∷ []
 refusals t n (insert key r) = changingRefusals t n ++ ((Held t key, KeyPresent) ∷ (NoPlaceFor t (headerOf t) key, NoPlace) ∷ [])
 refusals t n (update key r) = changingRefusals t n ++ (((Held t key → ⊥), KeyAbsent) ∷ [])
 refusals t n (delete key) = changingRefusals t n ++ (((Held t key → ⊥), KeyAbsent) ∷ [])
-refusals t n begin = changingRefusals t n ++ ((Growing t, AlreadyGrowing) ∷ (headerOf t .state .k ≡ headerOf t .c, AtCapacity) ∷ [])
+refusals t n begin = changingRefusals t n ++ ((Resizing t, AlreadyResizing) ∷ (headerOf t .state .k ≡ headerOf t .c, AtCapacity) ∷ [])
+refusals t n shrink = changingRefusals t n ++ ((Resizing t, AlreadyResizing) ∷ (headerOf t .state .k < 2, TooSmall) ∷ [])
+refusals t n back = changingRefusals t n ++ ((AtRest t, NotResizing) ∷ [])
 refusals t n (stepFrom b) = changingRefusals t n
-    ++ ((AtRest t, NotGrowing) ∷ (None (InterimFrom t b), InterimEmpty) ∷ (NoneHasPlace t (InterimFrom t b), NoPlace) ∷ [])
-refusals t n end = changingRefusals t n ++ ((AtRest t, NotGrowing) ∷ (((x : Slot) × InterimItem t x), InterimTaken) ∷ [])
+    ++ ((AtRest t, NotResizing) ∷ (None (InterimFrom t b), InterimEmpty) ∷ (NoneHasPlace t (InterimFrom t b), NoPlace) ∷ [])
+refusals t n end = changingRefusals t n ++ ((AtRest t, NotResizing) ∷ (((x : Slot) × InterimItem t x), InterimTaken) ∷ [])
 refusals t n recover = badHeader t ∷ (n < 20, ShortList) ∷ (OfNoKind t, NoKind) ∷ []
 
 -- the first that holds refuses; where none does, the call is accepted
@@ -203,7 +219,8 @@ abbrev pub FirstRefuses : List (Type 0 × Refusal) → Outcome → Type 0
 FirstRefuses [] o = (stores : List Store) × (o ≡ listed stores)
 FirstRefuses (x ∷ xs) o = (x .0 × (o ≡ refused (x .1))) ⊎ ((x .0 → ⊥) × FirstRefuses xs o)
 
--- "Order: 1, 2, 3, then the rest; for insert 4 before 6; for begin 7 before 9; for step and end 8 first."
+-- "Order: 1, 2, 3, then the rest; for insert 4 before 6; for begin 7 before 9; for step and end 8 first." Request f): "else new refusal 17; a
+-- table in phase 1 or 2 refuses both begins with 7, tested first"; "At rest it, step and end give 8."
 abbrev pub RefusalsInOrder : Type 0
 RefusalsInOrder = (t : Table) (n : ℕ) (q : Call) → FirstRefuses (refusals t n q) (outcome t n q)
 
@@ -262,6 +279,8 @@ mapAfter (update key r) m = mapWith m key (some r)
 mapAfter (delete key) m = mapWith m key none
 mapAfter (query key) m = m
 mapAfter begin m = m
+mapAfter shrink m = m
+mapAfter back m = m
 mapAfter (stepFrom b) m = m
 mapAfter end m = m
 mapAfter recover m = m
@@ -317,14 +336,29 @@ UpdateAnswers = (t : Table) (m : PlainMap) (n : ℕ) → Given t m n → (key : 
 abbrev pub DeleteAnswers : Type 0
 DeleteAnswers = (t : Table) (m : PlainMap) (n : ℕ) → Given t m n → (key : ℕ) → ChangeBy t (mapAfter (delete key) m) (m key) (outcome t n (delete key))
 
--- growth keeps the map
+-- growing keeps the map, and so do shrinking and turning back
 abbrev pub BeginAnswers : Type 0
 BeginAnswers =
     (t : Table) (m : PlainMap) (n : ℕ) → Given t m n
-    → (Growing t → outcome t n begin ≡ refused AlreadyGrowing)
+    → (Resizing t → outcome t n begin ≡ refused AlreadyResizing)
     × (AtRest t → headerOf t .state .k ≡ headerOf t .c → outcome t n begin ≡ refused AtCapacity)
     × (AtRest t → (headerOf t .state .k ≡ headerOf t .c → ⊥)
     → Gives t (outcome t n begin) (mapAfter begin m) (record { k = headerOf t .state .k + 1; phase = 1 }))
+
+abbrev pub ShrinkAnswers : Type 0
+ShrinkAnswers =
+    (t : Table) (m : PlainMap) (n : ℕ) → Given t m n
+    → (Resizing t → outcome t n shrink ≡ refused AlreadyResizing)
+    × (AtRest t → headerOf t .state .k < 2 → outcome t n shrink ≡ refused TooSmall)
+    × (AtRest t → 2 ≤ headerOf t .state .k
+    → Gives t (outcome t n shrink) (mapAfter shrink m) (record { k = headerOf t .state .k - 1; phase = 2 }))
+
+abbrev pub BackAnswers : Type 0
+BackAnswers =
+    (t : Table) (m : PlainMap) (n : ℕ) → Given t m n
+    → (AtRest t → outcome t n back ≡ refused NotResizing)
+    × (Shrinking t → Gives t (outcome t n back) (mapAfter back m) (record { k = headerOf t .state .k + 1; phase = 1 }))
+    × (Growing t → Gives t (outcome t n back) (mapAfter back m) (record { k = headerOf t .state .k - 1; phase = 2 }))
 
 -- after a step that took the item x: the interim items are those before without x; its key and record stand in top or bottom
 pub record StepMoves (t u : Table) (x : Slot) : Type 0 where
@@ -341,16 +375,16 @@ StepBy t m x o = (g : Gives t o (mapAfter step m) (headerOf t .state)) × StepMo
 abbrev pub StepAnswers : Type 0
 StepAnswers =
     (t : Table) (m : PlainMap) (n : ℕ) → Given t m n → (b : ℕ)
-    → (AtRest t → outcome t n (stepFrom b) ≡ refused NotGrowing)
-    × (Growing t → (None (InterimFrom t b) × (outcome t n (stepFrom b) ≡ refused InterimEmpty))
+    → (AtRest t → outcome t n (stepFrom b) ≡ refused NotResizing)
+    × (Resizing t → (None (InterimFrom t b) × (outcome t n (stepFrom b) ≡ refused InterimEmpty))
     ⊎ ((NoneHasPlace t (InterimFrom t b) × (outcome t n (stepFrom b) ≡ refused NoPlace))
     ⊎ ((x : Slot) × FirstWithPlace t (InterimFrom t b) x × StepBy t m x (outcome t n (stepFrom b)))))
 
 abbrev pub EndAnswers : Type 0
 EndAnswers =
     (t : Table) (m : PlainMap) (n : ℕ) → Given t m n
-    → (AtRest t → outcome t n end ≡ refused NotGrowing)
-    × (Growing t → ((x : Slot) × InterimItem t x × (outcome t n end ≡ refused InterimTaken))
+    → (AtRest t → outcome t n end ≡ refused NotResizing)
+    × (Resizing t → ((x : Slot) × InterimItem t x × (outcome t n end ≡ refused InterimTaken))
     ⊎ (NoInterim t × Gives t (outcome t n end) (mapAfter end m) (record { k = headerOf t .state .k; phase = 0 })))
 
 -- recovery: "sound: no stores"
@@ -408,6 +442,10 @@ Written t h (insert key r) xs = PlacingWritten t h key r (placing t h key) xs
 Written t h (update key r) xs = (x : Slot) × FirstHolder t key x × UpdateWritten t h x key r (freeSlot t h (placeOf x)) xs
 Written t h (delete key) xs = (x : Slot) × FirstHolder t key x × (xs ≡ (bucketStart (x .bucket), hide h (tokenOf t (x .bucket)) (x .slot)) ∷ [])
 Written t h begin xs = xs ≡ (4, h .state .k + 1 + 256 * 1) ∷ []
+Written t h shrink xs = xs ≡ (4, h .state .k - 1 + 256 * 2) ∷ []
+Written t h back xs =
+    ((h .state .phase ≡ 2) × (xs ≡ (4, h .state .k + 1 + 256 * 1) ∷ []))
+    ⊎ ((h .state .phase ≡ 1) × (xs ≡ (4, h .state .k - 1 + 256 * 2) ∷ []))
 Written t h (stepFrom b) xs = (x : Slot) × FirstWithPlace t (InterimFrom t b) x × StepWritten t h x xs
 Written t h end xs = xs ≡ (4, h .state .k + 256 * 0) ∷ []
 Written t h recover xs = RecoveryWritten t h (finding t) xs
@@ -421,6 +459,8 @@ Number (insert key r) n = (n ≡ 4) ⊎ (n ≡ 9)
 Number (update key r) n = (n ≡ 4) ⊎ (n ≡ 7)
 Number (delete key) n = n ≡ 1
 Number begin n = n ≡ 1
+Number shrink n = n ≡ 1
+Number back n = n ≡ 1
 Number (stepFrom b) n = (n ≡ 5) ⊎ (n ≡ 10)
 Number end n = n ≡ 1
 Number recover n = (n ≡ 0) ⊎ ((n ≡ 1) ⊎ (n ≡ 3))
@@ -468,14 +508,23 @@ RecoveryAccepts =
     ⊎ (OfNoKind t × (outcome t n recover ≡ refused NoKind))))
 
 -- "One whole growth from N top buckets, each list made once, whole, on its own table, before the next call and no other store
--- made, spends at most 20N + 2 stores in its own calls, whatever but creation is called between."
-abbrev pub GrowthBound : Type 0
-GrowthBound =
-    (t u : Table) (l : List ℕ) (es : List Event) → Accepted (changeResult t l begin .0) → OneGrowth (after t (whole begin l)) es
-    → History Whole t (whole begin l ∷ es) u
-    → spent t (whole begin l ∷ es) ≤ 20 * 2 ^ headerOf t .state .k + 2
+-- made, spends at most 20N + 2 stores in its own calls, whatever but creation is called between." Request f): "40N + 2 for one whole shrink
+-- from N top buckets, lists made as the growth bound has it and with no cut, creation or turning back; the 20N + 2 bound gains that last
+-- premise too". What is called first, begin or shrink, and how often N is spent
+abbrev pub SpendsAtMost : ℕ → Call → Type 0
+SpendsAtMost times first =
+    (t u : Table) (l : List ℕ) (es : List Event) → Accepted (changeResult t l first .0) → OneResizing (after t (whole first l)) es
+    → NoTurningBack (after t (whole first l)) es → History Whole t (whole first l ∷ es) u
+    → spent t (whole first l ∷ es) ≤ times * 2 ^ headerOf t .state .k + 2
 
--- "A query looks at no more than four buckets, six while growing, and reports the number truly looked at": the position, in
+abbrev pub GrowthBound : Type 0
+GrowthBound = SpendsAtMost 20 begin
+
+abbrev pub ShrinkBound : Type 0
+ShrinkBound = SpendsAtMost 40 shrink
+
+-- "A query looks at no more than four buckets, six while growing, and reports the number truly looked at"; request f): "six buckets in
+-- either phase". The number is the position, in
 -- the list of distinct probed buckets, of the bucket where it stopped, or that list's length
 pub record StoppedAt (t : Table) (key : ℕ) (r : Record) (x : Spot) (n : ℕ) : Type 0 where
   pub slot : Slot

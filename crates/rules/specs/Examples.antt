@@ -13,14 +13,14 @@ use lib.ListN.{getD, replicate}
 use lib.Dec.{eqb}
 use Rattle.words.specs.Product.{productOf, hashOf}
 use Rattle.rules.specs.Choice.{select}
-use Rattle.rules.specs.Words.{Table, word, wordsFor, stateOf, stateWord, atRest, headerOf, flagOf, targetOf, loggedOf, stateGood, odd}
+use Rattle.rules.specs.Words.{Table, word, wordsFor, stateOf, stateWord, atRest, shrinking, headerOf, flagOf, targetOf, loggedOf, stateGood, odd}
 use Rattle.rules.specs.Words.{capacityTests, headerTests, topOf, bottomOf, interimOf, levelsInUse, bucketsOf, allBuckets, exponentInUse}
 use Rattle.rules.specs.Words.{unusedBuckets, slotAt, slotsIn, placeOf, placeAt, slotsOf, slotsInUse, tokenWord, keyWord, spotOf, functionWord}
 use Rattle.rules.specs.Words.{placeWord, keyIn, recordIn, tokenOf, tokenNumber, isTaken, show, hide, takenOf, meant, taken, meantOf}
 use Rattle.rules.specs.Places.{hashesOf, firstPlace, secondPlace, samePlace, placesIn, probes, placesOf, holds, hitIn, lookup}
 use Rattle.rules.specs.Placing.{takenIn, freeSlot, fewer, emptier, roomIn, otherPlace, itemsOf, candidates, moveOf, placing}
-use Rattle.rules.specs.Stores.{Store, pairs, putStores, clearStores, moveStores, placingStores, redoStores, updateStores, beginStores}
-use Rattle.rules.specs.Stores.{endStores, stepStores, written}
+use Rattle.rules.specs.Stores.{Store, pairs, putStores, clearStores, moveStores, placingStores, redoStores, updateStores, stateStores}
+use Rattle.rules.specs.Stores.{stepStores, written}
 use Rattle.rules.specs.Soundness.{takenSlots, tokensTidy, unusedEmpty, inPlace, orderlyTests, sameKey, twins, sameRecord, target, finding}
 use Rattle.rules.specs.Answers.{changeMeans, queryMeans}
 use Rattle.rules.specs.Calls.{headerGood, listLong, flagClear, changingTests, queryTests, recoverTests, beginTests, beginOf, interimSlots}
@@ -159,11 +159,11 @@ marked r =
 
 -- the rules compute what document 01 writes
 pub examples : (r : ℕ → Record) → map (λ (x : Row). x .computed) (marked r) ≡ map (λ (x : Row). x .paper) (marked r)
-unfolding productOf hashOf flatMap wordsFor stateOf stateWord atRest headerOf flagOf targetOf loggedOf stateGood odd capacityTests headerTests topOf
+unfolding productOf hashOf flatMap wordsFor stateOf stateWord atRest shrinking headerOf flagOf targetOf loggedOf stateGood odd capacityTests headerTests topOf
     bottomOf interimOf levelsInUse bucketsOf allBuckets exponentInUse unusedBuckets slotAt slotsIn placeOf placeAt slotsOf slotsInUse tokenWord
     keyWord spotOf functionWord placeWord keyIn recordIn tokenOf tokenNumber isTaken show hide takenOf meant taken meantOf hashesOf firstPlace secondPlace
     samePlace placesIn probes holds hitIn lookup takenIn freeSlot fewer emptier roomIn otherPlace itemsOf candidates moveOf placing putStores
-    clearStores moveStores placingStores redoStores updateStores beginStores endStores stepStores written takenSlots tokensTidy unusedEmpty placesOf
+    clearStores moveStores placingStores redoStores updateStores stateStores stepStores written takenSlots tokensTidy unusedEmpty placesOf
     inPlace orderlyTests sameKey twins sameRecord target finding headerGood listLong flagClear changingTests queryTests recoverTests beginTests
     beginOf interimSlots interimItems interimBucket itemsFrom hasPlace stepItem stepTests stepOf endTests endOf outcome changeResult queryResult
     createTests created createResult makeTests makeResult madeFirst madeAll fresh usual afterE1 beforeE6 beforeE8 halfE9 beforeE9 halfE11 beforeE11

@@ -7,7 +7,7 @@ use mathlib.Core.Path.{_≡_}
 use mathlib.Core.List.{List, [], _∷_}
 use mathlib.Core.Logic.{_⊎_}
 use Rattle.rules.specs.Words.{Table}
-use Rattle.rules.specs.Calls.{Call, query, insert, update, delete, begin, stepFrom, end, recover}
+use Rattle.rules.specs.Calls.{Call, query, insert, update, delete, begin, shrink, back, stepFrom, end, recover}
 use Rattle.rules.specs.Results.{changeResult, makeResult}
 use Rattle.rules.specs.declared.Change.{Change}
 use Rattle.rules.specs.declared.Change.the-variants.{Listed, Refused}
@@ -55,9 +55,11 @@ abbrev pub Recovery : Event → Type 0
 Recovery (whole q l) = q ≡ recover
 Recovery (cut q l n) = q ≡ recover
 
--- the stores that growth spends "in its own calls": begin, steps and end
+-- the stores that growing or shrinking spends "in its own calls": begin or shrink, steps and end; and turning back, which the bounds leave out
 abbrev pub ownStores : Call → ℕ → ℕ
 ownStores begin n = n
+ownStores shrink n = n
+ownStores back n = n
 ownStores (stepFrom b) n = n
 ownStores end n = n
 ownStores (query key) n = 0
@@ -79,12 +81,21 @@ abbrev pub Accepted : Change → Type 0
 Accepted (Listed stores) = Unit {0}
 Accepted (Refused r) = ⊥
 
--- the end of a growth: an accepted end
-abbrev pub EndsGrowth : Table → Event → Type 0
-EndsGrowth t (whole q l) = (q ≡ end) × Accepted (changeResult t l q .0)
-EndsGrowth t (cut q l n) = (q ≡ end) × Accepted (changeResult t l q .0) × (1 ≤ n)
+-- the end of a growth or of a shrink: an accepted end
+abbrev pub EndsResizing : Table → Event → Type 0
+EndsResizing t (whole q l) = (q ≡ end) × Accepted (changeResult t l q .0)
+EndsResizing t (cut q l n) = (q ≡ end) × Accepted (changeResult t l q .0) × (1 ≤ n)
 
--- events of one growth: none comes after its end
-abbrev pub OneGrowth : Table → List Event → Type 0
-OneGrowth t [] = Unit {0}
-OneGrowth t (e ∷ es) = (EndsGrowth t e × (es ≡ [])) ⊎ ((EndsGrowth t e → ⊥) × OneGrowth (after t e) es)
+-- events of one growth, or of one shrink: none comes after its end
+abbrev pub OneResizing : Table → List Event → Type 0
+OneResizing t [] = Unit {0}
+OneResizing t (e ∷ es) = (EndsResizing t e × (es ≡ [])) ⊎ ((EndsResizing t e → ⊥) × OneResizing (after t e) es)
+
+-- request f), "with no .. turning back": no accepted back among them. A refused one turns nothing
+abbrev pub TurnsBack : Table → Event → Type 0
+TurnsBack t (whole q l) = (q ≡ back) × Accepted (changeResult t l q .0)
+TurnsBack t (cut q l n) = (q ≡ back) × Accepted (changeResult t l q .0) × (1 ≤ n)
+
+abbrev pub NoTurningBack : Table → List Event → Type 0
+NoTurningBack t [] = Unit {0}
+NoTurningBack t (e ∷ es) = (TurnsBack t e → ⊥) × NoTurningBack (after t e) es

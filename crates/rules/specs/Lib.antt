@@ -15,8 +15,10 @@ pub mod ChainSentences
 pub mod StepSentences
 pub mod StepFromSentences
 pub mod SpotSentences
+pub mod ResizeSentences
 pub mod Mission
 pub mod Examples
 pub mod ChainCases
 pub mod StepCases
 pub mod SpotCases
+pub mod ResizeCases

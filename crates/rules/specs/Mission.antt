@@ -1,18 +1,20 @@
 -- What is proved of the user's three demands and of document 02's requests, in one place, sentence by sentence. Each field of a demand is a
 -- statement of `Demands`, and each field of a request one of its sentences (`ChainSentences`, `StepSentences`, `StepFromSentences`,
--- `SpotSentences`), which say it in full. One law proves them all: `mission`, in proofs/Mission.
+-- `SpotSentences`, `ResizeSentences`), which say it in full. One law proves them all: `mission`, in proofs/Mission.
 -- That the code does what the rules say is promised call by call, in the `ensures` of each.
 -- Assumes nothing.
 use Rattle.rules.specs.Demands.{ChangeAnswers, CreateAnswers, MakeAnswers, RefusalsInOrder, StepIsACall, QueryIsACall, StoresInside}
 use Rattle.rules.specs.Demands.{TokenStoresLow, SoundnessIsTested, MapExists, CreatedIsEmpty, QueryAnswers, InsertAnswers, UpdateAnswers}
-use Rattle.rules.specs.Demands.{DeleteAnswers, BeginAnswers, StepAnswers, EndAnswers, RecoverAnswers, StoresAsWritten, StoreNumbers}
-use Rattle.rules.specs.Demands.{MakeTakesTheList, CutsAreSafe, RecoveryMayBeCut, RecoveryAccepts, GrowthBound, QueryCounts, ProbesAreFew}
-use Rattle.rules.specs.Demands.{ProbesAreDistinct}
+use Rattle.rules.specs.Demands.{DeleteAnswers, BeginAnswers, ShrinkAnswers, BackAnswers, StepAnswers, EndAnswers, RecoverAnswers, StoresAsWritten}
+use Rattle.rules.specs.Demands.{StoreNumbers, MakeTakesTheList, CutsAreSafe, RecoveryMayBeCut, RecoveryAccepts, GrowthBound, ShrinkBound}
+use Rattle.rules.specs.Demands.{QueryCounts, ProbesAreFew, ProbesAreDistinct}
 use Rattle.rules.specs.ChainSentences.{ChainRefusals, ChainWrites, ChainCounts, ChainLooksAtFew, ChainAnswers, ChainsAfterCuts}
 use Rattle.rules.specs.StepFromSentences.{StepFromIsACall, ZeroIsTheStep, TakesTheFirstFrom, ElevenFromExactly, SixFromExactly}
 use Rattle.rules.specs.StepFromSentences.{RefusedTellsZero, PastTheLevel, AsTheStep, StuckStaysStuck, InsertsGiveNoPlace}
 use Rattle.rules.specs.StepFromSentences.{PassEnds, PassPlacesAll, LooksUntilFound, PassLooksAtFew}
 use Rattle.rules.specs.SpotSentences.{FoundStood, RefusedStoodNowhere, LookupStood, TheOneStood, ChangesGoThere, ChainStood}
+use Rattle.rules.specs.ResizeSentences.{ShrinkStores, LevelsAreThree, LevelsShrink, SevenExactly, SeventeenExactly, BackStores, LevelsTurn}
+use Rattle.rules.specs.ResizeSentences.{TurnedTwice, EightExactly, OwnStoresCount, TwentyTooFew}
 use Rattle.rules.specs.StepSentences.{StepTakesTheFirst, NoItemBlocks, SixExactly, ElevenExactly, SixIsNotEleven}
 
 pub record Demand1 : Type 0 where
@@ -38,8 +40,10 @@ pub record Demand2 : Type 0 where
   pub insertAnswers : InsertAnswers
   pub updateAnswers : UpdateAnswers
   pub deleteAnswers : DeleteAnswers
-  -- "and growing keeps the map"
+  -- "and growing keeps the map"; request f): so do shrinking and turning back
   pub beginAnswers : BeginAnswers
+  pub shrinkAnswers : ShrinkAnswers
+  pub backAnswers : BackAnswers
   pub stepAnswers : StepAnswers
   pub endAnswers : EndAnswers
   pub recoverAnswers : RecoverAnswers
@@ -57,8 +61,12 @@ pub record Demand3 : Type 0 where
   -- "also when recovery is cut, however often"
   pub recoveryMayBeCut : RecoveryMayBeCut
   -- "One whole growth from N top buckets .. spends at most 20N + 2 stores in its own calls, whatever but creation is called between."
+  -- Request f): "40N + 2 for one whole shrink from N top buckets .. with no cut, creation or turning back; the 20N + 2 bound gains that last premise
+  -- too"
   pub growthBound : GrowthBound
-  -- "A query looks at no more than four buckets, six while growing, and reports the number truly looked at."
+  pub shrinkBound : ShrinkBound
+  -- "A query looks at no more than four buckets, six while growing, and reports the number truly looked at." Request f): "six buckets in either
+  -- phase"
   pub probesAreFew : ProbesAreFew
   pub probesAreDistinct : ProbesAreDistinct
   pub queryCounts : QueryCounts
@@ -130,6 +138,28 @@ pub record WhereItStood : Type 0 where
   pub changesGoThere : ChangesGoThere
   pub chainStood : ChainStood
 
+-- request f), "Shrink when a level is unloaded.": with `shrinkAnswers`, `backAnswers` and `shrinkBound` of the demands, all of which speak of either
+-- phase
+pub record UnloadedLevel : Type 0 where
+  -- "the state goes from rest with k to phase 2 with k − 1, in one store"
+  pub shrinkStores : ShrinkStores
+  -- "The old top becomes the interim level, the old bottom the top, and a level of a quarter of the old top the new bottom."
+  pub levelsShrink : LevelsShrink
+  -- "It needs k at least 2, else new refusal 17; a table in phase 1 or 2 refuses both begins with 7, tested first."
+  pub seventeenExactly : SeventeenExactly
+  pub sevenExactly : SevenExactly
+  -- "levels in use are now three in either phase"
+  pub levelsAreThree : LevelsAreThree
+  -- "A shrinking table becomes a growing one with k + 1, and a growing one a shrinking one with k − 1, by one state store."
+  pub backStores : BackStores
+  pub levelsTurn : LevelsTurn
+  pub turnedTwice : TurnedTwice
+  -- "At rest it, step and end give 8."
+  pub eightExactly : EightExactly
+  -- "40N + 2 for one whole shrink": whose stores are counted, and that 20N + 2 would be too few
+  pub ownStoresCount : OwnStoresCount
+  pub twentyTooFew : TwentyTooFew
+
 -- the user's three demands, document 02's requests, and the step that goes on
 pub record Mission : Type 0 where
   pub anyInput : Demand1
@@ -139,3 +169,4 @@ pub record Mission : Type 0 where
   pub stubbornItems : StubbornItems
   pub goesOn : GoesOn
   pub whereItStood : WhereItStood
+  pub unloadedLevel : UnloadedLevel

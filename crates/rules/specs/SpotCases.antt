@@ -8,12 +8,12 @@ use mathlib.Core.Path.{_≡_, refl}
 use mathlib.Core.List.{List, [], _∷_, map, flatMap}
 use lib.ListN.{set}
 use Rattle.words.specs.Product.{productOf, hashOf}
-use Rattle.rules.specs.Words.{Table, wordsFor, stateOf, stateWord, atRest, headerOf, flagOf, stateGood, odd, capacityTests, headerTests, topOf}
+use Rattle.rules.specs.Words.{Table, wordsFor, stateOf, stateWord, atRest, shrinking, headerOf, flagOf, stateGood, odd, capacityTests, headerTests, topOf}
 use Rattle.rules.specs.Words.{bottomOf, interimOf, levelsInUse, bucketsOf, slotAt, slotsIn, placeOf, placeAt, slotsOf, tokenWord, keyWord}
 use Rattle.rules.specs.Words.{functionWord, placeWord, spotOf, keyIn, recordIn, tokenOf, tokenNumber, isTaken, show, hide, takenOf, taken}
 use Rattle.rules.specs.Places.{hashesOf, firstPlace, secondPlace, samePlace, placesIn, probes, placesOf, holds, hitIn, lookup}
 use Rattle.rules.specs.Placing.{takenIn, freeSlot, fewer, emptier, roomIn, placing}
-use Rattle.rules.specs.Stores.{putStores, clearStores, placingStores, updateStores, beginStores, stepStores, written}
+use Rattle.rules.specs.Stores.{putStores, clearStores, placingStores, updateStores, stateStores, stepStores, written}
 use Rattle.rules.specs.Calls.{headerGood, listLong, flagClear, changingTests, queryTests, beginTests, beginOf, interimSlots, interimItems}
 use Rattle.rules.specs.Calls.{interimBucket, itemsFrom, hasPlace, stepItem, stepTests, stepOf, insert, update, delete, begin, step, outcome}
 use Rattle.rules.specs.Results.{changeResult, queryResult, createTests, created, createResult, makeTests, makeResult}
@@ -74,10 +74,10 @@ cases r =
 
 -- the rules compute what request e) asks for
 pub spotCases : (r : ℕ → Record) → map (λ (x : Row). x .computed) (cases r) ≡ map (λ (x : Row). x .paper) (cases r)
-unfolding productOf hashOf flatMap wordsFor stateOf stateWord atRest headerOf flagOf stateGood odd capacityTests headerTests topOf bottomOf interimOf
+unfolding productOf hashOf flatMap wordsFor stateOf stateWord atRest shrinking headerOf flagOf stateGood odd capacityTests headerTests topOf bottomOf interimOf
     levelsInUse bucketsOf slotAt slotsIn placeOf placeAt slotsOf tokenWord keyWord functionWord placeWord spotOf keyIn recordIn tokenOf tokenNumber
     isTaken show hide takenOf taken hashesOf firstPlace secondPlace samePlace placesIn probes placesOf holds hitIn lookup takenIn freeSlot fewer emptier
-    roomIn placing putStores clearStores placingStores updateStores beginStores stepStores written headerGood listLong flagClear changingTests queryTests
+    roomIn placing putStores clearStores placingStores updateStores stateStores stepStores written headerGood listLong flagClear changingTests queryTests
     beginTests beginOf interimSlots interimItems interimBucket itemsFrom hasPlace stepItem stepTests stepOf outcome changeResult queryResult createTests
     created createResult makeTests makeResult madeFirst madeAll fresh usual afterE1 beforeE8 growing stepped filled twice cases
 spotCases r = refl

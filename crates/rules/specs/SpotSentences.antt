@@ -15,7 +15,7 @@ use Rattle.rules.specs.Answers.{Meaning, queryMeans, lookupMeans, chainM
 use Rattle.rules.specs.Calls.{refused, listed, insert, update, delete, outcome}
 use Rattle.rules.specs.Results.{queryResult}
 use Rattle.rules.specs.Chains.{chainResult}
-use Rattle.rules.specs.Demands.{Growing, bucketStart, slotStart, UpdateWritten}
+use Rattle.rules.specs.Demands.{Resizing, interimSize, bucketStart, slotStart, UpdateWritten}
 use Rattle.rules.specs.ChainSentences.{keyAt}
 use Rattle.rules.specs.declared.Place.{Place}
 use Rattle.rules.specs.declared.Slot.{Slot}
@@ -30,7 +30,7 @@ abbrev pub KeyStands : Table → ℕ → ℕ → ℕ → Type 0
 KeyStands t key j s = (word t (9 + 13 * j) % 16 / 2 ^ s % 2 ≡ 1) × (word t (9 + 13 * j + (1 + 3 * s)) ≡ key)
 
 -- a level in use of that name, and bucket j in it. "The top has 2^k buckets, the bottom half that; while growing, an interim level has a
--- quarter." "A level of M buckets .. is always buckets M − 1 to 2M − 2."
+-- quarter"; while shrinking, it has twice the top's (`interimSize`). "A level of M buckets .. is always buckets M − 1 to 2M − 2."
 abbrev pub AmongBuckets : ℕ → ℕ → Type 0
 AmongBuckets m j = (m - 1 ≤ j) × (j ≤ 2 * m - 2)
 
@@ -38,7 +38,7 @@ abbrev pub LevelNamed : Table → ℕ → ℕ → Type 0
 LevelNamed t name j =
     let k = headerOf t .state .k in
     ((name ≡ 0) × AmongBuckets (2 ^ k) j)
-    ⊎ (((name ≡ 1) × AmongBuckets (2 ^ (k - 1)) j) ⊎ ((name ≡ 2) × Growing t × AmongBuckets (2 ^ (k - 2)) j))
+    ⊎ (((name ≡ 1) × AmongBuckets (2 ^ (k - 1)) j) ⊎ ((name ≡ 2) × Resizing t × AmongBuckets (interimSize t) j))
 
 -- word w and level name are told of the key, with the record f, p and the count n
 pub record StoodAt (t : Table) (key f p n w name : ℕ) : Type 0 where

@@ -7,12 +7,12 @@ use mathlib.Core.Path.{_≡_, refl}
 use mathlib.Core.List.{List, [], _∷_, _++_, map, flatMap}
 use lib.ListN.{replicate, set}
 use Rattle.words.specs.Product.{productOf, hashOf}
-use Rattle.rules.specs.Words.{Table, wordsFor, stateOf, stateWord, atRest, headerOf, flagOf, stateGood, odd, capacityTests, headerTests, topOf}
+use Rattle.rules.specs.Words.{Table, wordsFor, stateOf, stateWord, atRest, shrinking, headerOf, flagOf, stateGood, odd, capacityTests, headerTests, topOf}
 use Rattle.rules.specs.Words.{bottomOf, interimOf, levelsInUse, bucketsOf, slotAt, slotsIn, placeAt, slotsOf, tokenWord, keyWord, functionWord}
 use Rattle.rules.specs.Words.{placeWord, keyIn, recordIn, tokenOf, tokenNumber, isTaken, show, hide, takenOf, taken}
 use Rattle.rules.specs.Places.{hashesOf, firstPlace, secondPlace, samePlace, placesIn, probes, placesOf, holds, hitIn, lookup}
 use Rattle.rules.specs.Placing.{takenIn, freeSlot, fewer, emptier, roomIn, otherPlace, itemsOf, candidates, moveOf, placing}
-use Rattle.rules.specs.Stores.{putStores, clearStores, moveStores, placingStores, beginStores, endStores, stepStores, written}
+use Rattle.rules.specs.Stores.{putStores, clearStores, moveStores, placingStores, stateStores, stepStores, written}
 use Rattle.rules.specs.Answers.{steppedMeans, steppedFromMeans}
 use Rattle.rules.specs.Calls.{headerGood, listLong, flagClear, changingTests, beginTests, beginOf, interimSlots, interimItems, interimBucket}
 use Rattle.rules.specs.Calls.{itemsFrom, hasPlace, stepItem, stepTests, stepOf, endTests, endOf, Call, delete, begin, stepFrom, step, end, outcome}
@@ -147,10 +147,10 @@ cases r = oneBucket r (blocked r) ++ (twoBuckets r (wide r) ++ (stuckLate (late 
 
 -- the rules compute what the requests ask for
 pub stepCases : (r : ℕ → Record) → map (λ (x : Row). x .computed) (cases r) ≡ map (λ (x : Row). x .paper) (cases r)
-unfolding productOf hashOf flatMap wordsFor stateOf stateWord atRest headerOf flagOf stateGood odd capacityTests headerTests topOf bottomOf interimOf
+unfolding productOf hashOf flatMap wordsFor stateOf stateWord atRest shrinking headerOf flagOf stateGood odd capacityTests headerTests topOf bottomOf interimOf
     levelsInUse bucketsOf slotAt slotsIn placeAt slotsOf tokenWord keyWord functionWord placeWord keyIn recordIn tokenOf tokenNumber isTaken show hide
     takenOf taken hashesOf firstPlace secondPlace samePlace placesIn probes placesOf holds hitIn lookup takenIn freeSlot fewer emptier roomIn
-    otherPlace itemsOf candidates moveOf placing putStores clearStores moveStores placingStores beginStores endStores stepStores written steppedMeans
+    otherPlace itemsOf candidates moveOf placing putStores clearStores moveStores placingStores stateStores stepStores written steppedMeans
     steppedFromMeans headerGood listLong flagClear changingTests beginTests beginOf interimSlots interimItems interimBucket itemsFrom hasPlace
     stepItem stepTests stepOf endTests endOf outcome changeResult stepFromResult stepResult createTests created createResult makeTests makeResult
     madeFirst madeAll fresh filled blocked late crowded turned wide oneBucket twoBuckets goesOn stuckLate ready cases

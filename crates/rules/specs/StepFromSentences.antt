@@ -21,7 +21,7 @@ use Rattle.rules.specs.Calls.{refused, listed, interimItems, interimBuck
 use Rattle.rules.specs.Results.{changeResult, stepFromResult, stepResult}
 use Rattle.rules.specs.NoPlace.{NoPlaceFor}
 use Rattle.rules.specs.Histories.{whole, after, Accepted}
-use Rattle.rules.specs.Demands.{Growing, InterimItem, None, NoInterim, interimSize, InterimFrom, FirstWithPlace, NoneHasPlace, StepWritten}
+use Rattle.rules.specs.Demands.{Resizing, InterimItem, None, NoInterim, interimSize, InterimFrom, FirstWithPlace, NoneHasPlace, StepWritten}
 use Rattle.rules.specs.StepSentences.{MayStep}
 use Rattle.rules.specs.declared.Header.{Header}
 use Rattle.rules.specs.declared.Record.{Record}
@@ -116,7 +116,7 @@ PassEnds = (t u : Table) (b c : ℕ) (ls : List (List ℕ)) → Pass t b ls u c 
 -- it ends "with an empty interim level or with items left of which none has a place"
 abbrev pub PassPlacesAll : Type 0
 PassPlacesAll =
-    (t u : Table) (c n : ℕ) (ls : List (List ℕ)) (r : Refusal) → SoundTable t → Growing t → Pass t 0 ls u c
+    (t u : Table) (c n : ℕ) (ls : List (List ℕ)) (r : Refusal) → SoundTable t → Resizing t → Pass t 0 ls u c
     → 20 ≤ n → outcome u n (stepFrom c) ≡ refused r
     → (NoInterim u × (r ≡ InterimEmpty)) ⊎ (NoneHasPlace u (InterimItem u) × ((r ≡ InterimEmpty) ⊎ (r ≡ NoPlace)))
 

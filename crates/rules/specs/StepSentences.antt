@@ -2,24 +2,22 @@
 -- are types, as those of `Demands` are: a law of proofs/ that proves one bears its name, beginning with a small letter. "The ten-store and
 -- 20N + 2 bounds stay": `StoreNumbers` and `GrowthBound` of `Demands`. "E11 still answers 6": `Examples`.
 -- Assumes nothing.
-use Prim.Native.Nat.{ℕ, _≤_}
+use Prim.Native.Nat.{ℕ}
 use mathlib.Core.Path.{_≡_}
 use mathlib.Core.List.{List}
 use mathlib.Core.Logic.{_↔_}
-use Rattle.rules.specs.Words.{Table, word, headerOf, keyIn}
+use Rattle.rules.specs.Words.{Table, headerOf, keyIn}
 use Rattle.rules.specs.Stores.{Store}
 use Rattle.rules.specs.Calls.{refused, listed, step, outcome}
 use Rattle.rules.specs.NoPlace.{NoPlaceFor}
-use Rattle.rules.specs.Demands.{Growing, HeaderWords, InterimItem, NoInterim, FirstWithPlace, NoneHasPlace, StepWritten}
+use Rattle.rules.specs.Demands.{Resizing, MayChange, InterimItem, NoInterim, FirstWithPlace, NoneHasPlace, StepWritten}
 use Rattle.rules.specs.declared.Slot.{Slot}
 use Rattle.rules.specs.declared.Refusal.the-variants.{NoPlace, InterimEmpty}
 
 -- refusals 1, 2, 3 and 8 are not given: on every such table, sound or not, with a list of n words
 pub record MayStep (t : Table) (n : ℕ) : Type 0 where
-  pub header : HeaderWords t
-  pub list : 20 ≤ n
-  pub flag : word t 5 ≡ 0
-  pub growing : Growing t
+  pub change : MayChange t n
+  pub resizing : Resizing t
 
 -- ==== "The step must take the first interim item, in the same order, that has a place": the stores are those of this item's placing, and
 -- its token is the one cleared

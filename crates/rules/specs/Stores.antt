@@ -2,11 +2,12 @@
 -- list that they are written to; and the table in which they are made.
 -- "All stores are listed, also where the word already holds that number."
 -- Assumes nothing.
-use Prim.Native.Nat.{ℕ, zero, suc, _+_, _*_}
+use Prim.Native.Nat.{ℕ, zero, suc, _+_, _-_, _*_}
+use mathlib.Core.Bool.{cond}
 use mathlib.Core.List.{List, [], _∷_, _++_}
 use mathlib.Core.Option.{Option, none, some}
 use lib.ListN.{length, drop, set}
-use Rattle.rules.specs.Words.{Table, stateWord, wordOfState, wordOfFlag, wordOfTarget, wordOfFunction, wordOfPlace, placeOf, keyWord}
+use Rattle.rules.specs.Words.{Table, stateWord, shrinking, wordOfState, wordOfFlag, wordOfTarget, wordOfFunction, wordOfPlace, placeOf, keyWord}
 use Rattle.rules.specs.Words.{functionWord, placeWord, keyIn, recordIn, tokenWord, tokenOf, show, hide}
 use Rattle.rules.specs.Placing.{freeSlot}
 use Rattle.rules.specs.declared.State.{State}
@@ -66,11 +67,17 @@ begunOf s = record { k = s .k + 1; phase = 1 }
 abbrev pub endedOf : State → State
 endedOf s = record { k = s .k; phase = 0 }
 
-unfoldable pub beginStores : State → List Store
-beginStores s = (wordOfState, stateWord (begunOf s)) ∷ []
+-- document 02, request f): "the state goes from rest with k to phase 2 with k − 1, in one store"
+abbrev pub shrunkOf : State → State
+shrunkOf s = record { k = s .k - 1; phase = 2 }
 
-unfoldable pub endStores : State → List Store
-endStores s = (wordOfState, stateWord (endedOf s)) ∷ []
+-- request f): "A shrinking table becomes a growing one with k + 1, and a growing one a shrinking one with k − 1, by one state store."
+unfoldable pub turnedOf : State → State
+turnedOf s = cond (shrinking s) (begunOf s) (shrunkOf s)
+
+-- a new state: one store
+unfoldable pub stateStores : State → List Store
+stateStores s = (wordOfState, stateWord s) ∷ []
 
 -- "growth step | placing of the first taken interim slot .., then its interim token cleared", for slot x; which one that is, request b)
 -- says (`stepItem` of `Calls`)

@@ -11,7 +11,7 @@ use mathlib.Core.List.{List, [], _∷_, map, flatMap, List·Memᴰ as In}
 use mathlib.Core.Logic.{_⊎_}
 use mathlib.Core.Option.{Option·getD}
 use lib.ListN.{length, getD}
-use lib.Dec.{eqb, leb}
+use lib.Dec.{eqb, leb, ltb}
 use Rattle.rules.specs.Choice.{all, any, given, select, firstOf, from}
 use Rattle.rules.specs.declared.State.{State}
 use Rattle.rules.specs.declared.Header.{Header}
@@ -38,9 +38,12 @@ stateOf w = record { k = w % 256; phase = w / 256 }
 unfoldable pub stateWord : State → ℕ
 stateWord s = s .k + 256 * s .phase
 
--- "phase 0 at rest, 1 growing"
+-- "phase 0 at rest, 1 growing"; document 02, request f): 2 shrinking
 unfoldable pub atRest : State → Bool
 atRest s = eqb (s .phase) 0
+
+unfoldable pub shrinking : State → Bool
+shrinking s = eqb (s .phase) 2
 
 -- words 4 to 8: "state", "update flag", "update target, function, place"
 abbrev pub wordOfState : ℕ
@@ -71,16 +74,18 @@ targetOf t = word t wordOfTarget
 unfoldable pub loggedOf : Table → Record
 loggedOf t = record { function = word t wordOfFunction; place = word t wordOfPlace }
 
--- "At rest 1 ≤ k ≤ c, while growing 2 ≤ k ≤ c. Other states are bad."
+-- "At rest 1 ≤ k ≤ c, while growing 2 ≤ k ≤ c. Other states are bad." Request f): "States with phase 2 need 1 ≤ k < c."
 unfoldable pub stateGood : ℕ → State → Bool
 stateGood c s =
     any (all (eqb (s .phase) 0 ∷ leb 1 (s .k) ∷ leb (s .k) c ∷ [])
-    ∷ all (eqb (s .phase) 1 ∷ leb 2 (s .k) ∷ leb (s .k) c ∷ []) ∷ [])
+    ∷ all (eqb (s .phase) 1 ∷ leb 2 (s .k) ∷ leb (s .k) c ∷ [])
+    ∷ all (eqb (s .phase) 2 ∷ leb 1 (s .k) ∷ ltb (s .k) c ∷ []) ∷ [])
 
 -- the same as a fact
 abbrev pub GoodState : ℕ → State → Type 0
 GoodState c s =
-    ((s .phase ≡ 0) × (1 ≤ s .k) × (s .k ≤ c)) ⊎ ((s .phase ≡ 1) × (2 ≤ s .k) × (s .k ≤ c))
+    ((s .phase ≡ 0) × (1 ≤ s .k) × (s .k ≤ c)) ⊎ (((s .phase ≡ 1) × (2 ≤ s .k) × (s .k ≤ c))
+    ⊎ ((s .phase ≡ 2) × (1 ≤ s .k) × (s .k < c)))
 
 -- "multipliers A1, A2, both odd"
 unfoldable pub odd : ℕ → Bool
@@ -125,10 +130,11 @@ topOf s = record { name = top; exponent = s .k }
 unfoldable pub bottomOf : State → Level
 bottomOf s = record { name = bottom; exponent = s .k - 1 }
 
+-- request f): "The old top becomes the interim level, the old bottom the top", so while shrinking it has twice the top's
 unfoldable pub interimOf : State → Level
-interimOf s = record { name = interim; exponent = s .k - 2 }
+interimOf s = record { name = interim; exponent = cond (shrinking s) (s .k + 1) (s .k - 2) }
 
--- the levels in use, in the order "top, bottom, interim"
+-- the levels in use, in the order "top, bottom, interim"; request f): "levels in use are now three in either phase"
 unfoldable pub levelsInUse : State → List Level
 levelsInUse s = topOf s ∷ bottomOf s ∷ cond (atRest s) [] (interimOf s ∷ [])
 

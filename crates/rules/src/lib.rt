@@ -4,7 +4,7 @@
 pub mod layout;
 mod phases;
 
-// Word 4, decoded: "k + 256·phase; phase 0 at rest, 1 growing".
+// Word 4, decoded: "k + 256·phase; phase 0 at rest, 1 growing"; 2 shrinking.
 pub struct State {
     pub k: u64,
     pub phase: u64,
@@ -56,13 +56,15 @@ pub struct Spot {
     pub level: u64,
 }
 
-// What a script's events are: document 01's calls, but for create, and make, which makes their stores.
+// What a script's events are: document 01's calls, but for create, and make, which makes their stores; and request f)'s two.
 pub enum ScriptCall {
     Query(u64),
     Insert(u64, Record),
     Update(u64, Record),
     Delete(u64),
     Begin,
+    Shrink,
+    Back,
     Step,
     End,
     Recover,
@@ -98,8 +100,8 @@ pub enum Refusal {
     KeyPresent,
     KeyAbsent,
     NoPlace,
-    AlreadyGrowing,
-    NotGrowing,
+    AlreadyResizing,
+    NotResizing,
     AtCapacity,
     InterimTaken,
     InterimEmpty,
@@ -108,15 +110,16 @@ pub enum Refusal {
     BadMaking,
     ShortRecords,
     BadPosition,
+    TooSmall,
 }
 
-// What insert, update, delete, begin, end and recover answer: how many stores they listed, or why they listed none.
+// What insert, update, delete, begin, shrink, back, end and recover answer: how many stores they listed, or why they listed none.
 pub enum Change {
     Listed(u64),
     Refused(Refusal),
 }
 
-// What a growth step answers: the change, and the placing of the item that it takes; nothing where it was refused.
+// What a step answers: the change, and the placing of the item that it takes; nothing where it was refused.
 pub struct Stepped {
     pub change: Change,
     pub placing: Placing,

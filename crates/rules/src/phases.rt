@@ -1,9 +1,9 @@
-// A state, handed on by value: what it is, and the states that growth makes of it before they are stored.
+// A state, handed on by value: what it is, and the states that growing and shrinking make of it before they are stored.
 use crate::State;
 ghost use mathlib.Core.Path.{_≡_};
 ghost use Prim.Native.Nat.{_≤_};
-ghost use Rattle.rules.specs.Words.{stateOf, atRest, stateGood, stateWord};
-ghost use Rattle.rules.specs.Stores.{begunOf, endedOf};
+ghost use Rattle.rules.specs.Words.{stateOf, atRest, shrinking, stateGood, GoodState, stateWord};
+ghost use Rattle.rules.specs.Stores.{begunOf, shrunkOf, turnedOf, endedOf};
 
 impl State {
     // "state: k + 256·phase", read from its word
@@ -23,7 +23,14 @@ impl State {
         self.phase == 0
     }
 
-    // "At rest 1 ≤ k ≤ c, while growing 2 ≤ k ≤ c. Other states are bad."
+    // request f): "Phase 2"
+    pub fn shrinking(self) -> bool
+        ensures { λ r. ⌜ r ≡ shrinking self ⌝ }
+    {
+        self.phase == 2
+    }
+
+    // "At rest 1 ≤ k ≤ c, while growing 2 ≤ k ≤ c. Other states are bad." Request f): "States with phase 2 need 1 ≤ k < c."
     pub fn good(self, c: u64) -> bool
         ensures { λ r. ⌜ r ≡ stateGood c self ⌝ }
     {
@@ -35,6 +42,9 @@ impl State {
         }
         if self.phase == 1 {
             return 2 <= self.k;
+        }
+        if self.phase == 2 {
+            return 1 <= self.k && self.k < c;
         }
         false
     }
@@ -50,6 +60,28 @@ impl State {
         }
     }
 
+    // request f): "phase 2 with k − 1"
+    pub fn shrunk(self) -> State
+        requires { ⌜ 1 ≤ self .k ⌝ }
+        ensures { λ r. ⌜ r ≡ shrunkOf self ⌝ }
+    {
+        State {
+            k: self.k - 1,
+            phase: 2,
+        }
+    }
+
+    // request f), turned back: "A shrinking table becomes a growing one with k + 1, and a growing one a shrinking one with k − 1"
+    pub fn turned(self) -> State
+        requires { ⌜ GoodState 20 self ⌝ }
+        ensures { λ r. ⌜ r ≡ turnedOf self ⌝ }
+    {
+        if self.shrinking() {
+            return self.begun();
+        }
+        self.shrunk()
+    }
+
     // "state: phase 0"
     pub fn ended(self) -> State
         ensures { λ r. ⌜ r ≡ endedOf self ⌝ }
@@ -62,7 +94,7 @@ impl State {
 
     // "k + 256·phase"
     pub fn word(self) -> u64
-        requires { ⌜ (self .k ≤ 21) × (self .phase ≤ 1) ⌝ }
+        requires { ⌜ (self .k ≤ 21) × (self .phase ≤ 2) ⌝ }
         ensures { λ r. ⌜ r ≡ stateWord self ⌝ }
     {
         self.k + 256 * self.phase

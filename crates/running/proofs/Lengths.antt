@@ -8,7 +8,7 @@ use native.Mathlib.Decide.{decLe}
 use lib.ListN.{length, take, length-append}
 use lib.Seq.{length-take-le, take-all}
 use Rattle.rules.specs.declared.ScriptCall.{ScriptCall}
-use Rattle.rules.specs.declared.ScriptCall.the-variants.{Query, Insert, Update, Delete, Begin, Step, End, Recover}
+use Rattle.rules.specs.declared.ScriptCall.the-variants.{Query, Insert, Update, Delete, Begin, Shrink, Back, Step, End, Recover}
 use Rattle.lines.specs.Lines.{bytes, nameText, eventText, lineOf}
 use Rattle.lines.specs.Texts.{decimalText, lineText, Good}
 use Rattle.lines.specs.declared.Name.{Name}
@@ -35,6 +35,8 @@ event-few (Insert key r) = omega arith
 event-few (Update key r) = omega arith
 event-few (Delete key) = omega arith
 event-few Begin = omega arith
+event-few Shrink = omega arith
+event-few Back = omega arith
 event-few Step = omega arith
 event-few End = omega arith
 event-few Recover = omega arith

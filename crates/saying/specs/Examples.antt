@@ -8,7 +8,7 @@ use mathlib.Core.Path.{_≡_, refl}
 use mathlib.Core.List.{List, [], _∷_, map, flatMap}
 use Rattle.rules.specs.declared.Change.the-variants.{Listed, Refused}
 use Rattle.rules.specs.declared.Query.the-variants.{Known, Unknown}
-use Rattle.rules.specs.declared.Refusal.the-variants.{KeyAbsent, NotGrowing, BadCreation}
+use Rattle.rules.specs.declared.Refusal.the-variants.{KeyAbsent, NotResizing, BadCreation}
 use Rattle.rules.specs.declared.Verdict.the-variants.{Done, Denied}
 use Rattle.replaying.specs.declared.Answer.{Answer}
 use Rattle.replaying.specs.declared.Answer.the-variants.{Nothing, Created, Changed, Kept, Found, Events, Bad}
@@ -21,7 +21,7 @@ table =
     (Nothing, "")
     ∷ (Created Done, "made=0\n")
     ∷ (Changed (Listed 4), "answer=0\nstores=4\n")
-    ∷ (Changed (Refused NotGrowing), "answer=8\nstores=0\n")
+    ∷ (Changed (Refused NotResizing), "answer=8\nstores=0\n")
     ∷ (Found (Known (record { function = 10; place = 20 }) (record { word = 36; level = 0 }) 1), "answer=0\nfn=10\nat=20\nprobes=1\nword=36\nlevel=0\n")
     ∷ (Found (Unknown KeyAbsent 2), "answer=5\nfn=0\nat=0\nprobes=2\nword=0\nlevel=0\n")
     ∷ (Events 3, "events=3\n")

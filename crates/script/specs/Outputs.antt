@@ -7,14 +7,15 @@ use mathlib.Core.Path.{_≡_, refl}
 use mathlib.Core.List.{List, [], _∷_, _++_, map, flatMap}
 use lib.ListN.{length, replicate}
 use Rattle.words.specs.Product.{productOf, hashOf}
-use Rattle.rules.specs.Words.{wordsFor, stateOf, stateWord, atRest, headerOf, flagOf, stateGood, odd, capacityTests, headerTests, topOf, bottomOf}
+use Rattle.rules.specs.Words.{wordsFor, stateOf, stateWord, atRest, shrinking as phase2, headerOf, flagOf, stateGood, odd, capacityTests, headerTests, topOf, bottomOf}
 use Rattle.rules.specs.Words.{interimOf, levelsInUse, slotAt, slotsIn, placeAt, placeOf, tokenWord, keyWord, spotOf, functionWord, placeWord, keyIn, recordIn}
 use Rattle.rules.specs.Words.{tokenOf, tokenNumber, isTaken, show, taken, bucketsOf, allBuckets, exponentInUse, unusedBuckets, slotsOf, slotsInUse}
 use Rattle.rules.specs.Words.{meant, meantOf, hide, takenOf}
 use Rattle.rules.specs.Places.{hashesOf, firstPlace, secondPlace, samePlace, placesIn, probes, placesOf, holds, hitIn, lookup}
 use Rattle.rules.specs.Placing.{takenIn, freeSlot, fewer, emptier, roomIn, placing}
-use Rattle.rules.specs.Stores.{putStores, placingStores, written, clearStores, updateStores, beginStores, endStores, stepStores}
+use Rattle.rules.specs.Stores.{putStores, placingStores, written, clearStores, updateStores, turnedOf, stateStores, stepStores}
 use Rattle.rules.specs.Calls.{headerGood, listLong, flagClear, changingTests, queryTests, endTests, endOf, outcome, recoverTests, beginTests, beginOf}
+use Rattle.rules.specs.Calls.{shrinkTests, shrinkOf, backTests, backOf}
 use Rattle.rules.specs.Calls.{interimSlots, interimItems, interimBucket, itemsFrom, hasPlace, stepItem, stepTests, stepOf}
 use Rattle.rules.specs.Results.{changeResult, queryResult, createTests, created, createResult, makeTests, makeResult}
 use Rattle.rules.specs.Soundness.{takenSlots, tokensTidy, unusedEmpty, inPlace, orderlyTests, sameKey, twins, sameRecord, target, finding}
@@ -43,6 +44,10 @@ smallest events = bytes "cap=1\ntop=1\nmul1=1\nmul2=1\n" ++ bytes events
 -- and of one that can grow
 abbrev pub growing : String → List ℕ
 growing events = bytes "cap=2\ntop=1\nmul1=1\nmul2=1\n" ++ bytes events
+
+-- and of one that can shrink
+abbrev pub shrinking : String → List ℕ
+shrinking events = bytes "cap=2\ntop=2\nmul1=1\nmul2=1\n" ++ bytes events
 
 abbrev pub cases : List (List ℕ × List ℕ)
 cases =
@@ -131,16 +136,29 @@ cases =
           ++ bytes "fn=5\nat=6\nprobes=2\nword=10\nlevel=1\nanswer=0\nstores=1\nanswer=0\nfn=5\nat=6\nprobes=3\nword=10\nlevel=2\nanswer=0\n"
           ++ bytes "fn=4\nat=4\nprobes=2\nword=32\nlevel=1\nevents=9\n",
     )
+    -- request f): "Scripts gain `op=shrink` and `op=back`.": in either phase and at rest, and under cut lines
+    ∷ (
+      shrinking "op=insert\nkey=1\nfn=2\nat=3\nop=shrink\nop=query\nkey=1\nop=shrink\nop=back\nop=query\nkey=1\n"
+          ++ bytes "op=back\nop=step\nop=end\nop=shrink\nop=back\n",
+      bytes "made=0\nanswer=0\nstores=4\nanswer=0\nstores=1\nanswer=0\nfn=2\nat=3\nprobes=3\nword=49\nlevel=2\nanswer=7\nstores=0\n"
+          ++ bytes "answer=0\nstores=1\nanswer=0\nfn=2\nat=3\nprobes=1\nword=49\nlevel=0\nanswer=0\nstores=1\nanswer=0\nstores=5\n"
+          ++ bytes "answer=0\nstores=1\nanswer=17\nstores=0\nanswer=8\nstores=0\nevents=11\n",
+    )
+    ∷ (
+      shrinking "op=cut\nafter=0\nop=shrink\nop=cut\nafter=1\nop=shrink\nop=cut\nafter=0\nop=back\nop=cut\nafter=5\nop=back\nop=end\n",
+      bytes "made=0\nanswer=0\nstores=1\nkept=0\nanswer=0\nstores=1\nkept=1\nanswer=0\nstores=1\nkept=0\nanswer=0\nstores=1\n"
+          ++ bytes "kept=1\nanswer=0\nstores=1\nevents=5\n",
+    )
     ∷ []
 
 -- the definitions compute what document 01 writes, on used words
 pub cases-computed : map (λ (x : List ℕ × List ℕ). outputTo (replicate 100 7) (x .0)) cases ≡ map (λ (x : List ℕ × List ℕ). x .1) cases
-unfolding productOf hashOf flatMap wordsFor stateOf stateWord atRest headerOf flagOf stateGood odd capacityTests headerTests topOf bottomOf interimOf
+unfolding productOf hashOf flatMap wordsFor stateOf stateWord atRest phase2 headerOf flagOf stateGood odd capacityTests headerTests topOf bottomOf interimOf
     levelsInUse bucketsOf allBuckets exponentInUse unusedBuckets slotAt slotsIn placeOf placeAt slotsOf slotsInUse tokenWord keyWord spotOf functionWord
     placeWord keyIn recordIn tokenOf tokenNumber isTaken show hide takenOf meant taken meantOf hashesOf firstPlace secondPlace samePlace placesIn
-    probes holds hitIn lookup takenIn freeSlot fewer emptier roomIn placing putStores clearStores placingStores updateStores beginStores endStores
+    probes holds hitIn lookup takenIn freeSlot fewer emptier roomIn placing putStores clearStores placingStores updateStores turnedOf stateStores
     stepStores written takenSlots tokensTidy unusedEmpty placesOf inPlace orderlyTests sameKey twins sameRecord target finding headerGood listLong
-    flagClear changingTests queryTests recoverTests beginTests beginOf interimSlots interimItems interimBucket itemsFrom hasPlace stepItem stepTests
+    flagClear changingTests queryTests recoverTests beginTests beginOf shrinkTests shrinkOf backTests backOf interimSlots interimItems interimBucket itemsFrom hasPlace stepItem stepTests
     stepOf endTests endOf outcome changeResult queryResult createTests created createResult makeTests makeResult decimalOf lineOf digitsIn decimalText
     readingOf endingOf answerTo tableAfter turnOf finishOf answersTo textOf outputTo
 cases-computed = refl

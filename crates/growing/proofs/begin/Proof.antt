@@ -1,8 +1,7 @@
 -- `growing::begin` meets its contract.
 -- Assumes nothing.
-use native.Mathlib.Omega.{arith}
 use Rattle.rules.specs.Calls.{begin}
-use Rattle.rules.proofs.Words.Headers.{sizes}
+use Rattle.rules.proofs.Words.Headers.{header-state}
 use Rattle.listing.proofs.Outcomes.{changed-shut, changed-open, change-long}
 use borrow.Author.Needs.{needs}
 use Rattle.growing.proofs.begin.Statement.{statement}
@@ -22,8 +21,7 @@ begin-at-requires c κs =
     let g = c .before .before in
     let q = g .before .before .change-gate .ensures in
     let y = rw (g .gate2 .given .1) at (q .1) in
-    let z = sizes _ _ (y .1) in
-    (change-long _ _ (q .0) (g .gate2 .given .1), omega (arith, z .most, z .cap))
+    (change-long _ _ (q .0) (g .gate2 .given .1), header-state _ _ (y .1))
 
 returns : tie.Need-returns
 returns c = changed-shut begin _ _ (c .before .before .before .change-gate .ensures .0) (c .before .gate .given .1)

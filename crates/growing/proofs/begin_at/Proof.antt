@@ -5,8 +5,9 @@ use mathlib.Core.Bool.{true}
 use native.Mathlib.Omega.{arith}
 use borrow.Author.Tests.{not-true, not-false}
 use Rattle.rules.specs.Words.{atRest}
-use Rattle.listing.proofs.Outcomes.{did-list, did-refuse, did-as}
-use Rattle.growing.proofs.Growth.{begin-growing, begin-full, begin-listed}
+use Rattle.rules.proofs.Words.States.{state-fits}
+use Rattle.listing.proofs.Outcomes.{did-refuse, did-as}
+use Rattle.growing.proofs.Growth.{begin-resizing, begin-full, begin-listed}
 use borrow.Author.Needs.{needs}
 use Rattle.growing.proofs.begin_at.Statement.{statement}
 use Rattle.growing.proofs.begin_at.Tie as tie
@@ -15,7 +16,7 @@ at-rest-requires : tie.Need-at-rest-requires
 at-rest-requires c κs = search needs
 
 returns : tie.Need-returns
-returns c = did-as (begin-growing _ (sym (c .before .at-rest .ensures) ∙ not-true _ (c .if1 .taken))) (did-refuse _ _)
+returns c = did-as (begin-resizing _ (sym (c .before .at-rest .ensures) ∙ not-true _ (c .if1 .taken))) (did-refuse _ _)
 
 -- past the first test
 resting : (c : tie.Else1) → atRest (c .before .before .before .before .args .h .state) ≡ true
@@ -25,28 +26,23 @@ returns-2 : tie.Need-returns-2
 returns-2 c = did-as (begin-full _ (resting (c .before .before .before)) (c .if2 .taken)) (did-refuse _ _)
 
 begun-requires : tie.Need-begun-requires
-begun-requires c κs = search needs
+begun-requires c κs = let first = c .before .before .before .before in state-fits 20 _ (first .before .before .before .before .pre .1) .1
 
-word-requires : tie.Need-word-requires
-word-requires c κs =
-    let second = c .before .before in
-    let first = second .before .before .before in
-    rw (c .begun .ensures) (omega (arith, first .before .before .before .before .pre .1), omega arith)
-
-store-requires : tie.Need-store-requires
-store-requires c κs = search needs
+restate-requires : tie.Need-restate-requires
+restate-requires c κs =
+    let first = c .before .before .before .before .before in
+    let start = first .before .before .before .before in
+    rw (c .begun .ensures) (start .pre .0, omega (arith, state-fits 20 _ (start .pre .1)), omega arith)
 
 same-length : tie.Need-same-length
 same-length c = search needs
 
 returns-3 : tie.Need-returns-3
 returns-3 c =
-    let u = c .before .before in
-    let b = u .before .before in
-    let f = b .before .before in
-    let g = f .before .before .before in
-    did-as (begin-listed _ (resting g) (f .if2 .left) (b .begun .ensures) (u .before .word .ensures))
-    (did-list (u .store .ensures) (omega (arith, g .before .before .before .before .pre .0)))
+    let r = c .before .before in
+    let b = r .before in
+    let second = b .before .before in
+    did-as (begin-listed _ (resting (second .before .before .before)) (second .if2 .left) (b .begun .ensures)) (r .restate .ensures)
 
 pub begin-at-spec : {M : Type 1} → statement M
 begin-at-spec =
@@ -56,7 +52,6 @@ begin-at-spec =
     returns
     returns-2
     begun-requires
-    word-requires
-    store-requires
+    restate-requires
     same-length
     returns-3)

@@ -5,7 +5,7 @@ use mathlib.Core.Bool.{false}
 use native.Mathlib.Omega.{arith}
 use Rattle.rules.specs.Words.{atRest}
 use Rattle.rules.proofs.Words.Headers.{sizes}
-use Rattle.listing.proofs.Outcomes.{did-list, did-refuse, did-as}
+use Rattle.listing.proofs.Outcomes.{did-refuse, did-as}
 use Rattle.growing.proofs.Growth.{is-empty, is-there, end-resting, end-taken, end-listed}
 use borrow.Author.Needs.{needs}
 use Rattle.growing.proofs.end_at.Statement.{statement}
@@ -18,11 +18,11 @@ returns : tie.Need-returns
 returns c = did-as (end-resting _ _ (sym (c .before .at-rest .ensures) ∙ c .if1 .taken)) (did-refuse _ _)
 
 -- past the first test
-growing : (c : tie.Else1) → atRest (c .before .before .before .before .before .args .h .state) ≡ false
-growing c = sym (c .before .at-rest .ensures) ∙ c .if1 .left
+resizing : (c : tie.Else1) → atRest (c .before .before .before .before .before .args .h .state) ≡ false
+resizing c = sym (c .before .at-rest .ensures) ∙ c .if1 .left
 
 first-item-requires : tie.Need-first-item-requires
-first-item-requires c κs = (c .before .before .before .before .before .pre .1, growing c)
+first-item-requires c κs = (c .before .before .before .before .before .pre .1, resizing c)
 
 enum-told : tie.Need-enum-told
 enum-told c = search needs
@@ -33,33 +33,28 @@ enum-told-2 c = search needs
 returns-2 : tie.Need-returns-2
 returns-2 c =
     let d = c .before .before in
-    did-as (end-taken _ _ (d .first-item .ensures .0) (growing (d .before)) (is-there _ (c .before .match .keys2) .1)) (did-refuse _ _)
+    did-as (end-taken _ _ (d .first-item .ensures .0) (resizing (d .before)) (is-there _ (c .before .match .keys2) .1)) (did-refuse _ _)
 
 ended-requires : tie.Need-ended-requires
 ended-requires c κs = search needs
 
-word-requires : tie.Need-word-requires
-word-requires c κs =
-    let f = c .before .before .before .before in
-    let first = f .before in
-    let z = sizes _ _ (first .before .before .before .before .before .pre .1) in
-    rw (c .ended .ensures) (omega (arith, z .most, z .cap), omega arith)
-
-store-requires : tie.Need-store-requires
-store-requires c κs = search needs
+restate-requires : tie.Need-restate-requires
+restate-requires c κs =
+    let first = c .before .before .before .before .before in
+    let start = first .before .before .before .before .before in
+    let z = sizes _ _ (start .pre .1) in
+    rw (c .ended .ensures) (start .pre .0, omega (arith, z .most, z .cap), omega arith)
 
 same-length : tie.Need-same-length
 same-length c = search needs
 
 returns-3 : tie.Need-returns-3
 returns-3 c =
-    let u = c .before .before in
-    let b = u .before .before in
+    let r = c .before .before in
+    let b = r .before in
     let m = b .before .before .before in
     let f = m .before in
-    let g = f .before in
-    did-as (end-listed _ _ (f .first-item .ensures .0) (growing g) (is-empty _ (m .match .keys1)) (b .ended .ensures) (u .before .word .ensures))
-    (did-list (u .store .ensures) (omega (arith, g .before .before .before .before .before .pre .0)))
+    did-as (end-listed _ _ (f .first-item .ensures .0) (resizing (f .before)) (is-empty _ (m .match .keys1)) (b .ended .ensures)) (r .restate .ensures)
 
 pub end-at-spec : {M : Type 1} → statement M
 end-at-spec =
@@ -72,7 +67,6 @@ end-at-spec =
     enum-told-2
     returns-2
     ended-requires
-    word-requires
-    store-requires
+    restate-requires
     same-length
     returns-3)

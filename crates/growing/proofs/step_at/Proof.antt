@@ -25,11 +25,11 @@ returns : tie.Need-returns
 returns c = did-step-refuse _ _ _ _ (step-resting _ _ _ (sym (c .before .before .at-rest .ensures) ∙ c .before .if1 .taken)) (c .unplaced .ensures)
 
 -- past the first test
-growing : (c : tie.Else1) → atRest (c .before .before .before .before .before .args .h .state) ≡ false
-growing c = sym (c .before .at-rest .ensures) ∙ c .if1 .left
+resizing : (c : tie.Else1) → atRest (c .before .before .before .before .before .args .h .state) ≡ false
+resizing c = sym (c .before .at-rest .ensures) ∙ c .if1 .left
 
 first-item-requires : tie.Need-first-item-requires
-first-item-requires c κs = (c .before .before .before .before .before .pre .1 .good, growing c)
+first-item-requires c κs = (c .before .before .before .before .before .pre .1 .good, resizing c)
 
 enum-known-item : tie.Need-enum-known-item
 enum-known-item c = search needs
@@ -45,7 +45,7 @@ returns-2 c =
     let m = c .before .before in
     let f = m .before in
     let none = nothing (itemsFrom _ _ _) (sym (f .first-item .ensures .0) ∙ is-empty _ (m .match .keys2)) in
-    did-step-refuse _ _ _ _ (step-empty _ _ _ (growing (f .before)) none)
+    did-step-refuse _ _ _ _ (step-empty _ _ _ (resizing (f .before)) none)
     (c .unplaced2 .ensures)
 
 -- the first item
@@ -59,13 +59,13 @@ bucket-in-level-requires : tie.Need-bucket-in-level-requires
 bucket-in-level-requires c κs =
     let i = c .before .before in
     let f = i .before .before in
-    (header-state _ _ (f .before .before .before .before .before .before .pre .1 .good), growing (f .before), first-in-level _ _ _ _ (first i))
+    (header-state _ _ (f .before .before .before .before .before .before .pre .1 .good), resizing (f .before), first-in-level _ _ _ _ (first i))
 
 step-item-requires : tie.Need-step-item-requires
 step-item-requires c κs =
     let f = c .before .before .before .before .before in
     let s = f .before .before .before .before .before .before in
-    (s .pre .0, s .pre .1, growing (f .before))
+    (s .pre .0, s .pre .1, resizing (f .before))
 
 same-length : tie.Need-same-length
 same-length c = search needs
@@ -74,7 +74,7 @@ returns-3 : tie.Need-returns-3
 returns-3 c =
     let d = c .before .before in
     let i = d .before .before .before .before in
-    did-on _ _ _ (growing (i .before .before .before)) _ (first i) (d .before .bucket-in-level .ensures) (d .step-item .ensures)
+    did-on _ _ _ (resizing (i .before .before .before)) _ (first i) (d .before .bucket-in-level .ensures) (d .step-item .ensures)
 
 pub step-at-spec : {M : Type 1} → statement M
 step-at-spec =

@@ -56,7 +56,13 @@ returns-17 : tie.Need-returns-17
 returns-17 c = row-is 16 _ (c .match .keys17)
 
 returns-18 : tie.Need-returns-18
-returns-18 c = no-row (c .before .args .row) (c .match .rest)
+returns-18 c = row-is 17 _ (c .match .keys18)
+
+returns-19 : tie.Need-returns-19
+returns-19 c = row-is 18 _ (c .match .keys19)
+
+returns-20 : tie.Need-returns-20
+returns-20 c = no-row (c .before .args .row) (c .match .rest)
 
 pub says-spec : {M : Type 1} → statement M
 says-spec =
@@ -79,4 +85,6 @@ says-spec =
     returns-15
     returns-16
     returns-17
-    returns-18)
+    returns-18
+    returns-19
+    returns-20)

@@ -1,14 +1,19 @@
--- The tests that come first: what lists stores has passed them; and tests after tests.
+-- The tests that come first: what lists stores has passed them, that of the header among them; and tests after tests.
 -- Assumes nothing.
 use Prim.Native.Nat.{ℕ}
 use mathlib.Core.Path.{_≡_, refl, ap}
 use mathlib.Core.Bool.{Bool, true, false, cond}
-use mathlib.Core.List.{List, [], _∷_, _++_, List·Memᴰ as In, List·Memᴰ·not-nil, List·Memᴰ·cases-cons}
+use mathlib.Core.List.{List, [], _∷_, _++_, List·Memᴰ as In, List·Memᴰ·head as here, List·Memᴰ·not-nil, List·Memᴰ·cases-cons}
 use mathlib.Core.Logic.{⊎-elim}
 use native.Mathlib.Omega.{arith}
+use lib.ListN.{length}
 use Rattle.rules.specs.Stores.{Store}
-use Rattle.rules.specs.Calls.{checked, Outcome, refused, listed}
+use Rattle.rules.specs.Words.{Table, headerOf, GoodHeader}
+use Rattle.rules.specs.Calls.{headerGood, checked, changingTests, queryTests, recoverTests, Outcome, refused, listed, Call, query, insert, update}
+use Rattle.rules.specs.Calls.{delete, begin, shrink, back, stepFrom, end, recover, testsOf, outcome}
 use Rattle.rules.specs.declared.Refusal.{Refusal}
+use Rattle.rules.specs.declared.Refusal.the-variants.{BadHeader}
+use Rattle.rules.proofs.Words.Headers.{good-header}
 
 module _ (o : Outcome) (xs : List Store) where
   pub checked-listed : (ts : List (Bool × Refusal)) → checked refused ts o ≡ listed xs → o ≡ listed xs
@@ -33,3 +38,21 @@ pub checked-append : {A : Type 0} (refuse : Refusal → A) (ts us : List (Bool �
     → checked refuse (ts ++ us) a ≡ checked refuse ts (checked refuse us a)
 checked-append refuse [] us a = refl
 checked-append refuse (x ∷ ts) us a = ap (λ (b : _). cond (x .0) b (refuse (x .1))) (checked-append refuse ts us a)
+
+-- every call has tested the header
+header-tested : (t : Table) (n : ℕ) (q : Call) → In {A = Bool × Refusal} (headerGood t, BadHeader) (testsOf t n q)
+unfolding changingTests queryTests recoverTests
+header-tested t n (query key) = here refl
+header-tested t n (insert key r) = here refl
+header-tested t n (update key r) = here refl
+header-tested t n (delete key) = here refl
+header-tested t n begin = here refl
+header-tested t n shrink = here refl
+header-tested t n back = here refl
+header-tested t n (stepFrom b) = here refl
+header-tested t n end = here refl
+header-tested t n recover = here refl
+
+pub accepted-header : (t : Table) (n : ℕ) (q : Call) (xs : List Store) → outcome t n q ≡ listed xs → GoodHeader (length t) (headerOf t)
+unfolding outcome headerGood
+accepted-header t n q xs e = good-header (length t) (headerOf t) (checked-passed _ xs (testsOf t n q) e (headerGood t, BadHeader) (header-tested t n q))

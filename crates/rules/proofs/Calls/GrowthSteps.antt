@@ -174,7 +174,7 @@ pub stepAnswers : StepAnswers
 unfolding outcome stepOf stepTests atRest
 stepAnswers t m n given b = (
   λ rest. rw (passes t m n given, eq-eqb (headerOf t .state .phase) 0 rest),
-  λ growing. rw (passes t m n given, ne-eqb (headerOf t .state .phase) 0 growing) (go (empty (itemsFrom t (headerOf t) b)) refl),
+  λ resizing. rw (passes t m n given, ne-eqb (headerOf t .state .phase) 0 resizing) (go (empty (itemsFrom t (headerOf t) b)) refl),
 )
   where
     go : (e : Bool) → empty (itemsFrom t (headerOf t) b) ≡ e

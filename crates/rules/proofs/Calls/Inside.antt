@@ -3,8 +3,8 @@
 -- Assumes nothing.
 use Prim.Native.Nat.{ℕ, _+_, _*_, _≤_, _<_}
 use mathlib.Core.Path.{_≡_, refl}
-use mathlib.Core.Bool.{Bool}
-use mathlib.Core.List.{List, [], _∷_, List·Memᴰ as In, List·Memᴰ·head as here}
+use mathlib.Core.List.{List, [], _∷_, List·Memᴰ as In}
+use mathlib.Core.Logic.{inl, inr}
 use mathlib.Core.Option.{Option, none, some}
 use native.Mathlib.Omega.{arith}
 use lib.ListN.{length}
@@ -13,8 +13,7 @@ use Rattle.rules.specs.Places.{placesOf}
 use Rattle.rules.specs.Placing.{freeSlot, placing}
 use Rattle.rules.specs.Stores.{Store}
 use Rattle.rules.specs.Soundness.{DoubledTable, FlaggedTable, finding}
-use Rattle.rules.specs.Calls.{headerGood, changingTests, queryTests, recoverTests, listed, Call, query, insert, update, delete, begin, stepFrom}
-use Rattle.rules.specs.Calls.{end, recover, testsOf, outcome}
+use Rattle.rules.specs.Calls.{listed, Call, query, insert, update, delete, begin, shrink, back, stepFrom, end, recover, outcome}
 use Rattle.rules.specs.Demands.{bucketStart, slotStart, recordStores, PlacingWritten, UpdateWritten, RecoveryWritten, Written, StoresInside}
 use Rattle.rules.specs.Demands.{TokenStoresLow}
 use Rattle.rules.specs.declared.Header.{Header}
@@ -24,12 +23,10 @@ use Rattle.rules.specs.declared.Placing.{Placing}
 use Rattle.rules.specs.declared.Placing.the-variants.{Free, Move, Nowhere}
 use Rattle.rules.specs.declared.Finding.{Finding}
 use Rattle.rules.specs.declared.Finding.the-variants.{Sound, Doubled, Flagged, Neither}
-use Rattle.rules.specs.declared.Refusal.{Refusal}
-use Rattle.rules.specs.declared.Refusal.the-variants.{BadHeader}
 use Rattle.rules.proofs.Words.Addresses.{Of, off-token}
 use Rattle.rules.proofs.Words.Made.{Each, each-in, each-append}
-use Rattle.rules.proofs.Calls.Checked.{checked-passed}
-use Rattle.rules.proofs.Words.Headers.{good-header, header-fits}
+use Rattle.rules.proofs.Calls.Checked.{accepted-header}
+use Rattle.rules.proofs.Words.Headers.{header-fits}
 use Rattle.rules.proofs.Words.Tokens.{Stored, show-bit, hide-bit}
 use Rattle.rules.proofs.Words.FreeSlots.{free-slot}
 use Rattle.rules.proofs.Places.PlacesInUse.{among-used, place-of-slot, slot-of-place, slot-within}
@@ -145,27 +142,14 @@ module _ (t : Table) (good : GoodHeader (length t) (headerOf t)) where
   written-each n (update key r) xs o (x, s, e) = update-each x (holder-taken t key x s .0 .used) key r xs (freeSlot t (headerOf t) (placeOf x)) refl e
   written-each n (delete key) xs o (x, s, e) = rw e (clear-each (length t) x (within x (holder-taken t key x s .0 .used)) (headerOf t) (tokenOf t (x .bucket)))
   written-each n begin xs o e = rw e (to-header 4 _ (omega arith), tt)
+  written-each n shrink xs o e = rw e (to-header 4 _ (omega arith), tt)
+  written-each n back xs o (inl e) = rw (e .1) (to-header 4 _ (omega arith), tt)
+  written-each n back xs o (inr e) = rw (e .1) (to-header 4 _ (omega arith), tt)
   written-each n (stepFrom b) xs o (x, s, (ys, w, e)) =
       let cleared = clear-each (length t) x (within x (s .item .item .item .used)) (headerOf t) (tokenOf t (x .bucket)) in
       rw e (each-append (Fits (length t)) ys _ (placing-each (keyIn t x) (recordIn t x) ys (placing t (headerOf t) (keyIn t x)) refl w) cleared)
   written-each n end xs o e = rw e (to-header 4 _ (omega arith), tt)
   written-each n recover xs o e = recovery-each xs (finding t) refl e
-
--- every call has tested the header
-header-tested : (t : Table) (n : ℕ) (q : Call) → In {A = Bool × Refusal} (headerGood t, BadHeader) (testsOf t n q)
-unfolding changingTests queryTests recoverTests
-header-tested t n (query key) = here refl
-header-tested t n (insert key r) = here refl
-header-tested t n (update key r) = here refl
-header-tested t n (delete key) = here refl
-header-tested t n begin = here refl
-header-tested t n (stepFrom b) = here refl
-header-tested t n end = here refl
-header-tested t n recover = here refl
-
-pub accepted-header : (t : Table) (n : ℕ) (q : Call) (xs : List Store) → outcome t n q ≡ listed xs → GoodHeader (length t) (headerOf t)
-unfolding outcome headerGood
-accepted-header t n q xs e = good-header (length t) (headerOf t) (checked-passed _ xs (testsOf t n q) e (headerGood t, BadHeader) (header-tested t n q))
 
 listed-fits : (t : Table) (n : ℕ) (q : Call) (xs : List Store) → outcome t n q ≡ listed xs → (x : Store) → In x xs → Fits (length t) x
 listed-fits t n q xs e = each-in (Fits (length t)) xs (written-each t (accepted-header t n q xs e) n q xs e (storesAsWritten t n q xs e))

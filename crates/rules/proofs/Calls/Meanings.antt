@@ -26,9 +26,9 @@ use Rattle.rules.specs.declared.Placing.the-variants.{Free, Move, Nowher
 use Rattle.rules.specs.declared.Finding.{Finding}
 use Rattle.rules.specs.declared.Finding.the-variants.{Sound, Doubled, Flagged, Neither}
 use Rattle.rules.specs.declared.Refusal.{Refusal}
-use Rattle.rules.specs.declared.Refusal.the-variants.{BadHeader, ShortList, FlagSet, KeyPresent, KeyAbsent, NoPlace, AlreadyGrowing, NotGrowing}
+use Rattle.rules.specs.declared.Refusal.the-variants.{BadHeader, ShortList, FlagSet, KeyPresent, KeyAbsent, NoPlace, AlreadyResizing, NotResizing}
 use Rattle.rules.specs.declared.Refusal.the-variants.{AtCapacity, InterimTaken, InterimEmpty, NoKind, BadCreation, BadMaking}
-use Rattle.rules.specs.declared.Refusal.the-variants.{ShortRecords, BadPosition}
+use Rattle.rules.specs.declared.Refusal.the-variants.{ShortRecords, BadPosition, TooSmall}
 use Rattle.rules.specs.declared.Change.{Change}
 use Rattle.rules.specs.declared.Change.the-variants.{Listed, Refused}
 use Rattle.rules.specs.declared.Stepped.{Stepped}
@@ -50,10 +50,10 @@ told f back h a b e = sym (h a) ∙ ap back e ∙ h b
 -- all of them, in the order of the table
 abbrev pub refusals : List Refusal
 refusals =
-    BadHeader ∷ ShortList ∷ FlagSet ∷ KeyPresent ∷ KeyAbsent ∷ NoPlace ∷ AlreadyGrowing ∷ NotGrowing ∷ AtCapacity ∷ InterimTaken
-    ∷ InterimEmpty ∷ NoKind ∷ BadCreation ∷ BadMaking ∷ ShortRecords ∷ BadPosition ∷ []
+    BadHeader ∷ ShortList ∷ FlagSet ∷ KeyPresent ∷ KeyAbsent ∷ NoPlace ∷ AlreadyResizing ∷ NotResizing ∷ AtCapacity ∷ InterimTaken
+    ∷ InterimEmpty ∷ NoKind ∷ BadCreation ∷ BadMaking ∷ ShortRecords ∷ BadPosition ∷ TooSmall ∷ []
 
-pub numbers : map numberOf refusals ≡ 1 ∷ 2 ∷ 3 ∷ 4 ∷ 5 ∷ 6 ∷ 7 ∷ 8 ∷ 9 ∷ 10 ∷ 11 ∷ 12 ∷ 13 ∷ 14 ∷ 15 ∷ 16 ∷ []
+pub numbers : map numberOf refusals ≡ 1 ∷ 2 ∷ 3 ∷ 4 ∷ 5 ∷ 6 ∷ 7 ∷ 8 ∷ 9 ∷ 10 ∷ 11 ∷ 12 ∷ 13 ∷ 14 ∷ 15 ∷ 16 ∷ 17 ∷ []
 numbers = refl
 
 readRefusal : ℕ → Refusal
@@ -67,8 +67,8 @@ refusal-back FlagSet = refl
 refusal-back KeyPresent = refl
 refusal-back KeyAbsent = refl
 refusal-back NoPlace = refl
-refusal-back AlreadyGrowing = refl
-refusal-back NotGrowing = refl
+refusal-back AlreadyResizing = refl
+refusal-back NotResizing = refl
 refusal-back AtCapacity = refl
 refusal-back InterimTaken = refl
 refusal-back InterimEmpty = refl
@@ -77,6 +77,7 @@ refusal-back BadCreation = refl
 refusal-back BadMaking = refl
 refusal-back ShortRecords = refl
 refusal-back BadPosition = refl
+refusal-back TooSmall = refl
 
 pub refusal-one : (r s : Refusal) → numberOf r ≡ numberOf s → r ≡ s
 refusal-one r s e = told numberOf readRefusal refusal-back r s e
@@ -89,8 +90,8 @@ refusal-number FlagSet = refl
 refusal-number KeyPresent = refl
 refusal-number KeyAbsent = refl
 refusal-number NoPlace = refl
-refusal-number AlreadyGrowing = refl
-refusal-number NotGrowing = refl
+refusal-number AlreadyResizing = refl
+refusal-number NotResizing = refl
 refusal-number AtCapacity = refl
 refusal-number InterimTaken = refl
 refusal-number InterimEmpty = refl
@@ -99,6 +100,7 @@ refusal-number BadCreation = refl
 refusal-number BadMaking = refl
 refusal-number ShortRecords = refl
 refusal-number BadPosition = refl
+refusal-number TooSmall = refl
 
 pub number-not-zero : (r : Refusal) → numberOf r ≡ 0 → ⊥
 number-not-zero r e = never (eq-eqb _ _ e) (refusal-number r)

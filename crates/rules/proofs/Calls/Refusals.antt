@@ -2,26 +2,28 @@
 -- where none does. On every table and with a list of any length.
 -- Assumes nothing.
 use Prim.Native.Nat.{ℕ, _<_}
-use mathlib.Core.Path.{_≡_, refl}
+use mathlib.Core.Path.{_≡_, refl, sym, ap, _∙_}
 use mathlib.Core.Bool.{Bool, true, false, not, cond}
 use mathlib.Core.List.{List, [], _∷_, _++_}
-use mathlib.Core.Logic.{inl, inr, Iff·trans}
+use mathlib.Core.Logic.{_↔_, inl, inr, Iff·trans}
 use mathlib.Core.Option.{Option, none, some}
+use native.Mathlib.Decide.{ℕ-discrete}
 use native.Mathlib.Omega.{arith}
 use lib.ListN.{length}
 use borrow.Author.Tests.{leb-true, leb-false}
-use Rattle.rules.specs.Choice.{empty}
-use Rattle.rules.specs.Words.{Table, headerOf, flagOf, atRest, word}
+use Rattle.rules.specs.Choice.{all, empty}
+use Rattle.rules.specs.Words.{Table, headerOf, headerTests, flagOf, atRest, word}
 use Rattle.rules.specs.Places.{lookup}
 use Rattle.rules.specs.Placing.{placing}
-use Rattle.rules.specs.Stores.{Store, placingStores, beginStores, endStores}
+use Rattle.rules.specs.Stores.{Store, placingStores, begunOf, shrunkOf, turnedOf, endedOf, stateStores}
 use Rattle.rules.specs.Soundness.{finding}
+use Rattle.rules.specs.Answers.{numberOf}
 use Rattle.rules.specs.Calls.{headerGood, listLong, flagClear, checked, changingTests, queryTests, recoverTests, Outcome, refused, listed}
-use Rattle.rules.specs.Calls.{placedBy, insertIn, updateIn, deleteIn, queryIn, beginTests, beginOf, itemsFrom, stepItem, stepIn, stepTests, stepOf}
-use Rattle.rules.specs.Calls.{endTests, endOf, recoverOf, Call, query, insert, update, delete, begin, stepFrom, end, recover, outcome}
+use Rattle.rules.specs.Calls.{placedBy, insertIn, updateIn, deleteIn, queryIn, beginTests, beginOf, shrinkTests, shrinkOf, backTests, backOf, itemsFrom, stepItem, stepIn, stepTests, stepOf}
+use Rattle.rules.specs.Calls.{endTests, endOf, recoverOf, Call, query, insert, update, delete, begin, shrink, back, stepFrom, end, recover, outcome}
 use Rattle.rules.specs.NoPlace.{NoPlaceFor}
-use Rattle.rules.specs.Demands.{AtRest, Growing, Held, InterimItem, None, InterimFrom, NoneHasPlace, OfNoKind, changingRefusals, refusals, FirstRefuses}
-use Rattle.rules.specs.Demands.{RefusalsInOrder, HeaderWords, badHeader, flagNotZero}
+use Rattle.rules.specs.Demands.{AtRest, Resizing, Held, InterimItem, None, InterimFrom, NoneHasPlace, OfNoKind, changingRefusals, refusals, FirstRefuses}
+use Rattle.rules.specs.Demands.{RefusalsInOrder, HeaderWords, MayChange, badHeader, flagNotZero}
 use Rattle.rules.specs.declared.Slot.{Slot}
 use Rattle.rules.specs.declared.Record.{Record}
 use Rattle.rules.specs.declared.Lookup.{Lookup}
@@ -31,8 +33,8 @@ use Rattle.rules.specs.declared.Placing.the-variants.{Free, Move, Nowher
 use Rattle.rules.specs.declared.Finding.{Finding}
 use Rattle.rules.specs.declared.Finding.the-variants.{Sound, Doubled, Flagged, Neither}
 use Rattle.rules.specs.declared.Refusal.{Refusal}
-use Rattle.rules.specs.declared.Refusal.the-variants.{BadHeader, ShortList, FlagSet, KeyPresent, KeyAbsent, NoPlace, AlreadyGrowing, NotGrowing}
-use Rattle.rules.specs.declared.Refusal.the-variants.{AtCapacity, InterimTaken, InterimEmpty, NoKind}
+use Rattle.rules.specs.declared.Refusal.the-variants.{BadHeader, ShortList, FlagSet, KeyPresent, KeyAbsent, NoPlace, AlreadyResizing, NotResizing}
+use Rattle.rules.specs.declared.Refusal.the-variants.{AtCapacity, InterimTaken, InterimEmpty, NoKind, TooSmall}
 use Rattle.rules.proofs.Basics.Lists.{never}
 use Rattle.rules.proofs.Basics.Tests.{Tells, tells-eq}
 use Rattle.rules.proofs.Places.Placings.{some-place, no-place}
@@ -143,9 +145,18 @@ module _ (t : Table) where
   unfolding atRest
   rest-tells = tells-eq _ _
 
-  begin-refuses : ByFirst ((Growing t, AlreadyGrowing) ∷ (headerOf t .state .k ≡ headerOf t .c, AtCapacity) ∷ []) (beginOf (headerOf t))
+  begin-refuses : ByFirst ((Resizing t, AlreadyResizing) ∷ (headerOf t .state .k ≡ headerOf t .c, AtCapacity) ∷ []) (beginOf (headerOf t))
   unfolding beginOf beginTests
-  begin-refuses = unless _ AlreadyGrowing _ _ (AtRest t) rest-tells (when _ AtCapacity _ _ _ (tells-eq _ _) (accepted (beginStores (headerOf t .state))))
+  begin-refuses = unless _ AlreadyResizing _ _ (AtRest t) rest-tells (when _ AtCapacity _ _ _ (tells-eq _ _) (accepted (stateStores (begunOf (headerOf t .state)))))
+
+  shrink-refuses : ByFirst ((Resizing t, AlreadyResizing) ∷ (headerOf t .state .k < 2, TooSmall) ∷ []) (shrinkOf (headerOf t))
+  unfolding shrinkOf shrinkTests
+  shrink-refuses = unless _ AlreadyResizing _ _ (AtRest t) rest-tells
+      (by-test _ TooSmall _ _ (headerOf t .state .k < 2) (λ e l. omega (arith, leb-true 2 (headerOf t .state .k) e)) (leb-false 2 (headerOf t .state .k)) (accepted (stateStores (shrunkOf (headerOf t .state)))))
+
+  back-refuses : ByFirst ((AtRest t, NotResizing) ∷ []) (backOf (headerOf t))
+  unfolding backOf backTests
+  back-refuses = when _ NotResizing _ _ (AtRest t) rest-tells (accepted (stateStores (turnedOf (headerOf t .state))))
 
   -- "interim items remain and none has one"
   item-refuses : (b : ℕ) (x : Slot) → InterimFrom t b x
@@ -170,15 +181,15 @@ module _ (t : Table) where
       go false e = let x = from-left t b e in inr (λ n. n (x .0) (x .1), item-refuses b (x .0) (x .1))
 
   step-refuses : (b : ℕ) → ByFirst
-      ((AtRest t, NotGrowing) ∷ (None (InterimFrom t b), InterimEmpty) ∷ (NoneHasPlace t (InterimFrom t b), NoPlace) ∷ [])
+      ((AtRest t, NotResizing) ∷ (None (InterimFrom t b), InterimEmpty) ∷ (NoneHasPlace t (InterimFrom t b), NoPlace) ∷ [])
       (stepOf t (headerOf t) b)
   unfolding stepOf stepTests
-  step-refuses b = when _ NotGrowing _ _ (AtRest t) rest-tells (interim-refuses b)
+  step-refuses b = when _ NotResizing _ _ (AtRest t) rest-tells (interim-refuses b)
 
-  end-refuses : ByFirst ((AtRest t, NotGrowing) ∷ (((x : Slot) × InterimItem t x), InterimTaken) ∷ []) (endOf t (headerOf t))
+  end-refuses : ByFirst ((AtRest t, NotResizing) ∷ (((x : Slot) × InterimItem t x), InterimTaken) ∷ []) (endOf t (headerOf t))
   unfolding endOf endTests
-  end-refuses = when _ NotGrowing _ _ (AtRest t) rest-tells
-      (by-test _ InterimTaken _ _ _ (λ e u. interim-empty t .0 e (u .0) (u .1)) (interim-left t) (accepted (endStores (headerOf t .state))))
+  end-refuses = when _ NotResizing _ _ (AtRest t) rest-tells
+      (by-test _ InterimTaken _ _ _ (λ e u. interim-empty t .0 e (u .0) (u .1)) (interim-left t) (accepted (stateStores (endedOf (headerOf t .state)))))
 
   recover-refuses : ByFirst ((OfNoKind t, NoKind) ∷ []) (recoverOf t (headerOf t) (finding t))
   unfolding ByFirst
@@ -197,6 +208,8 @@ by-first t n (insert key r) = changing-or t n _ _ (insert-refuses t key r)
 by-first t n (update key r) = changing-or t n _ _ (absent-refuses t key (λ o. updateIn t (headerOf t) o key r) (λ x m. (_, refl)) (λ m. refl))
 by-first t n (delete key) = changing-or t n _ _ (absent-refuses t key (deleteIn t (headerOf t)) (λ x m. (_, refl)) (λ m. refl))
 by-first t n begin = changing-or t n _ _ (begin-refuses t)
+by-first t n shrink = changing-or t n _ _ (shrink-refuses t)
+by-first t n back = changing-or t n _ _ (back-refuses t)
 by-first t n (stepFrom b) = changing-or t n _ _ (step-refuses t b)
 by-first t n end = changing-or t n _ _ (end-refuses t)
 by-first t n recover = good-header-or t _ _ (long-list-or t n _ _ (recover-refuses t))
@@ -204,3 +217,70 @@ by-first t n recover = good-header-or t _ _ (long-list-or t n _ _ (recover-refus
 pub refusalsInOrder : RefusalsInOrder
 unfolding ByFirst
 refusalsInOrder t n q = by-first t n q
+
+-- ---- behind 1, 2 and 3
+
+pub same-number : {r s : Refusal} → refused r ≡ refused s → numberOf r ≡ numberOf s
+same-number {r} {s} e = let k : r ≡ s = cc in ap numberOf k
+
+module _ (t : Table) (n : ℕ) where
+  header-stands : ((HeaderWords t → ⊥) → ⊥) → HeaderWords t
+  header-stands f = go (all (headerTests (length t) (headerOf t))) refl
+    where
+      tells : Tells (all (headerTests (length t) (headerOf t))) (HeaderWords t)
+      tells = Iff·trans (header-tells (length t) (headerOf t)) (header-words t)
+
+      go : (b : Bool) → all (headerTests (length t) (headerOf t)) ≡ b → HeaderWords t
+      go true e = tells .0 e
+      go false e = absurd (f (λ w. never (tells .1 w) e))
+
+  flag-clear : ((word t 5 ≡ 0 → ⊥) → ⊥) → word t 5 ≡ 0
+  flag-clear f = go (ℕ-discrete (word t 5) 0)
+    where
+      go : Dec (word t 5 ≡ 0) → word t 5 ≡ 0
+      go (yes e) = e
+      go (no d) = absurd (f d)
+
+  module _ (fs : List (Type 0 × Refusal)) (o : Outcome) where
+    -- where these are not given, the others decide
+    pub past-three : MayChange t n → FirstRefuses (changingRefusals t n ++ fs) o → FirstRefuses fs o
+    past-three may (inl (bad, e)) = absurd (bad (may .header))
+    past-three may (inr (h, inl (short, e))) = absurd (omega (arith, may .list))
+    past-three may (inr (h, inr (l, inl (set, e)))) = absurd (set (may .flag))
+    past-three may (inr (h, inr (l, inr (f, k)))) = k
+
+    -- and what is refused by none of these comes after them
+    pub behind-three : ((r : Refusal) → o ≡ refused r → 3 < numberOf r) → FirstRefuses (changingRefusals t n ++ fs) o → MayChange t n × FirstRefuses fs o
+    behind-three late (inl (bad, q)) = absurd (omega (arith, late _ q))
+    behind-three late (inr (h, inl (short, q))) = absurd (omega (arith, late _ q))
+    behind-three late (inr (h, inr (l, inl (set, q)))) = absurd (omega (arith, late _ q))
+    behind-three late (inr (h, inr (l, inr (f, k)))) = (record { header = header-stands h; list = omega (arith, l); flag = flag-clear f }, k)
+
+-- none of these refusals has the number of r
+abbrev Others : Refusal → List (Type 0 × Refusal) → Type 0
+Others r [] = Unit {0}
+Others r (x ∷ xs) = (numberOf (x .1) ≡ numberOf r → ⊥) × Others r xs
+
+others-not : (r : Refusal) (fs : List (Type 0 × Refusal)) (o : Outcome) → Others r fs → FirstRefuses fs o → o ≡ refused r → ⊥
+others-not r [] o d (stores, q) e = absurd (let z : _≡_ {A = ℕ} 0 1 = cc in omega arith)
+others-not r (x ∷ xs) o d (inl (f, q)) e = d .0 (same-number (sym q ∙ e))
+others-not r (x ∷ xs) o d (inr (f, k)) e = others-not r xs o (d .1) k e
+
+-- the first of the others is given exactly where its reason holds
+pub first-exactly : (t : Table) (n : ℕ) (F : Type 0) (r : Refusal) (fs : List (Type 0 × Refusal)) (o : Outcome) → 3 < numberOf r → Others r fs
+    → FirstRefuses (changingRefusals t n ++ ((F, r) ∷ fs)) o → (o ≡ refused r) ↔ (MayChange t n × F)
+first-exactly t n F r fs o late d k = (to, from)
+  where
+    to : o ≡ refused r → MayChange t n × F
+    to e = go (behind-three t n ((F, r) ∷ fs) o (λ s q. omega (arith, late, same-number (sym q ∙ e))) k)
+      where
+        go : MayChange t n × FirstRefuses ((F, r) ∷ fs) o → MayChange t n × F
+        go (may, inl (f, q)) = (may, f)
+        go (may, inr (f, q)) = absurd (others-not r fs o d q e)
+
+    from : MayChange t n × F → o ≡ refused r
+    from (may, f) = go (past-three t n ((F, r) ∷ fs) o may k)
+      where
+        go : FirstRefuses ((F, r) ∷ fs) o → o ≡ refused r
+        go (inl (g, q)) = q
+        go (inr (g, q)) = absurd (g f)

@@ -8,8 +8,8 @@ use mathlib.Core.List.{[], _∷_, List·Memᴰ as In}
 use mathlib.Core.Logic.{_⊎_, inl, inr}
 use native.Mathlib.Omega.{arith}
 use lib.ListN.{length, getD, drop}
-use borrow.Author.Tests.{eq-eqb, eqb-true}
-use Rattle.rules.specs.Words.{Table, word, headerOf, GoodHeader, flagOf, atRest, topOf, bottomOf, interimOf, InLevel, slotAt, slotsIn, placeOf}
+use borrow.Author.Tests.{eqb-true}
+use Rattle.rules.specs.Words.{Table, word, headerOf, GoodHeader, flagOf, slotAt, slotsIn, placeOf}
 use Rattle.rules.specs.Words.{tokenWord, keyWord, functionWord, placeWord, spotOf, keyIn, recordIn, tokenOf, tokenNumber, isTaken, taken}
 use Rattle.rules.specs.Places.{holds, lookup}
 use Rattle.rules.specs.Stores.{clearStores, updateStores}
@@ -23,7 +23,6 @@ use Rattle.rules.specs.Demands.{FirstHolder, slotStart, AnswersRecord}
 use Rattle.rules.specs.ChainSentences.{keyAt, ChainWritten}
 use Rattle.rules.specs.SpotSentences.{KeyStands, LevelNamed, StoodAt, told, FoundStood, RefusedStoodNowhere, SlotBehind, LookupStood, wordTold}
 use Rattle.rules.specs.SpotSentences.{levelTold, TheOneStood, ChangesGoThere, ChainStood}
-use Rattle.rules.specs.declared.Level.{Level}
 use Rattle.rules.specs.declared.Place.{Place}
 use Rattle.rules.specs.declared.Slot.{Slot}
 use Rattle.rules.specs.declared.Record.{Record}
@@ -36,11 +35,11 @@ use Rattle.rules.specs.declared.Query.the-variants.{Known, Unknown}
 use Rattle.rules.proofs.Basics.Lists.{never}
 use Rattle.rules.proofs.Basics.Tests.{Tells, tells-eq, tells-and}
 use Rattle.rules.proofs.Words.Headers.{good-header}
-use Rattle.rules.proofs.Words.Levels.{OfThree, level-cases}
 use Rattle.rules.proofs.Words.FreeSlots.{slot-place}
 use Rattle.rules.proofs.Words.SlotsInUse.{slots-of-place}
 use Rattle.rules.proofs.Places.PlacesInUse.{slot-within}
 use Rattle.rules.proofs.Places.Lookups.{lookup-stands, holder-taken, placed-in, lookup-sees}
+use Rattle.rules.proofs.Calls.ResizeSentences.{levelsAreThree}
 use Rattle.rules.proofs.Calls.Meanings.{number-not-zero, lookup-told}
 use Rattle.rules.proofs.Calls.Passing.{passes-tests}
 use Rattle.rules.proofs.Calls.Queries.{query-by-lookup}
@@ -65,16 +64,7 @@ slot-inside p s l = slots-of-place (slotAt p s) l
 
 -- a level in use, by its name
 level-named : (t : Table) (x : Slot) → TakenSlot t x → LevelNamed t (x .level) (x .bucket)
-unfolding topOf bottomOf interimOf atRest
-level-named t x u = go (level-cases (headerOf t .state) (u .used .level) (u .used .used))
-  where
-    named : {l : Level} → u .used .level ≡ l → (x .level ≡ l .name) × InLevel l (x .bucket)
-    named e = (u .used .name ∙ ap (λ (z : Level). z .name) e, rw e at (u .used .bucket))
-
-    go : OfThree (headerOf t .state) (u .used .level) → LevelNamed t (x .level) (x .bucket)
-    go (inl e) = inl (named e)
-    go (inr (inl e)) = inr (inl (named e))
-    go (inr (inr e)) = let n = named (e .1) in inr (inr (n .0, λ r. never (eq-eqb _ _ r) (e .0), n .1))
+level-named t x u = levelsAreThree t (x .level) (x .bucket) .0 (u .used .level, u .used .used, sym (u .used .name), u .used .bucket)
 
 -- ---- a query that finds the key
 

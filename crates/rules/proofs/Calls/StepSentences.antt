@@ -1,36 +1,26 @@
 -- Which item a step takes, and when it gives 6 and 11, on every table: from a given bucket on, and then from the first, which is request b).
 -- Assumes nothing.
 use Prim.Native.Nat.{ℕ, _<_}
-use mathlib.Core.Path.{_≡_, refl, sym, ap, _∙_, subst}
-use mathlib.Core.Bool.{Bool, true, false}
+use mathlib.Core.Path.{_≡_, refl, sym, _∙_, subst}
 use mathlib.Core.List.{List, [], _∷_}
-use mathlib.Core.Logic.{_↔_, inl, inr, Iff·trans}
-use native.Mathlib.Decide.{ℕ-discrete}
+use mathlib.Core.Logic.{_↔_, inl, inr}
 use native.Mathlib.Omega.{arith}
 use lib.ListN.{length}
-use Rattle.rules.specs.Choice.{all}
-use Rattle.rules.specs.Words.{Table, headerOf, headerTests, word, interimOf, keyIn}
+use Rattle.rules.specs.Words.{Table, headerOf, keyIn}
 use Rattle.rules.specs.NoPlace.{NoPlaceFor}
 use Rattle.rules.specs.Stores.{Store}
 use Rattle.rules.specs.Answers.{numberOf}
 use Rattle.rules.specs.Calls.{Outcome, refused, listed, stepFrom, step, outcome}
 use Rattle.rules.specs.Results.{stepFromResult}
-use Rattle.rules.specs.Demands.{InterimItem, None, NoInterim, InterimFrom, NoneHasPlace, HeaderWords, refusals, FirstRefuses, StepWritten}
+use Rattle.rules.specs.Demands.{AtRest, InterimItem, None, NoInterim, InterimFrom, NoneHasPlace, MayChange, FirstRefuses, StepWritten}
 use Rattle.rules.specs.StepSentences.{MayStep, StepTakesTheFirst, NoItemBlocks, SixExactly, ElevenExactly, SixIsNotEleven}
 use Rattle.rules.specs.StepFromSentences.{TakesTheFirstFrom, ElevenFromExactly, SixFromExactly}
 use Rattle.rules.specs.declared.Refusal.{Refusal}
 use Rattle.rules.specs.declared.Slot.{Slot}
-use Rattle.rules.specs.declared.Refusal.the-variants.{InterimEmpty, NoPlace}
-use Rattle.rules.proofs.Basics.Lists.{never}
-use Rattle.rules.proofs.Basics.Tests.{Tells}
-use Rattle.rules.proofs.Words.HeaderWords.{header-words}
-use Rattle.rules.proofs.Tables.Sound.{header-tells}
-use Rattle.rules.proofs.Tables.Interims.{bucket-counted, first-one, first-item, from-zero, first-from-zero}
-use Rattle.rules.proofs.Calls.Refusals.{refusalsInOrder}
+use Rattle.rules.specs.declared.Refusal.the-variants.{InterimEmpty, NoPlace, NotResizing}
+use Rattle.rules.proofs.Tables.Interims.{bucket-counted, interim-size, first-one, first-item, from-zero, first-from-zero}
+use Rattle.rules.proofs.Calls.Refusals.{same-number, past-three, behind-three, refusalsInOrder}
 use Rattle.rules.proofs.Calls.StoreLists.{storesAsWritten, never-listed}
-
-same-number : {r s : Refusal} → refused r ≡ refused s → numberOf r ≡ numberOf s
-same-number {r} {s} e = let k : r ≡ s = cc in ap numberOf k
 
 -- items remain, or none does
 remain-none : (t : Table) (Items : Slot → Type 0) → NoneHasPlace t Items → None Items → ⊥
@@ -46,45 +36,25 @@ module _ (t : Table) (n b : ℕ) where
   abbrev Behind : Outcome → Type 0
   Behind = FirstRefuses ((None (InterimFrom t b), InterimEmpty) ∷ (NoneHasPlace t (InterimFrom t b), NoPlace) ∷ [])
 
+  -- and 8 before them
+  abbrev WithEight : List (Type 0 × Refusal)
+  WithEight = (AtRest t, NotResizing) ∷ (None (InterimFrom t b), InterimEmpty) ∷ (NoneHasPlace t (InterimFrom t b), NoPlace) ∷ []
+
   past-tests : MayStep t n → Behind (outcome t n (stepFrom b))
-  past-tests may = go (refusalsInOrder t n (stepFrom b))
+  past-tests may = go (past-three t n WithEight (outcome t n (stepFrom b)) (may .change) (refusalsInOrder t n (stepFrom b)))
     where
-      go : FirstRefuses (refusals t n (stepFrom b)) (outcome t n (stepFrom b)) → Behind (outcome t n (stepFrom b))
-      go (inl (bad, e)) = absurd (bad (may .header))
-      go (inr (h, inl (short, e))) = absurd (omega (arith, may .list))
-      go (inr (h, inr (l, inl (set, e)))) = absurd (set (may .flag))
-      go (inr (h, inr (l, inr (f, inl (rest, e))))) = absurd (may .growing rest)
-      go (inr (h, inr (l, inr (f, inr (g, k))))) = k
-
-  header-stands : ((HeaderWords t → ⊥) → ⊥) → HeaderWords t
-  header-stands f = go (all (headerTests (length t) (headerOf t))) refl
-    where
-      tells : Tells (all (headerTests (length t) (headerOf t))) (HeaderWords t)
-      tells = Iff·trans (header-tells (length t) (headerOf t)) (header-words t)
-
-      go : (b : Bool) → all (headerTests (length t) (headerOf t)) ≡ b → HeaderWords t
-      go true e = tells .0 e
-      go false e = absurd (f (λ w. never (tells .1 w) e))
-
-  flag-clear : ((word t 5 ≡ 0 → ⊥) → ⊥) → word t 5 ≡ 0
-  flag-clear f = go (ℕ-discrete (word t 5) 0)
-    where
-      go : Dec (word t 5 ≡ 0) → word t 5 ≡ 0
-      go (yes e) = e
-      go (no d) = absurd (f d)
+      go : FirstRefuses WithEight (outcome t n (stepFrom b)) → Behind (outcome t n (stepFrom b))
+      go (inl (rest, e)) = absurd (may .resizing rest)
+      go (inr (g, k)) = k
 
   -- what is refused by none of 1, 2, 3 and 8 comes after them
   pub came-behind : (o : Outcome) → ((r : Refusal) → o ≡ refused r → (3 < numberOf r) × (numberOf r ≡ 8 → ⊥)) → outcome t n (stepFrom b) ≡ o
       → MayStep t n × Behind (outcome t n (stepFrom b))
-  came-behind o late e = go (refusalsInOrder t n (stepFrom b))
+  came-behind o late e = go (behind-three t n WithEight (outcome t n (stepFrom b)) (λ r q. late r (sym e ∙ q) .0) (refusalsInOrder t n (stepFrom b)))
     where
-      go : FirstRefuses (refusals t n (stepFrom b)) (outcome t n (stepFrom b)) → MayStep t n × Behind (outcome t n (stepFrom b))
-      go (inl (bad, q)) = absurd (omega (arith, late _ (sym e ∙ q) .0))
-      go (inr (h, inl (short, q))) = absurd (omega (arith, late _ (sym e ∙ q) .0))
-      go (inr (h, inr (l, inl (set, q)))) = absurd (omega (arith, late _ (sym e ∙ q) .0))
-      go (inr (h, inr (l, inr (f, inl (rest, q))))) = absurd (late _ (sym e ∙ q) .1 refl)
-      go (inr (h, inr (l, inr (f, inr (g, k))))) =
-          (record { header = header-stands h; list = omega (arith, l); flag = flag-clear f; growing = g }, k)
+      go : MayChange t n × FirstRefuses WithEight (outcome t n (stepFrom b)) → MayStep t n × Behind (outcome t n (stepFrom b))
+      go (may, inl (rest, q)) = absurd (late _ (sym e ∙ q) .1 refl)
+      go (may, inr (g, k)) = (record { change = may; resizing = g }, k)
 
   refused-behind : (r : Refusal) → 3 < numberOf r → (numberOf r ≡ 8 → ⊥) → outcome t n (stepFrom b) ≡ refused r
       → MayStep t n × Behind (outcome t n (stepFrom b))
@@ -129,7 +99,7 @@ none-blocks t n b x may item place = go (past-tests t n b may)
     go (inr (i, inr (d, k))) = k
 
 pub takesTheFirstFrom : TakesTheFirstFrom
-unfolding stepFromResult interimOf
+unfolding stepFromResult
 takesTheFirstFrom t b l x may first =
     let a = none-blocks t (length l) b x may (first .item) (first .place) in
     let w = storesAsWritten t (length l) (stepFrom b) (a .0) (a .1) in
@@ -139,7 +109,7 @@ takesTheFirstFrom t b l x may first =
       list = a .1;
       written = subst (λ y. StepWritten t (headerOf t) y (a .0)) (first-one t b (w .0) x (w .1) first) (w .2);
       answer = rw (a .1, item);
-      bucket = rw (a .1, item) (bucket-counted t x (first .item .item) .0);
+      bucket = rw (a .1, item, interim-size t) (bucket-counted t x (first .item .item) .0);
     }
 
 -- ---- from the first bucket on: the step

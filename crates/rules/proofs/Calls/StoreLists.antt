@@ -1,20 +1,22 @@
 -- An accepted call lists the stores of document 01's table, word by word and in its order, on every table that it accepts.
 -- Assumes nothing.
-use Prim.Native.Nat.{ℕ}
+use Prim.Native.Nat.{ℕ, _≤_, _<_}
 use mathlib.Core.Path.{_≡_, refl}
-use mathlib.Core.Bool.{true}
-use mathlib.Core.List.{List, [], _++_}
+use mathlib.Core.Bool.{true, not}
+use mathlib.Core.List.{List, [], _++_, List·Memᴰ·head as here}
+use mathlib.Core.Logic.{_⊎_, inl, inr}
 use mathlib.Core.Option.{Option, none, some}
 use native.Mathlib.Omega.{arith}
-use Rattle.rules.specs.Words.{Table, headerOf, loggedOf, stateWord, placeOf, tokenWord, keyWord, functionWord, placeWord, keyIn, recordIn, tokenOf}
+use borrow.Author.Tests.{not-true, eq-eqb, ne-eqb}
+use Rattle.rules.specs.Words.{Table, GoodState, atRest, shrinking, headerOf, loggedOf, stateWord, placeOf, tokenWord, keyWord, functionWord, placeWord, keyIn, recordIn, tokenOf}
 use Rattle.rules.specs.Places.{lookup}
 use Rattle.rules.specs.Placing.{freeSlot, placing, somewhere}
-use Rattle.rules.specs.Stores.{Store, putStores, clearStores, moveStores, placingStores, redoStores, updateWith, updateStores, beginStores}
-use Rattle.rules.specs.Stores.{endStores, stepStores}
+use Rattle.rules.specs.Stores.{Store, putStores, clearStores, moveStores, placingStores, redoStores, updateWith, updateStores, turnedOf}
+use Rattle.rules.specs.Stores.{stateStores, stepStores}
 use Rattle.rules.specs.Soundness.{finding}
-use Rattle.rules.specs.Calls.{refused, listed, placedBy, insertIn, updateIn, deleteIn, queryIn, beginTests, beginOf, stepItem, stepIn}
-use Rattle.rules.specs.Calls.{stepTests, stepOf, endTests, endOf, recoverOf, query, insert, update, delete, begin, stepFrom, end, recover, testsOf}
-use Rattle.rules.specs.Calls.{outcome}
+use Rattle.rules.specs.Calls.{refused, listed, placedBy, insertIn, updateIn, deleteIn, queryIn, beginTests, beginOf, shrinkTests, shrinkOf, backTests, backOf}
+use Rattle.rules.specs.Calls.{stepItem, stepIn, stepTests, stepOf, endTests, endOf, recoverOf, query, insert, update, delete, begin, shrink, back}
+use Rattle.rules.specs.Calls.{stepFrom, end, recover, testsOf, outcome}
 use Rattle.rules.specs.Demands.{FirstHolder, InterimFrom, FirstWithPlace, PlacingWritten, UpdateWritten, RecoveryWritten, Written, StoresAsWritten}
 use Rattle.rules.specs.declared.Header.{Header}
 use Rattle.rules.specs.declared.Slot.{Slot}
@@ -26,7 +28,9 @@ use Rattle.rules.specs.declared.Placing.the-variants.{Free, Move, Nowher
 use Rattle.rules.specs.declared.Finding.{Finding}
 use Rattle.rules.specs.declared.Finding.the-variants.{Sound, Doubled, Flagged, Neither}
 use Rattle.rules.specs.declared.Refusal.{Refusal}
-use Rattle.rules.proofs.Calls.Checked.{checked-listed}
+use Rattle.rules.specs.declared.Refusal.the-variants.{NotResizing}
+use Rattle.rules.proofs.Words.States.{resizing-phases}
+use Rattle.rules.proofs.Calls.Checked.{checked-listed, checked-passed, accepted-header}
 use Rattle.rules.proofs.Tables.Interims.{step-item}
 use Rattle.rules.proofs.Basics.Lists.{never}
 use Rattle.rules.proofs.Places.Placings.{placed-somewhere}
@@ -81,6 +85,19 @@ module _ (t : Table) (h : Header) (xs : List Store) where
   step-written b none q e = never-listed e
   step-written b (some x) q e = let r = step-by x (placing t h (keyIn t x)) (q x refl .1) (listed-one e) in (x, q x refl .0, r)
 
+  -- turned by the phase
+  back-written : GoodState (h .c) (h .state) → backOf h ≡ listed xs → Written t h back xs
+  unfolding backOf backTests atRest turnedOf shrinking stateStores stateWord
+  back-written good e = go (resizing-phases (h .c) (h .state) good (not-true _ (checked-passed _ xs (backTests h) e (not (atRest (h .state)), NotResizing) (here refl))))
+    where
+      stores : xs ≡ stateStores (turnedOf (h .state))
+      stores = listed-one (checked-listed _ xs (backTests h) e)
+
+      go : ((h .state .phase ≡ 1) × (2 ≤ h .state .k) × (h .state .k ≤ h .c)) ⊎ ((h .state .phase ≡ 2) × (1 ≤ h .state .k) × (h .state .k < h .c))
+          → Written t h back xs
+      go (inl (p, l, m)) = inr (p, rw (ne-eqb (h .state .phase) 2 (λ q. omega arith)) at stores)
+      go (inr (p, l, m)) = inl (p, rw (eq-eqb (h .state .phase) 2 p) at stores)
+
   recover-written : (f : Finding) → recoverOf t h f ≡ listed xs → RecoveryWritten t h f xs
   unfolding clearStores redoStores loggedOf keyWord tokenWord functionWord placeWord
   recover-written Sound e = listed-one e
@@ -93,7 +110,7 @@ module _ (t : Table) (h : Header) (xs : List Store) where
   query-written (Absent n) e = never-listed e
 
 pub storesAsWritten : StoresAsWritten
-unfolding outcome beginOf stepOf endOf beginStores endStores stateWord
+unfolding outcome beginOf shrinkOf stepOf endOf stateStores stateWord
 storesAsWritten t n (query key) xs e = query-written t (headerOf t) xs (lookup t (headerOf t) key) (checked-listed _ xs (testsOf t n (query key)) e)
 storesAsWritten t n (insert key r) xs e =
     insert-written t (headerOf t) xs key r (lookup t (headerOf t) key) (checked-listed _ xs (testsOf t n (insert key r)) e)
@@ -103,6 +120,9 @@ storesAsWritten t n (update key r) xs e =
 storesAsWritten t n (delete key) xs e =
     delete-written t (headerOf t) xs key (lookup t (headerOf t) key) (λ x m q. lookup-stands t key x m q .0) (checked-listed _ xs (testsOf t n (delete key)) e)
 storesAsWritten t n begin xs e = listed-one (checked-listed _ xs (beginTests (headerOf t)) (checked-listed _ xs (testsOf t n begin) e))
+storesAsWritten t n shrink xs e = listed-one (checked-listed _ xs (shrinkTests (headerOf t)) (checked-listed _ xs (testsOf t n shrink) e))
+storesAsWritten t n back xs e =
+    back-written t (headerOf t) xs (accepted-header t n back xs e .state) (checked-listed _ xs (testsOf t n back) e)
 storesAsWritten t n (stepFrom b) xs e =
     step-written t (headerOf t) xs b (stepItem t (headerOf t) b)
     (λ x i. let f = step-item t b x i in (f, placed-somewhere t (headerOf t) (keyIn t x) (f .place)))

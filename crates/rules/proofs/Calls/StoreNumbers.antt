@@ -13,8 +13,8 @@ use Rattle.rules.specs.Words.{Table, headerOf, placeOf, keyIn, recordIn}
 use Rattle.rules.specs.Placing.{freeSlot, placing}
 use Rattle.rules.specs.Soundness.{finding}
 use Rattle.rules.specs.Stores.{Store}
-use Rattle.rules.specs.Calls.{listLong, changingTests, recoverTests, listed, Call, query, insert, update, delete, begin, stepFrom, end, recover}
-use Rattle.rules.specs.Calls.{testsOf, outcome}
+use Rattle.rules.specs.Calls.{listLong, changingTests, recoverTests, listed, Call, query, insert, update, delete, begin, shrink, back, stepFrom, end}
+use Rattle.rules.specs.Calls.{recover, testsOf, outcome}
 use Rattle.rules.specs.Demands.{PlacingWritten, UpdateWritten, RecoveryWritten, Written, Number, StoreNumbers}
 use Rattle.rules.specs.declared.Header.{Header}
 use Rattle.rules.specs.declared.Slot.{Slot}
@@ -51,6 +51,8 @@ module _ (t : Table) (h : Header) where
   written-number xs (update key r) (x, s, e) = update-number xs x key r (freeSlot t h (placeOf x)) e
   written-number xs (delete key) (x, s, e) = ap length e
   written-number xs begin e = ap length e
+  written-number xs shrink e = ap length e
+  written-number xs back e = ⊎-elim (λ k. ap length (k .1)) (λ k. ap length (k .1)) e
   written-number xs (stepFrom b) (x, s, (ys, w, e)) =
       ⊎-elim (λ (k : length ys ≡ 4). inl (rw (e, length-append, k))) (λ (k : length ys ≡ 9). inr (rw (e, length-append, k)))
       (placing-number ys (keyIn t x) (recordIn t x) (placing t h (keyIn t x)) w)
@@ -66,6 +68,8 @@ number-few (insert key r) n e = ⊎-elim (few 4 (omega arith)) (few 9 (omega ari
 number-few (update key r) n e = ⊎-elim (few 4 (omega arith)) (few 7 (omega arith)) e
 number-few (delete key) n e = few 1 (omega arith) e
 number-few begin n e = few 1 (omega arith) e
+number-few shrink n e = few 1 (omega arith) e
+number-few back n e = few 1 (omega arith) e
 number-few (stepFrom b) n e = ⊎-elim (few 5 (omega arith)) (few 10 (omega arith)) e
 number-few end n e = few 1 (omega arith) e
 number-few recover n e = ⊎-elim (few 0 (omega arith)) (⊎-elim (few 1 (omega arith)) (few 3 (omega arith))) e
@@ -82,6 +86,8 @@ module _ (t : Table) (n : ℕ) where
   list-tested (update key r) = inr (there (here refl))
   list-tested (delete key) = inr (there (here refl))
   list-tested begin = inr (there (here refl))
+  list-tested shrink = inr (there (here refl))
+  list-tested back = inr (there (here refl))
   list-tested (stepFrom b) = inr (there (here refl))
   list-tested end = inr (there (here refl))
   list-tested recover = inr (there (here refl))

@@ -19,9 +19,8 @@ use Rattle.rules.specs.declared.Slot.{Slot}
 use Rattle.rules.specs.declared.Finding.{Finding}
 use Rattle.rules.specs.declared.Finding.the-variants.{Sound, Doubled, Flagged, Neither}
 use Rattle.rules.specs.declared.Refusal.the-variants.{ShortList}
-use Rattle.rules.proofs.Calls.Checked.{checked-passed}
+use Rattle.rules.proofs.Calls.Checked.{checked-passed, accepted-header}
 use Rattle.rules.proofs.Calls.StoreLists.{listed-one, never-listed}
-use Rattle.rules.proofs.Calls.Inside.{accepted-header}
 use Rattle.rules.proofs.Tables.Twins.{before-apart}
 use Rattle.rules.proofs.Tables.Findings.{KindOf, finding-means, recover-passes}
 use Rattle.rules.proofs.Carrying.Carried.{carried-stays, carried-back}

@@ -2,15 +2,14 @@
 -- Assumes nothing.
 use Prim.Native.Nat.{ℕ, _+_, _≤_}
 use mathlib.Core.Path.{_≡_, refl, sym, ap, _∙_}
-use mathlib.Core.Bool.{true}
-use mathlib.Core.List.{List, [], _∷_, _++_, List·Memᴰ·head as here, List·Memᴰ·tail as there}
+use mathlib.Core.List.{List, [], _∷_, List·Memᴰ·head as here, List·Memᴰ·tail as there}
 use mathlib.Core.Logic.{_⊎_, inl, inr}
 use native.Mathlib.Omega.{arith}
 use lib.ListN.{length}
 use borrow.Author.Tests.{leb-true}
 use Rattle.rules.specs.Words.{Table, GoodHeader, headerOf, flagOf, loggedOf, keyIn, recordIn, tokenOf, tokenWord, keyWord, functionWord, placeWord}
 use Rattle.rules.specs.Stores.{Store, redoStores, made}
-use Rattle.rules.specs.Soundness.{TakenSlot, SoundTable, PlainMap, mapOf, DoubledTable, FlaggedTable, finding}
+use Rattle.rules.specs.Soundness.{SoundTable, PlainMap, mapOf, DoubledTable, FlaggedTable, finding}
 use Rattle.rules.specs.Calls.{listLong, recoverTests, listed, recover, recoverOf, outcome}
 use Rattle.rules.specs.Results.{changeResult}
 use Rattle.rules.specs.Histories.{whole, after, Accepted}
@@ -25,9 +24,7 @@ use Rattle.rules.proofs.Tables.Findings.{KindOf, finding-means, recover
 use Rattle.rules.proofs.Carrying.Touched.{Touched, touched, unseen, unseen-orderly}
 use Rattle.rules.proofs.Carrying.Carried.{carried-alone}
 use Rattle.rules.proofs.Carrying.Moving.{Nothing}
-use Rattle.rules.proofs.Carrying.Putting.{SoundMap}
-use Rattle.rules.proofs.Calls.Checked.{checked-passed}
-use Rattle.rules.proofs.Calls.Inside.{accepted-header}
+use Rattle.rules.proofs.Calls.Checked.{checked-passed, accepted-header}
 use Rattle.rules.proofs.Calls.MadeLists.{accepted-lists}
 use Rattle.rules.proofs.Calls.StoreLists.{never-listed}
 use Rattle.rules.proofs.Cutting.Mending.{Mends, asSound, asRedo, doubled-twin, still-flagged, recovered}

@@ -2,23 +2,23 @@
 -- call's list from a sound table, by the kinds that it is put together from. No call's law mentions recovery: what a cut leaves is one
 -- of the kinds that it mends.
 -- Assumes nothing.
-use Prim.Native.Nat.{ℕ}
+use Prim.Native.Nat.{ℕ, _≤_}
 use mathlib.Core.Path.{_≡_, refl, sym, _∙_}
 use mathlib.Core.Bool.{true}
 use mathlib.Core.List.{List, [], _∷_, _++_, append-assoc}
 use mathlib.Core.Logic.{_⊎_, inl, inr}
 use mathlib.Core.Option.{Option, none, some}
-use native.Mathlib.Decide.{ℕ-discrete}
+use native.Mathlib.Decide.{decLe, ℕ-discrete}
+use native.Mathlib.Omega.{arith}
 use Rattle.rules.specs.Words.{Table, headerOf, placeOf, keyIn, recordIn, tokenOf, hide}
 use Rattle.rules.specs.Places.{lookup}
 use Rattle.rules.specs.Placing.{freeSlot, placing, somewhere}
 use Rattle.rules.specs.Stores.{Store, putStores, clearStores, moveStores, placingStores, updateWith, updateStores, stepStores, made}
 use Rattle.rules.specs.Soundness.{TakenSlot, PlainMap}
 use Rattle.rules.specs.Calls.{Outcome, refused, listed, placedBy, insertIn, updateIn, stepItem, stepIn, stepTests, stepOf, Call, query, insert}
-use Rattle.rules.specs.Calls.{update, delete, begin, stepFrom, end, recover, outcome}
+use Rattle.rules.specs.Calls.{update, delete, begin, shrink, back, stepFrom, end, recover, outcome}
 use Rattle.rules.specs.Demands.{AtRest, Given, Gives, mapWith, mapAfter, InterimItem, None, NoInterim, InterimFrom, FirstWithPlace}
-use Rattle.rules.specs.Demands.{NoneHasPlace, InsertBy}
-use Rattle.rules.specs.Demands.{ChangeBy, StepBy}
+use Rattle.rules.specs.Demands.{NoneHasPlace, InsertBy, ChangeBy, StepBy, Written}
 use Rattle.rules.specs.declared.State.{State}
 use Rattle.rules.specs.declared.Slot.{Slot}
 use Rattle.rules.specs.declared.Record.{Record}
@@ -39,7 +39,7 @@ use Rattle.rules.proofs.Calls.Passing.{passes, whole-of}
 use Rattle.rules.proofs.Carrying.Putting.{SoundMap}
 use Rattle.rules.proofs.Calls.Inserting.{insertAnswers}
 use Rattle.rules.proofs.Calls.Updating.{updateAnswers, deleteAnswers}
-use Rattle.rules.proofs.Calls.BeginEnd.{beginAnswers, endAnswers}
+use Rattle.rules.proofs.Calls.StateChanges.{beginAnswers, shrinkAnswers, backAnswers, endAnswers}
 use Rattle.rules.proofs.Calls.GrowthSteps.{not-interim, elsewhere, stepAnswers}
 use Rattle.rules.proofs.Carrying.ItemMoved.{AfterMove, move-whole}
 use Rattle.rules.proofs.Cutting.Cuts.{EveryCut, cuts-append, cuts-weaken}
@@ -148,9 +148,25 @@ module _ (t : Table) (m : PlainMap) (n : ℕ) (given : Given t m n) where
   begin-whole xs e = go (ℕ-discrete (headerOf t .state .phase) 0) (ℕ-discrete (headerOf t .state .k) (headerOf t .c))
     where
       go : Dec (AtRest t) → Dec (headerOf t .state .k ≡ headerOf t .c) → SoundMap (made t xs) m
-      go (no growing) d = never-listed (sym (beginAnswers t m n given .0 growing) ∙ e)
+      go (no resizing) d = never-listed (sym (beginAnswers t m n given .0 resizing) ∙ e)
       go (yes rest) (yes full) = never-listed (sym (beginAnswers t m n given .1 rest full) ∙ e)
       go (yes rest) (no below) = given-whole t _ _ _ xs e (beginAnswers t m n given .2 rest below)
+
+  shrink-whole : (xs : List Store) → outcome t n shrink ≡ listed xs → SoundMap (made t xs) m
+  shrink-whole xs e = go (ℕ-discrete (headerOf t .state .phase) 0) (decLe 2 (headerOf t .state .k))
+    where
+      go : Dec (AtRest t) → Dec (2 ≤ headerOf t .state .k) → SoundMap (made t xs) m
+      go (no resizing) d = never-listed (sym (shrinkAnswers t m n given .0 resizing) ∙ e)
+      go (yes rest) (no small) = never-listed (sym (shrinkAnswers t m n given .1 rest (omega arith)) ∙ e)
+      go (yes rest) (yes low) = given-whole t _ _ _ xs e (shrinkAnswers t m n given .2 rest low)
+
+  -- turned by the phase, in one store
+  back-whole : (xs : List Store) → outcome t n back ≡ listed xs → SoundMap (made t xs) m × ((s : Store) × (xs ≡ s ∷ []))
+  back-whole xs e = go (storesAsWritten t n back xs e)
+    where
+      go : Written t (headerOf t) back xs → SoundMap (made t xs) m × ((s : Store) × (xs ≡ s ∷ []))
+      go (inl (p, w)) = (given-whole t _ _ _ xs e (backAnswers t m n given .1 p), (_, w))
+      go (inr (p, w)) = (given-whole t _ _ _ xs e (backAnswers t m n given .2 p), (_, w))
 
   step-whole : (b : ℕ) (xs : List Store) → outcome t n (stepFrom b) ≡ listed xs → SoundMap (made t xs) m
   step-whole b xs e = go (ℕ-discrete (headerOf t .state .phase) 0)
@@ -165,7 +181,7 @@ module _ (t : Table) (m : PlainMap) (n : ℕ) (given : Given t m n) where
 
       go : Dec (AtRest t) → SoundMap (made t xs) m
       go (yes rest) = never-listed (sym (stepAnswers t m n given b .0 rest) ∙ e)
-      go (no growing) = grown (stepAnswers t m n given b .1 growing)
+      go (no resizing) = grown (stepAnswers t m n given b .1 resizing)
 
   end-whole : (xs : List Store) → outcome t n end ≡ listed xs → SoundMap (made t xs) m
   end-whole xs e = go (ℕ-discrete (headerOf t .state .phase) 0)
@@ -177,7 +193,7 @@ module _ (t : Table) (m : PlainMap) (n : ℕ) (given : Given t m n) where
 
       go : Dec (AtRest t) → SoundMap (made t xs) m
       go (yes rest) = never-listed (sym (endAnswers t m n given .0 rest) ∙ e)
-      go (no growing) = ended (endAnswers t m n given .1 growing)
+      go (no resizing) = ended (endAnswers t m n given .1 resizing)
 
   pub call-whole : (q : Call) (xs : List Store) → outcome t n q ≡ listed xs → SoundMap (made t xs) (mapAfter q m)
   call-whole (query key) xs e = rw (storesAsWritten t n (query key) xs e) (whole-of t m n given)
@@ -185,6 +201,8 @@ module _ (t : Table) (m : PlainMap) (n : ℕ) (given : Given t m n) where
   call-whole (update key r) xs e = changed-whole (update key r) _ (m key) xs e (updateAnswers t m n given key r)
   call-whole (delete key) xs e = changed-whole (delete key) _ (m key) xs e (deleteAnswers t m n given key)
   call-whole begin xs e = begin-whole xs e
+  call-whole shrink xs e = shrink-whole xs e
+  call-whole back xs e = back-whole xs e .0
   call-whole (stepFrom b) xs e = step-whole b xs e
   call-whole end xs e = end-whole xs e
   call-whole recover xs e = rw (listed-one (sym (recoverAnswers t m n given) ∙ e)) (whole-of t m n given)
@@ -232,7 +250,7 @@ module _ (t : Table) (m : PlainMap) (n : ℕ) (given : Given t m n) where
           there (f .slot) (f .item) (f .holding) (freeSlot t (headerOf t) (placeOf (f .slot))) refl (rw (f .answer) at e)
       known none q = never-listed (rw (lookup-unknown t m (given .sound) (given .map) key q .1) at e)
 
-  -- delete, begin and end: one store
+  -- delete, begin, shrink, back and end: one store
   one-store : (k : PlainMap) (s : Store) (xs : List Store) → xs ≡ s ∷ [] → SoundMap (made t xs) k → EveryCut (Either m k) t xs
   one-store k s xs e last = rw e (one-cut t m k s (whole-of t m n given) (rw e at last))
 
@@ -253,6 +271,8 @@ module _ (t : Table) (m : PlainMap) (n : ℕ) (given : Given t m n) where
   call-cuts (update key r) xs e = update-cuts key r xs (rw (passes t m n given) at e) (call-whole (update key r) xs e)
   call-cuts (delete key) xs e = let w = storesAsWritten t n (delete key) xs e in one-store _ _ xs (w .2) (call-whole (delete key) xs e)
   call-cuts begin xs e = one-store m _ xs (storesAsWritten t n begin xs e) (begin-whole xs e)
+  call-cuts shrink xs e = one-store m _ xs (storesAsWritten t n shrink xs e) (shrink-whole xs e)
+  call-cuts back xs e = let w = back-whole xs e in one-store m _ xs (w .1 .1) (w .0)
   call-cuts (stepFrom b) xs e = step-safe b xs (checked-listed _ xs (stepTests t (headerOf t) b) (rw (passes t m n given) at e))
   call-cuts end xs e = one-store m _ xs (storesAsWritten t n end xs e) (end-whole xs e)
   call-cuts recover xs e = rw (listed-one (sym (recoverAnswers t m n given) ∙ e)) (inl (asSound (whole-of t m n given)))

@@ -14,7 +14,7 @@ use Rattle.rules.specs.Words.{tokenWord, keyWord, functionWord, placeWor
 use Rattle.rules.specs.Placing.{freeSlot, placing}
 use Rattle.rules.specs.Stores.{putStores, clearStores, moveStores, placingStores, redoStores, updateWith, stepStores, made}
 use Rattle.rules.specs.Soundness.{TakenSlot}
-use Rattle.rules.specs.Demands.{Growing, InterimItem}
+use Rattle.rules.specs.Demands.{Resizing, InterimItem}
 use Rattle.rules.specs.declared.Level.{Level}
 use Rattle.rules.specs.declared.Slot.{Slot}
 use Rattle.rules.specs.declared.Record.{Record}
@@ -28,7 +28,7 @@ use Rattle.rules.proofs.Words.Made.{made-append, made-kept}
 use Rattle.rules.proofs.Carrying.Touched.{Touched, touched}
 use Rattle.rules.proofs.Carrying.StoreKinds.{SlotWritten, put-written, clear-written, log-written}
 use Rattle.rules.proofs.Carrying.Putting.{place-bucket}
-use Rattle.rules.proofs.Calls.BeginEnd.{growing-interim}
+use Rattle.rules.proofs.Calls.StateChanges.{resizing-interim}
 use Rattle.rules.proofs.Tables.Interims.{item-range}
 use Rattle.rules.proofs.Calls.GrowthSteps.{Settled, not-interim}
 use Rattle.rules.proofs.Growth.InterimBits.{hide-fewer, hide-less, beside-fewer}
@@ -40,18 +40,18 @@ pub record Keeps (t u : Table) : Type 0 where
   pub tokens : (j : ℕ) → InLevel (interimOf (headerOf t .state)) j → tokenOf u j ≡ tokenOf t j
 
 -- none of them has more slots taken
-pub record Shrinks (t u : Table) : Type 0 where
+pub record Drains (t u : Table) : Type 0 where
   pub header : headerOf u ≡ headerOf t
   pub bits : (j : ℕ) → InLevel (interimOf (headerOf t .state)) j → takenOf (headerOf t) (tokenOf u j) ≤ takenOf (headerOf t) (tokenOf t j)
 
 -- and that of slot x's bucket has fewer
 pub record Steps (t u : Table) (x : Slot) : Type 0 where
-  pub shrinks : Shrinks t u
+  pub drains : Drains t u
   pub range : InLevel (interimOf (headerOf t .state)) (x .bucket)
   pub less : takenOf (headerOf t) (tokenOf u (x .bucket)) + 1 ≤ takenOf (headerOf t) (tokenOf t (x .bucket))
 
-pub keeps-shrinks : (t u : Table) → Keeps t u → Shrinks t u
-keeps-shrinks t u k = record { header = k .header; bits = λ j r. rw (k .tokens j r) (omega arith) }
+pub keeps-drains : (t u : Table) → Keeps t u → Drains t u
+keeps-drains t u k = record { header = k .header; bits = λ j r. rw (k .tokens j r) (omega arith) }
 
 keeps-twice : (t u v : Table) → Keeps t u → Keeps u v → Keeps t v
 keeps-twice t u v a b = record {
@@ -60,8 +60,8 @@ keeps-twice t u v a b = record {
   tokens = λ j r. b .tokens j (rw (a .header) r) ∙ a .tokens j r;
 }
 
-shrinks-twice : (t u v : Table) → Shrinks t u → Shrinks u v → Shrinks t v
-shrinks-twice t u v a b = record {
+drains-twice : (t u v : Table) → Drains t u → Drains u v → Drains t v
+drains-twice t u v a b = record {
   header = b .header ∙ a .header;
   bits = λ j r. omega (arith, a .bits j r, (rw (a .header) at (b .bits j (rw (a .header) r))));
 }
@@ -76,20 +76,20 @@ module _ (t u : Table) (x : Slot) (v k : ℕ) (r : Record) (written : SlotWritte
         λ j range. written .near .tokens j (λ e. far (rw e at range));
   }
 
-  written-shrinks : takenOf (headerOf t) v ≤ takenOf (headerOf t) (tokenOf t (x .bucket)) → Shrinks t u
-  written-shrinks few = record { header = written .near .header; bits = λ j range. go j (ℕ-discrete j (x .bucket)) }
+  written-drains : takenOf (headerOf t) v ≤ takenOf (headerOf t) (tokenOf t (x .bucket)) → Drains t u
+  written-drains few = record { header = written .near .header; bits = λ j range. go j (ℕ-discrete j (x .bucket)) }
     where
       go : (j : ℕ) → Dec (j ≡ x .bucket) → takenOf (headerOf t) (tokenOf u j) ≤ takenOf (headerOf t) (tokenOf t j)
       go j (yes e) = rw (e, written .token) few
       go j (no n) = rw (written .near .tokens j n) (omega arith)
 
-module _ (t : Table) (good : GoodHeader (length t) (headerOf t)) (growing : Growing t) where
+module _ (t : Table) (good : GoodHeader (length t) (headerOf t)) (resizing : Resizing t) where
   -- top and bottom are elsewhere
   settled-apart : (x : Slot) → InUse (headerOf t .state) x → Settled x → InLevel (interimOf (headerOf t .state)) (x .bucket) → ⊥
   unfolding interimOf
   settled-apart x used settled range =
       let s = headerOf t .state in
-      let there = interim-used s (growing-interim t growing) in
+      let there = interim-used s (resizing-interim t resizing) in
       let same = level-of-bucket (headerOf t .c) s (good .state) (used .level) (interimOf s) (x .bucket) (used .used) there (used .bucket) range in
       not-interim x settled (used .name ∙ ap (λ (l : Level). l .name) same)
 
@@ -126,28 +126,28 @@ module _ (t : Table) (good : GoodHeader (length t) (headerOf t)) (growing : Grow
   placing-keeps key r Nowhere e = record { long = refl; header = refl; tokens = λ j range. refl }
 
   -- delete, and recovery of a doubled key
-  pub clear-shrinks : (x : Slot) → InUse (headerOf t .state) x → Shrinks t (made t (clearStores (headerOf t) (tokenOf t (x .bucket)) x))
-  clear-shrinks x used = written-shrinks t _ x _ _ _ (clear-written t x (used .slot) (within x used) (headerOf t) (tokenOf t (x .bucket)))
+  pub clear-drains : (x : Slot) → InUse (headerOf t .state) x → Drains t (made t (clearStores (headerOf t) (tokenOf t (x .bucket)) x))
+  clear-drains x used = written-drains t _ x _ _ _ (clear-written t x (used .slot) (within x used) (headerOf t) (tokenOf t (x .bucket)))
       (hide-fewer (headerOf t) (tokenOf t (x .bucket)) (x .slot) (used .slot))
 
   -- update: the bucket has as many taken slots as before
-  pub update-shrinks : flagOf t ≡ 0 → (x : Slot) → TakenSlot t x → (key : ℕ) (r : Record) (o : Option Slot)
+  pub update-drains : flagOf t ≡ 0 → (x : Slot) → TakenSlot t x → (key : ℕ) (r : Record) (o : Option Slot)
       → freeSlot t (headerOf t) (placeOf x) ≡ o
-      → Shrinks t (made t (updateWith t (headerOf t) x o key r))
+      → Drains t (made t (updateWith t (headerOf t) x o key r))
   unfolding taken
-  update-shrinks flag x item key r (some y) e =
+  update-drains flag x item key r (some y) e =
       let h = headerOf t in
       let f = free-slot t h (placeOf x) y e in
       let used = slot-of-place (h .state) (placeOf x) y (place-of-slot (h .state) x (item .used)) (f .inside) in
       let same : y .bucket ≡ x .bucket = place-bucket y x (f .place) in
-      written-shrinks t _ y _ _ _ (put-written t y (used .slot) (within y used) h _ key r)
+      written-drains t _ y _ _ _ (put-written t y (used .slot) (within y used) h _ key r)
       (rw same (beside-fewer h (tokenOf t (x .bucket)) (x .slot) (item .used .slot) (item .shown) (y .slot) key (used .slot)))
-  update-shrinks flag x item key r none e = written-shrinks t _ x _ _ _ (log-written t x (item .used .slot) (within x (item .used)) r flag) (omega arith)
+  update-drains flag x item key r none e = written-drains t _ x _ _ _ (log-written t x (item .used .slot) (within x (item .used)) r flag) (omega arith)
 
   -- recovery of a flagged table: no token
-  pub redo-shrinks : (x : Slot) → InUse (headerOf t .state) x → (r : Record) → Shrinks t (made t (redoStores x r))
+  pub redo-drains : (x : Slot) → InUse (headerOf t .state) x → (r : Record) → Drains t (made t (redoStores x r))
   unfolding redoStores tokenOf tokenWord keyWord functionWord placeWord
-  redo-shrinks x used r =
+  redo-drains x used r =
       let xs = redoStores x r in
       let near = touched x (used .slot) t xs (inr (inr (omega arith)), (inr (inr (omega arith)), (inl (omega arith), tt))) in
       let token : tokenOf (made t xs) (x .bucket) ≡ tokenOf t (x .bucket) =
@@ -175,9 +175,9 @@ module _ (t : Table) (good : GoodHeader (length t) (headerOf t)) (growing : Grow
       let whole = made-append t puts (clearStores h (tokenOf t (x .bucket)) x) in
       let fewer : takenOf h (hide h (tokenOf t (x .bucket)) (x .slot)) ≤ takenOf h (tokenOf t (x .bucket)) =
       hide-fewer h (tokenOf t (x .bucket)) (x .slot) (used .slot) in
-      let second = written-shrinks (made t puts) _ x _ _ _ clear (rw (k .header, token) fewer) in
+      let second = written-drains (made t puts) _ x _ _ _ clear (rw (k .header, token) fewer) in
       rw whole (record {
-        shrinks = shrinks-twice t (made t puts) _ (keeps-shrinks t (made t puts) k) second;
+        drains = drains-twice t (made t puts) _ (keeps-drains t (made t puts) k) second;
         range = range;
         less = rw (clear .token) (hide-less h (tokenOf t (x .bucket)) (x .slot) (used .slot) (item .item .shown));
       })

@@ -22,7 +22,7 @@ use Rattle.rules.specs.Calls.{outcome}
 use Rattle.rules.specs.Results.{changeResult, stepFromResult}
 use Rattle.rules.specs.NoPlace.{NoPlaceFor}
 use Rattle.rules.specs.Histories.{whole, after, Accepted}
-use Rattle.rules.specs.Demands.{Growing, InterimItem, None, NoInterim, interimSize, InterimFrom, FirstWithPlace, NoneHasPlace, StepBy}
+use Rattle.rules.specs.Demands.{Resizing, InterimItem, None, NoInterim, interimSize, InterimFrom, FirstWithPlace, NoneHasPlace, StepBy}
 use Rattle.rules.specs.StepFromSentences.{Pass, PassEnds, PassPlacesAll, placesAny, upTo, lookedAt, LooksUntilFound, looks, PassLooksAtFew}
 use Rattle.rules.specs.declared.Header.{Header}
 use Rattle.rules.specs.declared.Slot.{Slot}
@@ -33,7 +33,7 @@ use Rattle.rules.proofs.Basics.Lists.{never, select-in, in-select}
 use Rattle.rules.proofs.Basics.Tests.{Tells, tells-any}
 use Rattle.rules.proofs.Basics.Walks.{from-length}
 use Rattle.rules.proofs.Places.Placings.{no-place, placed-somewhere, placing-move}
-use Rattle.rules.proofs.Tables.Interims.{interim-item, interim-empty, interim-left, bucket-counted, step-item}
+use Rattle.rules.proofs.Tables.Interims.{interim-item, interim-empty, interim-left, bucket-counted, interim-size, step-item}
 use Rattle.rules.proofs.Tables.Maps.{mapExists}
 use Rattle.rules.proofs.Calls.Checked.{checked-listed}
 use Rattle.rules.proofs.Calls.StoreLists.{listed-one, never-listed}
@@ -54,7 +54,7 @@ record OneStep (t : Table) (b : ℕ) (l : List ℕ) : Type 0 where
   pub listing : stores ≡ stepStores t (headerOf t) slot (placing t (headerOf t) (keyIn t slot))
   pub result : after t (whole (stepFrom b) l) ≡ made t stores
   pub told : stepFromResult t b l .0 .bucket ≡ interimBucket (headerOf t .state) slot
-  pub growing : Growing t
+  pub resizing : Resizing t
 
 one-step : (t : Table) (b : ℕ) (l : List ℕ) → Accepted (changeResult t l (stepFrom b) .0) → OneStep t b l
 unfolding stepFromResult outcome stepOf
@@ -74,7 +74,7 @@ one-step t b l a = go (accepted-lists t l (stepFrom b) a)
       listing = listed-one f;
       result = after-whole t l (stepFrom b) ∙ ap (λ o. made t (storesOf o)) e;
       told = rw (e, q);
-      growing = accepted-behind t (length l) b xs e .growing;
+      resizing = accepted-behind t (length l) b xs e .resizing;
     }
 
     go : (xs : List Store) × (outcome t (length l) (stepFrom b) ≡ listed xs) → OneStep t b l
@@ -86,14 +86,13 @@ pass-count : (ls : List (List ℕ)) (t u : Table) (b c : ℕ) → Pass t b ls u 
 pass-count [] t u b c p = omega arith
 pass-count (l ∷ ls) t u b c p =
     let s = one-step t b l (p .0) in
-    let k = step-taken t (length l) (s .growing) b (s .stores) (s .list) in
+    let k = step-taken t (length l) (s .resizing) b (s .stores) (s .list) in
     let less = steps-count t (made t (s .stores)) (k .0) (k .1) in
     let rest = pass-count ls (after t (whole (stepFrom b) l)) u _ c (p .1) in
     omega (arith, less, rw (s .result) at rest)
 
 pub passEnds : PassEnds
-unfolding interimOf
-passEnds t u b c ls p = omega (arith, pass-count ls t u b c p, count-most t)
+passEnds t u b c ls p = omega (arith, interim-size t, pass-count ls t u b c p, count-most t)
 
 -- ---- it leaves no item that has a place
 
@@ -107,8 +106,7 @@ abbrev StuckBefore : Table → ℕ → Type 0
 StuckBefore t b = (y : Slot) → InterimItem t y → interimBucket (headerOf t .state) y < b → NoPlaceFor t (headerOf t) (keyIn t y)
 
 from-bucket : (t : Table) (b : ℕ) (y : Slot) → InterimItem t y → b ≤ interimBucket (headerOf t .state) y → InterimFrom t b y
-unfolding interimOf
-from-bucket t b y i l = record { item = i; start = omega (arith, bucket-counted t y i .0) }
+from-bucket t b y i l = record { item = i; start = omega (arith, interim-size t, bucket-counted t y i .0) }
 
 module _ (t : Table) (b : ℕ) (l : List ℕ) (sound : SoundTable t) (stuck : StuckBefore t b) (s : OneStep t b l) where
   first : FirstWithPlace t (InterimFrom t b) (s .slot)
@@ -132,26 +130,26 @@ module _ (t : Table) (b : ℕ) (l : List ℕ) (sound : SoundTable t) (stuck : St
   kept u y i (inr (to, e)) = absurd (not-interim y (placing-move t (headerOf t) (keyIn t (s .slot)) y to e .level) (i .level))
 
   made-on : ((key : ℕ) → NoPlaceFor t (headerOf t) key → NoPlaceFor onward (headerOf onward) key)
-      → SoundTable onward × Growing onward × StuckBefore onward (interimBucket (headerOf t .state) (s .slot))
+      → SoundTable onward × Resizing onward × StuckBefore onward (interimBucket (headerOf t .state) (s .slot))
   made-on still =
       let m = mapExists t sound in
       let k = taken-steps t (m .0) (record { sound = sound; map = m .1 }) b (s .slot) first in (
         k .0 .whole .sound,
-        λ rest. s .growing (rw (k .0 .header) at rest),
+        λ rest. s .resizing (rw (k .0 .header) at rest),
         λ y i less.
             let old = k .1 .rest y .0 i in
             let key = kept onward y (old .0) (k .2 y (old .0 .item) (old .1) .1) in
             rw key (still (keyIn t y) (stuck-so-far y (old .0) (rw (k .0 .header) at less))),
       )
 
-  step-onward : SoundTable (made t (s .stores)) × Growing (made t (s .stores))
+  step-onward : SoundTable (made t (s .stores)) × Resizing (made t (s .stores))
       × StuckBefore (made t (s .stores)) (interimBucket (headerOf t .state) (s .slot))
   step-onward = rw (s .listing) (made-on (λ key stays. rw (s .listing) at (stuckStaysStuck t (length l) b (s .stores) sound (s .list) key stays)))
 
-pass-stuck : (ls : List (List ℕ)) (t u : Table) (b c : ℕ) → SoundTable t → Growing t → StuckBefore t b → Pass t b ls u c
-    → SoundTable u × Growing u × StuckBefore u c
-pass-stuck [] t u b c sound growing stuck p = rw (← (p .0), ← (p .1)) (sound, growing, stuck)
-pass-stuck (l ∷ ls) t u b c sound growing stuck p =
+pass-stuck : (ls : List (List ℕ)) (t u : Table) (b c : ℕ) → SoundTable t → Resizing t → StuckBefore t b → Pass t b ls u c
+    → SoundTable u × Resizing u × StuckBefore u c
+pass-stuck [] t u b c sound resizing stuck p = rw (← (p .0), ← (p .1)) (sound, resizing, stuck)
+pass-stuck (l ∷ ls) t u b c sound resizing stuck p =
     let s = one-step t b l (p .0) in
     let k = step-onward t b l sound stuck s in
     pass-stuck ls (made t (s .stores)) u (interimBucket (headerOf t .state) (s .slot)) c (k .0) (k .1) (k .2) (rw (s .result, s .told) at (p .1))
@@ -161,10 +159,10 @@ abbrev Left : Table → Refusal → Type 0
 Left u r = (NoInterim u × (r ≡ InterimEmpty)) ⊎ (NoneHasPlace u (InterimItem u) × ((r ≡ InterimEmpty) ⊎ (r ≡ NoPlace)))
 
 pub passPlacesAll : PassPlacesAll
-passPlacesAll t u c n ls r sound growing p room e = go (k .0) (k .1) (k .2)
+passPlacesAll t u c n ls r sound resizing p room e = go (k .0) (k .1) (k .2)
   where
-    k : SoundTable u × Growing u × StuckBefore u c
-    k = pass-stuck ls t u 0 c sound growing (λ y i l. absurd (omega arith)) p
+    k : SoundTable u × Resizing u × StuckBefore u c
+    k = pass-stuck ls t u 0 c sound resizing (λ y i l. absurd (omega arith)) p
 
     -- what stands before c is stuck, and so is what stands from there on
     all-stuck : StuckBefore u c → ((y : Slot) → InterimFrom u c y → NoPlaceFor u (headerOf u) (keyIn u y)) → (y : Slot) → InterimItem u y
@@ -192,7 +190,7 @@ passPlacesAll t u c n ls r sound growing p room e = go (k .0) (k .1) (k .2)
         inr (record { remain = (left-over .remain .0, left-over .remain .1 .item); stuck = all-stuck stuck (left-over .stuck) }, inr (same a))
     by-answer stuck (inr (inr (x, f, s))) = never-listed (sym e ∙ s .0 .answer)
 
-    go : SoundTable u → Growing u → StuckBefore u c → Left u r
+    go : SoundTable u → Resizing u → StuckBefore u c → Left u r
     go w grows stuck =
         let m = mapExists u (k .0) in
         by-answer stuck (stepAnswers u (m .0) n (record { sound = k .0; map = m .1; room = room }) c .1 grows)
@@ -257,8 +255,7 @@ module _ (t : Table) where
     told = interimBucket (headerOf t .state) x
 
     told-range : (b ≤ told) × (told < sizeOf (interimOf (headerOf t .state)))
-    unfolding interimOf
-    told-range = let c = bucket-counted t x (first .item .item) in (omega (arith, c .0, first .item .start), c .1)
+    told-range = let c = bucket-counted t x (first .item .item) in (omega (arith, interim-size t, c .0, first .item .start), c .1)
 
     bucket-hit : placesAny t (headerOf t) told ≡ true
     unfolding hasPlace
@@ -272,19 +269,19 @@ module _ (t : Table) where
     bucket-missed i l m = none-placed b i l (λ y u e. first .earlier y u (bucket-before t x y (first .item .item) (u .item) (omega (arith, e))))
 
     looked : lookedAt t b ≡ from b (told + 1 - b)
-    unfolding lookedAt interimOf
+    unfolding lookedAt
     looked =
         let r = told-range in
         let on : b + (told - b) ≡ told = omega (arith, r .0) in
         let last : told - b + 1 ≡ told + 1 - b = omega (arith, r .0) in
-        up-to-first (placesAny t (headerOf t)) (told - b) b (interimSize t - b) (omega (arith, r .0, r .1))
+        up-to-first (placesAny t (headerOf t)) (told - b) b (interimSize t - b) (omega (arith, interim-size t, r .0, r .1))
         (λ i l m. bucket-missed i l (omega (arith, on))) (rw on bucket-hit) ∙ ap (from b) last
 
 looked-most : (t : Table) (b : ℕ) → length (lookedAt t b) ≤ sizeOf (interimOf (headerOf t .state)) - b
-unfolding lookedAt interimOf
+unfolding lookedAt
 looked-most t b =
     let n = interimSize t - b in
-    omega (arith, up-to-most (placesAny t (headerOf t)) (from b n), from-length b n)
+    omega (arith, interim-size t, up-to-most (placesAny t (headerOf t)) (from b n), from-length b n)
 
 -- the buckets from b on once, and one more for each step
 pass-looks : (ls : List (List ℕ)) (t u : Table) (b c : ℕ) → Pass t b ls u c → looks t b ls ≤ sizeOf (interimOf (headerOf t .state)) - b + length ls
@@ -292,7 +289,7 @@ pass-looks [] t u b c p = omega (arith, looked-most t b)
 pass-looks (l ∷ ls) t u b c p =
     let s = one-step t b l (p .0) in
     let first = step-item t b (s .slot) (s .item) in
-    let header = step-taken t (length l) (s .growing) b (s .stores) (s .list) .1 .shrinks .header in
+    let header = step-taken t (length l) (s .resizing) b (s .stores) (s .list) .1 .drains .header in
     let rest = pass-looks ls (after t (whole (stepFrom b) l)) u _ c (p .1) in
     let r = told-range t b (s .slot) first in
     let size : sizeOf (interimOf (headerOf (after t (whole (stepFrom b) l)) .state)) ≡ sizeOf (interimOf (headerOf t .state)) = rw (s .result, header) in
@@ -300,8 +297,7 @@ pass-looks (l ∷ ls) t u b c p =
     omega (arith, here, r .0, r .1, s .told, rest, size)
 
 pub passLooksAtFew : PassLooksAtFew
-unfolding interimOf
-passLooksAtFew t u b c ls p = omega (arith, pass-looks ls t u b c p)
+passLooksAtFew t u b c ls p = omega (arith, interim-size t, pass-looks ls t u b c p)
 
 pub looksUntilFound : LooksUntilFound
 unfolding lookedAt

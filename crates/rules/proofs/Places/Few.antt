@@ -11,7 +11,7 @@ use Rattle.rules.specs.Places.{firstPlace, secondPlace, samePlace, place
 use Rattle.rules.specs.declared.State.{State}
 use Rattle.rules.specs.declared.Level.{Level}
 use Rattle.rules.specs.declared.Hashes.{Hashes}
-use Rattle.rules.proofs.Places.Probing.{probes-at-rest, probes-growing}
+use Rattle.rules.proofs.Places.Probing.{probes-at-rest, probes-resizing}
 
 module _ (x : Hashes) where
   two-in-level : (l : Level) → length (placesIn x l) ≤ 2
@@ -31,5 +31,5 @@ module _ (x : Hashes) where
       go : (b : Bool) → atRest s ≡ b → length (probes s x) ≤ 6
       go true e = omega (arith, four-at-rest s e)
       go false e =
-          rw (probes-growing x s e, length-append, length-append)
+          rw (probes-resizing x s e, length-append, length-append)
           (omega (arith, two-in-level (topOf s), two-in-level (bottomOf s), two-in-level (interimOf s)))

@@ -39,6 +39,6 @@ module _ (x : Hashes) where
   unfolding probes levelsInUse flatMap
   probes-at-rest s e = rw e (rw append-nil)
 
-  pub probes-growing : (s : State) → atRest s ≡ false → probes s x ≡ placesIn x (topOf s) ++ (placesIn x (bottomOf s) ++ placesIn x (interimOf s))
+  pub probes-resizing : (s : State) → atRest s ≡ false → probes s x ≡ placesIn x (topOf s) ++ (placesIn x (bottomOf s) ++ placesIn x (interimOf s))
   unfolding probes levelsInUse flatMap
-  probes-growing s e = rw e (rw append-nil)
+  probes-resizing s e = rw e (rw append-nil)

@@ -1,22 +1,22 @@
 -- The interim items: those that an end looks at are the taken slots of the interim level, those that a step looks at are the ones from its
 -- start on, and the one that it takes is the first of these that has a place.
 -- Assumes nothing.
-use Prim.Native.Nat.{ℕ, _+_, _-_, _<_}
+use Prim.Native.Nat.{ℕ, _+_, _-_, _*_, _^_, _<_}
 use mathlib.Core.Path.{_≡_, refl, sym, ap, _∙_}
-use mathlib.Core.Bool.{false}
+use mathlib.Core.Bool.{Bool, true, false, cond}
 use mathlib.Core.List.{List·Memᴰ as In}
 use mathlib.Core.Logic.{_↔_, _⊎_, inl, inr}
 use mathlib.Core.Option.{Option, none, some}
 use native.Mathlib.Omega.{arith}
 use lib.Dec.{eqb, leb}
-use lib.Pow.{pow-pos}
+use lib.Pow.{pow-pos, pow-add}
 use borrow.Author.Tests.{eqb-true, eq-eqb, leb-true, le-leb}
 use Rattle.rules.specs.Choice.{given, select, empty}
-use Rattle.rules.specs.Words.{Table, headerOf, interim, sizeOf, interimOf, levelsInUse, InLevel, slotsOf, InUse, keyIn, taken}
+use Rattle.rules.specs.Words.{Table, headerOf, shrinking, interim, sizeOf, interimOf, levelsInUse, InLevel, slotsOf, InUse, keyIn, taken}
 use Rattle.rules.specs.Soundness.{Before}
 use Rattle.rules.specs.Calls.{interimSlots, interimItems, interimBucket, itemsFrom, hasPlace, stepItem}
 use Rattle.rules.specs.NoPlace.{NoPlaceFor}
-use Rattle.rules.specs.Demands.{InterimItem, None, NoInterim, InterimFrom, FirstWithPlace}
+use Rattle.rules.specs.Demands.{InterimItem, None, NoInterim, interimSize, InterimFrom, FirstWithPlace}
 use Rattle.rules.specs.declared.State.{State}
 use Rattle.rules.specs.declared.Header.{Header}
 use Rattle.rules.specs.declared.Level.{Level}
@@ -92,20 +92,30 @@ module _ (t : Table) where
       let some = pow-pos (interimOf (headerOf t .state) .exponent) in
       (omega (arith, r .0), omega (arith, r .0, r .1, some))
 
+-- how many buckets it has, by the phase
+pub interim-size : (t : Table) → interimSize t ≡ sizeOf (interimOf (headerOf t .state))
+unfolding interimOf shrinking
+interim-size t = go (eqb (headerOf t .state .phase) 2)
+  where
+    go : (b : Bool) → cond b (2 * 2 ^ headerOf t .state .k) (2 ^ (headerOf t .state .k - 2))
+        ≡ 2 ^ cond b (headerOf t .state .k + 1) (headerOf t .state .k - 2)
+    go true = let double : 2 ^ (headerOf t .state .k + 1) ≡ 2 ^ headerOf t .state .k * 2 ^ 1 = pow-add 2 (headerOf t .state .k) 1 in omega arith
+    go false = refl
+
 -- ---- from bucket b on
 
 module _ (t : Table) (b : ℕ) where
   from-item : (x : Slot) → In x (itemsFrom t (headerOf t) b) ↔ InterimFrom t b x
-  unfolding itemsFrom interimOf
+  unfolding itemsFrom
   from-item x = (
     λ i.
         let r = select-in (λ (y : Slot). leb b (interimBucket (headerOf t .state) y)) (interimItems t (headerOf t)) x i in
         let item = interim-item t x .0 (r .0) in
         let c = bucket-counted t x item in
-        record { item = item; start = omega (arith, c .0, leb-true b _ (r .1)) },
+        record { item = item; start = omega (arith, interim-size t, c .0, leb-true b _ (r .1)) },
     λ u.
         let c = bucket-counted t x (u .item) in
-        in-select (λ (y : Slot). leb b (interimBucket (headerOf t .state) y)) (interim-item t x .1 (u .item)) (le-leb b _ (omega (arith, c .0, u .start))),
+        in-select (λ (y : Slot). leb b (interimBucket (headerOf t .state) y)) (interim-item t x .1 (u .item)) (le-leb b _ (omega (arith, interim-size t, c .0, u .start))),
   )
 
   from-ascends : Ascending Before (itemsFrom t (headerOf t) b)
@@ -166,8 +176,7 @@ items-all t h = select-every _ (interimItems t h) (λ x i. le-leb 0 (interimBuck
 
 module _ (t : Table) where
   pub from-zero : (x : Slot) → InterimFrom t 0 x ↔ InterimItem t x
-  unfolding interimOf
-  from-zero x = (λ u. u .item, λ item. record { item = item; start = omega (arith, item-range t x item .0) })
+  from-zero x = (λ u. u .item, λ item. record { item = item; start = omega (arith, interim-size t, item-range t x item .0) })
 
   pub first-from-zero : (x : Slot) → FirstWithPlace t (InterimItem t) x → FirstWithPlace t (InterimFrom t 0) x
   first-from-zero x f = record { item = from-zero x .1 (f .item); place = f .place; earlier = λ y u k. f .earlier y (u .item) k }

@@ -1,6 +1,6 @@
 -- A good header, by the words themselves: words 0 to 4 and the table's length say what the decoded header says.
 -- Assumes nothing.
-use Prim.Native.Nat.{ℕ, _+_, _≤_}
+use Prim.Native.Nat.{ℕ, _+_, _≤_, _<_}
 use mathlib.Core.Logic.{_⊎_, inl, inr, _↔_}
 use native.Mathlib.Omega.{arith}
 use lib.ListN.{length}
@@ -9,15 +9,20 @@ use Rattle.rules.specs.Demands.{HeaderWords}
 
 -- "state: k + 256·phase"
 module _ (c w : ℕ) (small : c ≤ 20) where
-  state-words : GoodState c (stateOf w) → ((1 ≤ w) × (w ≤ c)) ⊎ ((258 ≤ w) × (w ≤ 256 + c))
+  abbrev StateWord : Type 0
+  StateWord = ((1 ≤ w) × (w ≤ c)) ⊎ (((258 ≤ w) × (w ≤ 256 + c)) ⊎ ((513 ≤ w) × (w < 512 + c)))
+
+  state-words : GoodState c (stateOf w) → StateWord
   unfolding stateOf
   state-words (inl (p, l, m)) = inl (omega arith)
-  state-words (inr (p, l, m)) = inr (omega arith)
+  state-words (inr (inl (p, l, m))) = inr (inl (omega arith))
+  state-words (inr (inr (p, l, m))) = inr (inr (omega arith))
 
-  words-state : ((1 ≤ w) × (w ≤ c)) ⊎ ((258 ≤ w) × (w ≤ 256 + c)) → GoodState c (stateOf w)
+  words-state : StateWord → GoodState c (stateOf w)
   unfolding stateOf
   words-state (inl r) = inl (omega arith, omega arith, omega arith)
-  words-state (inr r) = inr (omega arith, omega arith, omega arith)
+  words-state (inr (inl r)) = inr (inl (omega arith, omega arith, omega arith))
+  words-state (inr (inr r)) = inr (inr (omega arith, omega arith, omega arith))
 
 pub header-words : (t : Table) → GoodHeader (length t) (headerOf t) ↔ HeaderWords t
 unfolding headerOf wordsFor

@@ -8,7 +8,7 @@ use mathlib.Core.List.{[], _∷_, List·Memᴰ as In, List·Memᴰ·head as here
 use mathlib.Core.List.{List·Memᴰ·eq-of-singleton}
 use mathlib.Core.Logic.{_⊎_, inl, inr, ⊎-elim}
 use native.Mathlib.Omega.{arith}
-use native.Mathlib.Decide.{decLe}
+use native.Mathlib.Decide.{decLe, ℕ-discrete}
 use native.Mathlib.Nat.{sub-zero}
 use lib.ListN.{length, getD, drop}
 use lib.Pow.{pow-pos, pow-mono}
@@ -17,7 +17,7 @@ use Rattle.rules.specs.declared.State.{State}
 use Rattle.rules.specs.declared.Level.{Level}
 use Rattle.rules.proofs.Basics.Lists.{Ascending, ascending-compare}
 use Rattle.rules.proofs.Basics.Walks.{stands-at}
-use Rattle.rules.proofs.Words.States.{state-fits, interim-fits, interim-least}
+use Rattle.rules.proofs.Words.States.{state-fits, interim-fits}
 
 -- a level in use is the top, the bottom or, but for at rest, the interim level
 abbrev pub OfThree : State → Level → Type 0
@@ -139,18 +139,11 @@ earlier-level s (suc (suc n)) l other = absurd (most (atRest s) (rw (levels-coun
     most true l = omega arith
     most false l = other (omega arith)
 
--- so each has half the buckets of the one before, and its number for a name
-pub nth-halved : (c : ℕ) (s : State) → GoodState c s → (n : ℕ) → n < length (levelsInUse s)
-    → (n ≤ s .k) × (getD (levelsInUse s) n (topOf s) ≡ record { name = n; exponent = s .k - n })
+-- each has its number for a name
+pub nth-named : (s : State) (n : ℕ) → n < length (levelsInUse s) → getD (levelsInUse s) n (topOf s) .name ≡ n
 unfolding interimOf
-nth-halved c s good zero l = (omega arith, stands-at (topOf s) (levelsInUse s) 0 (earlier-level s 0 l (λ e. omega arith) .1))
-nth-halved c s good (suc zero) l =
-    (omega (arith, state-fits c s good), stands-at (topOf s) (levelsInUse s) 1 (earlier-level s 1 l (λ e. omega arith) .1))
-nth-halved c s good (suc (suc zero)) l =
-    let third = third-level s l in
-    (interim-least c s good (third .0), stands-at (topOf s) (levelsInUse s) 2 (third .1))
-nth-halved c s good (suc (suc (suc n))) l = absurd (most (atRest s) (rw (levels-counted s) at l))
+nth-named s n l = go (ℕ-discrete n 2)
   where
-    most : (b : Bool) → suc (suc (suc n)) < cond b 2 3 → ⊥
-    most true k = omega arith
-    most false k = omega arith
+    go : Dec (n ≡ 2) → getD (levelsInUse s) n (topOf s) .name ≡ n
+    go (yes e) = rw (e, stands-at (topOf s) (levelsInUse s) 2 (third-level s (rw e at l) .1))
+    go (no e) = rw (stands-at (topOf s) (levelsInUse s) n (earlier-level s n l e .1))

@@ -11,7 +11,7 @@ abbrev Inv-loop : tie.InvT-loop
 Inv-loop t list₀ key r letters i₀ list i = length list ≡ length list₀
 
 abbrev μ-loop : tie.MeasureT-loop
-μ-loop t list₀ key r letters i₀ list i = 7 - i
+μ-loop t list₀ key r letters i₀ list i = 9 - i
 
 query-requires : tie.Need-query-requires Inv-loop μ-loop
 query-requires c κs = search needs

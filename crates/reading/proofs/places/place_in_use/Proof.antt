@@ -1,9 +1,7 @@
 -- `reading::places::place_in_use` meets its contract.
 -- Assumes nothing.
-use mathlib.Core.Path.{ap}
 use borrow.Author.Needs.{needs}
-use Rattle.rules.specs.declared.Level.{Level}
-use Rattle.rules.proofs.Words.Levels.{nth-halved}
+use Rattle.rules.proofs.Words.Levels.{nth-named}
 use Rattle.reading.specs.Levels.{nthLevel}
 use Rattle.reading.proofs.Placed.{placed}
 use Rattle.reading.proofs.places.place_in_use.Statement.{statement}
@@ -18,8 +16,7 @@ place-from-requires c κs = search needs
 returns : tie.Need-returns
 returns c =
     let s = c .before .before in
-    let named = ap (λ (l : Level). l .name) (nth-halved 20 _ (s .pre .0) _ (s .pre .1) .1) in
-    placed (nthLevel (s .args .s) (s .args .n)) _ (c .before .nth-first .ensures .0) (rw named (c .place-from .ensures))
+    placed (nthLevel (s .args .s) (s .args .n)) _ (c .before .nth-first .ensures .0) (rw (nth-named _ _ (s .pre .1)) (c .place-from .ensures))
 
 pub place-in-use-spec : {M : Type 1} → statement M
 place-in-use-spec = tie.close (tie.spec nth-first-requires place-from-requires returns)

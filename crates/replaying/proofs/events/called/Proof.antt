@@ -40,17 +40,29 @@ begin-requires c κs = search needs
 enum-told-2 : tie.Need-enum-told-2
 enum-told-2 c = search needs
 
-step-requires : tie.Need-step-requires
-step-requires c κs = search needs
+shrink-requires : tie.Need-shrink-requires
+shrink-requires c κs = search needs
 
 enum-told-3 : tie.Need-enum-told-3
 enum-told-3 c = search needs
 
-end-requires : tie.Need-end-requires
-end-requires c κs = search needs
+back-requires : tie.Need-back-requires
+back-requires c κs = search needs
 
 enum-told-4 : tie.Need-enum-told-4
 enum-told-4 c = search needs
+
+step-requires : tie.Need-step-requires
+step-requires c κs = search needs
+
+enum-told-5 : tie.Need-enum-told-5
+enum-told-5 c = search needs
+
+end-requires : tie.Need-end-requires
+end-requires c κs = search needs
+
+enum-told-6 : tie.Need-enum-told-6
+enum-told-6 c = search needs
 
 recover-requires : tie.Need-recover-requires
 recover-requires c κs = search needs
@@ -86,19 +98,31 @@ same-length-5 : tie.Need-same-length-5
 same-length-5 c = search needs
 
 returns-6 : tie.Need-returns-6
-returns-6 c = let d = c .before .before in rw (d .before .before .enum-told2 .given .1) (called-change _ refl (step-changes (d .step .ensures)))
+returns-6 c = let d = c .before .before in rw (d .before .before .enum-told2 .given .1) (called-change _ refl (d .shrink .ensures))
 
 same-length-6 : tie.Need-same-length-6
 same-length-6 c = search needs
 
 returns-7 : tie.Need-returns-7
-returns-7 c = let d = c .before .before in rw (d .before .before .enum-told3 .given .1) (called-change _ refl (d .end .ensures))
+returns-7 c = let d = c .before .before in rw (d .before .before .enum-told3 .given .1) (called-change _ refl (d .back .ensures))
 
 same-length-7 : tie.Need-same-length-7
 same-length-7 c = search needs
 
 returns-8 : tie.Need-returns-8
-returns-8 c = let d = c .before .before in rw (d .before .before .enum-told4 .given .1) (called-change _ refl (d .recover .ensures))
+returns-8 c = let d = c .before .before in rw (d .before .before .enum-told4 .given .1) (called-change _ refl (step-changes (d .step .ensures)))
+
+same-length-8 : tie.Need-same-length-8
+same-length-8 c = search needs
+
+returns-9 : tie.Need-returns-9
+returns-9 c = let d = c .before .before in rw (d .before .before .enum-told5 .given .1) (called-change _ refl (d .end .ensures))
+
+same-length-9 : tie.Need-same-length-9
+same-length-9 c = search needs
+
+returns-10 : tie.Need-returns-10
+returns-10 c = let d = c .before .before in rw (d .before .before .enum-told6 .given .1) (called-change _ refl (d .recover .ensures))
 
 pub called-spec : {M : Type 1} → statement M
 called-spec =
@@ -115,10 +139,14 @@ called-spec =
     enum-told
     begin-requires
     enum-told-2
-    step-requires
+    shrink-requires
     enum-told-3
-    end-requires
+    back-requires
     enum-told-4
+    step-requires
+    enum-told-5
+    end-requires
+    enum-told-6
     recover-requires
     returns
     same-length
@@ -134,4 +162,8 @@ called-spec =
     same-length-6
     returns-7
     same-length-7
-    returns-8)
+    returns-8
+    same-length-8
+    returns-9
+    same-length-9
+    returns-10)
