@@ -168,7 +168,7 @@ static void must(const char *what, uint64_t number)
 static void make_room(struct collector *collector, struct counts *counts)
 {
     uint64_t number = grow_on(collector);
-    if (number == RAGANSILS_NOT_GROWING) {
+    if (number == RAGANSILS_NOT_RESIZING) {
         number = change_whole(collector, ragansils_begin);
         counts->growths++;
     }
@@ -192,7 +192,7 @@ static void learn(struct collector *collector, struct counts *counts, uint64_t k
     counts->inserted++;
     /* An insert pays for one part of a growth: left to wait, the interim items would find the new top full. */
     number = grow_on(collector);
-    if (number != RAGANSILS_NOT_GROWING && number != RAGANSILS_NO_PLACE)
+    if (number != RAGANSILS_NOT_RESIZING && number != RAGANSILS_NO_PLACE)
         must("growth", number);
 }
 

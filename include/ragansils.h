@@ -1,10 +1,10 @@
 /*
  * Ragansils: a position table in lent 64-bit words. Code address and inlining depth lead to a function and a place.
  *
- * The twelve functions of the static library `collector` (`rt staticlib collector` writes target/staticlib/libcollector.a), for C99
+ * The fourteen functions of the static library `collector` (`rt staticlib collector` writes target/staticlib/libcollector.a), for C99
  * and C++ on x86-64. Each is proved to end, to stay within its buffers and to answer as below on every input, however damaged the words
  * that it is lent; what each leaves in every buffer is part of that proof. On a sound table query, chain, insert, update and delete
- * answer as a plain map does, and growing keeps the map.
+ * answer as a plain map does, and growing and shrinking keep the map.
  *
  * A change goes in two parts. A changing call only reads the table: it lists its stores, in order, as pairs of a word's index and the
  * new word. The stores are then made, by ragansils_make or by a loop of yours; all of them make a sound table out of a sound one, and
@@ -38,24 +38,28 @@ extern "C" {
  */
 enum ragansils_refusal {
     RAGANSILS_DONE = 0,
-    RAGANSILS_BAD_HEADER = 1,      /* length, form, c, multipliers or state bad: all but create and make */
-    RAGANSILS_SHORT_LIST = 2,      /* list shorter than 20 words: the changing calls and recover */
-    RAGANSILS_FLAG_SET = 3,        /* update flag not 0, so recover first: all but create, make and recover */
-    RAGANSILS_KEY_PRESENT = 4,     /* insert */
-    RAGANSILS_KEY_ABSENT = 5,      /* query, update, delete; at some depth: chain */
-    RAGANSILS_NO_PLACE = 6,        /* insert: grow, or go without; step, step_from: no item there has a place, so delete something first */
-    RAGANSILS_ALREADY_GROWING = 7, /* begin */
-    RAGANSILS_NOT_GROWING = 8,     /* step, step_from, end */
-    RAGANSILS_AT_CAPACITY = 9,     /* k = c, the table cannot grow: begin */
-    RAGANSILS_INTERIM_TAKEN = 10,  /* interim not empty, so step first: end */
-    RAGANSILS_INTERIM_EMPTY = 11,  /* nothing left to move, so end: step; nothing from there on: step_from */
-    RAGANSILS_NO_KIND = 12,        /* none of the three kinds of table that recovery accepts: recover */
-    RAGANSILS_BAD_CREATION = 13,   /* c, first k (1 to c), length or a multiplier bad: create */
-    RAGANSILS_BAD_MAKING = 14,     /* n pairs are not in the list, or an index among them is outside the table: make */
-    RAGANSILS_SHORT_RECORDS = 15,  /* fewer than 2 (depth + 1) words lent for the records: chain */
-    RAGANSILS_BAD_POSITION = 16    /* address of 2^56 or more, or depth above 255: chain */
+    RAGANSILS_BAD_HEADER = 1,       /* length, form, c, multipliers or state bad: all but create and make */
+    RAGANSILS_SHORT_LIST = 2,       /* list shorter than 20 words: the changing calls and recover */
+    RAGANSILS_FLAG_SET = 3,         /* update flag not 0, so recover first: all but create, make and recover */
+    RAGANSILS_KEY_PRESENT = 4,      /* insert */
+    RAGANSILS_KEY_ABSENT = 5,       /* query, update, delete; at some depth: chain */
+    RAGANSILS_NO_PLACE = 6,         /* insert: grow, or go without; step, step_from: no item there has a place, so delete or turn back */
+    RAGANSILS_ALREADY_RESIZING = 7, /* the table is growing or shrinking: begin, shrink */
+    RAGANSILS_NOT_RESIZING = 8,     /* the table is at rest: back, step, step_from, end */
+    RAGANSILS_AT_CAPACITY = 9,      /* k = c, the table cannot grow: begin */
+    RAGANSILS_INTERIM_TAKEN = 10,   /* interim not empty, so step first: end */
+    RAGANSILS_INTERIM_EMPTY = 11,   /* nothing left to move, so end: step; nothing from there on: step_from */
+    RAGANSILS_NO_KIND = 12,         /* none of the three kinds of table that recovery accepts: recover */
+    RAGANSILS_BAD_CREATION = 13,    /* c, first k (1 to c), length or a multiplier bad: create */
+    RAGANSILS_BAD_MAKING = 14,      /* n pairs are not in the list, or an index among them is outside the table: make */
+    RAGANSILS_SHORT_RECORDS = 15,   /* fewer than 2 (depth + 1) words lent for the records: chain */
+    RAGANSILS_BAD_POSITION = 16,    /* address of 2^56 or more, or depth above 255: chain */
+    RAGANSILS_TOO_SMALL = 17        /* k = 1, the table cannot shrink: shrink */
 };
-/* Where several would hold: 1, 2, 3, then the rest; insert 4 before 6, begin 7 before 9, the steps and end 8 first, chain 16, 15, 5. */
+/*
+ * Where several would hold: 1, 2, 3, then the rest; insert 4 before 6, begin 7 before 9, shrink 7 before 17, back, the steps and end 8 first,
+ * chain 16, 15, 5.
+ */
 
 /* The capacity exponent c is 1 to this. */
 #define RAGANSILS_LARGEST_CAPACITY 20
@@ -78,7 +82,10 @@ enum ragansils_refusal {
 /* The words of a query's answer: function, place, number of buckets looked at, word and level. */
 #define RAGANSILS_ANSWER_WORDS 5
 
-/* The levels of a table, in the order in which they are looked at. There is an interim level only while the table grows. */
+/*
+ * The levels of a table, in the order in which they are looked at. The bottom has half as many buckets as the top. There is an interim level
+ * only while the table grows or shrinks: it has a quarter as many as the top while it grows, and twice as many while it shrinks.
+ */
 enum ragansils_level {
     RAGANSILS_TOP = 0,
     RAGANSILS_BOTTOM = 1,
@@ -118,9 +125,9 @@ uint64_t ragansils_create(uint64_t *table, size_t words, uint64_t c, uint64_t k,
 
 /*
  * Looks a key up. answer[0] is its function, answer[1] its place, answer[2] the number of buckets looked at, at most four, or six while
- * the table grows. Where that record stands: answer[3] is the index of the word of the table that holds the key, and the two words after
- * it hold function and place; answer[4] is the level (enum ragansils_level). Where the key stands twice, as a cut may leave it, this is the
- * slot that is looked at first. The next change may move the key.
+ * the table grows or shrinks. Where that record stands: answer[3] is the index of the word of the table that holds the key, and the two
+ * words after it hold function and place; answer[4] is the level (enum ragansils_level). Where the key stands twice, as a cut may leave it,
+ * this is the slot that is looked at first. The next change may move the key.
  *
  * With refusal 5 answer[2] is the number of all buckets where the key may stand, and the other four are 0; with 1 or 3 all five are 0. So
  * a refusal tells no slot: word 0 is never a slot's, since the header begins there.
@@ -130,7 +137,8 @@ uint64_t ragansils_query(const uint64_t *table, size_t words, uint64_t key, uint
 /*
  * Looks up the frames at an address, the innermost first: the record of this depth, then of each smaller one down to 0, as queries of
  * their keys would find them. Each is two words, function and place. They go to the first 2 (depth + 1) words of records, and the rest
- * stays. *buckets is the sum of what the queries look at: at most 4 (depth + 1), or 6 (depth + 1) while the table grows.
+ * stays. *buckets is the sum of what the queries look at: at most 4 (depth + 1), or 6 (depth + 1) while the table grows or
+ * shrinks.
  *
  * With refusal 5, at the first depth that has no record, *buckets is the sum down to that depth, its own query included; with 1, 3, 16
  * or 15 it is 0. No refusal changes records. The table is only read.
@@ -139,7 +147,7 @@ uint64_t ragansils_chain(const uint64_t *table, size_t words, uint64_t address, 
                          uint64_t *buckets);
 
 /*
- * The eight functions below list stores. On success *stores is their number, at most ten, the first 2 * *stores words of the list hold
+ * The ten functions below list stores. On success *stores is their number, at most ten, the first 2 * *stores words of the list hold
  * them, each as its word's index in the table and the new word, and the rest of the list stays. On refusal *stores is 0 and the list
  * stays. The table is only read. (Of step_from, answer[0] is what *stores is of the others.)
  */
@@ -163,10 +171,28 @@ uint64_t ragansils_delete(const uint64_t *table, size_t words, uint64_t key, uin
 
 /*
  * Growth begins: a new top of twice the size; the old top becomes the bottom, the old bottom the interim level: 1 store. The map stays.
- * From N top buckets, begin, the steps of both kinds and end take at most 20 N + 2 stores together, whatever but create is called between,
- * if all stores that are listed are made. Refusals 1 to 3, 7, 9.
+ * From N top buckets, begin, the steps of both kinds and end take at most 20 N + 2 stores together, whatever but create and back is called
+ * between, if all stores that are listed are made. Refusals 1 to 3, 7, 9.
  */
 uint64_t ragansils_begin(const uint64_t *table, size_t words, uint64_t *list, size_t list_words, uint64_t *stores);
+
+/*
+ * Shrinking begins: the old bottom becomes the top, the old top the interim level, and the new bottom is a level of a quarter of the old
+ * top: 1 store. The map stays. Steps and end are those of a growth. From N top buckets, shrink, the steps of both kinds and end take at most
+ * 40 N + 2 stores together, under the same premises. Refusals 1 to 3, 7, 17.
+ *
+ * The table has half as many slots afterwards. With more items than that a shrink is stuck for certain, and with nearly as many it may be: a
+ * step is refused with 6. Nothing is lost, and every other call goes on working. There are three ways on: turn back, by ragansils_back; delete,
+ * and step again; or leave the table as it is until deletes come by themselves.
+ */
+uint64_t ragansils_shrink(const uint64_t *table, size_t words, uint64_t *list, size_t list_words, uint64_t *stores);
+
+/*
+ * Turns back: a table that shrinks grows, and one that grows shrinks, over the same three levels: 1 store. The map stays. Of a shrink the
+ * interim level becomes the top again, with the slots that its steps have freed there, and the bottom the interim level; of a growth it is
+ * the other way round. Steps and end then go on as ever. Turning back twice gives the state before. Refusals 1 to 3, 8.
+ */
+uint64_t ragansils_back(const uint64_t *table, size_t words, uint64_t *list, size_t list_words, uint64_t *stores);
 
 /*
  * The first item of the interim level that has a place in top or bottom moves there: 5 stores, or 10 where another item has to move
@@ -174,7 +200,7 @@ uint64_t ragansils_begin(const uint64_t *table, size_t words, uint64_t *list, si
  * none has a place; 11, where none is left. Refusals 1 to 3, 6, 8, 11.
  *
  * It looks for that item from the first interim bucket on, past all that earlier steps have emptied and all items without a place. So a
- * whole growth from N top buckets that takes this step alone is quadratic: begun at load 0.8, on an Intel Xeon, it took 0.21 ms for
+ * whole growth or shrink that takes this step alone is quadratic: a growth from N top buckets, begun at load 0.8, took on an Intel Xeon 0.21 ms for
  * N = 1,024, 42 ms for 16,384 and 206 s for 524,288. ragansils_step_from goes on where the last step was, and is linear.
  *
  * A step that is refused with 6 has tried every interim item, so it is costly: with top and bottom full it took about 0.05 ms for 450
@@ -193,17 +219,17 @@ uint64_t ragansils_step(const uint64_t *table, size_t words, uint64_t *list, siz
  *
  * On a sound table no step gives a place to an interim item that had none. So where no other call comes between, one pass, from 0 and on
  * from each bucket told, places all items that have a place. Begin again at 0 only where another call has changed the table since: a delete may have made
- * room for an item that the pass left behind. That is early enough when the pass has ended, with 11 or 6; done after each delete, the growth
+ * room for an item that the pass left behind. That is early enough when the pass has ended, with 11 or 6; done after each delete, the whole
  * is quadratic again. A wrong start costs time or leaves items for later, and never makes a wrong table. So the bucket may be forgotten at any time,
- * and 0 is right after a restart, recover, begin and end.
+ * and 0 is right after a restart, recover, begin, shrink, back and end.
  *
- * A whole growth that goes on from the bucket told is linear in the table: a pass of s steps over M interim buckets looks at no more than
- * M + s of them. One that always steps from 0 is quadratic.
+ * A whole growth or shrink that goes on from the bucket told is linear in the table: a pass of s steps over M interim buckets looks at no
+ * more than M + s of them. One that always steps from 0 is quadratic.
  */
 uint64_t ragansils_step_from(const uint64_t *table, size_t words, uint64_t from, uint64_t *list, size_t list_words,
                              uint64_t answer[RAGANSILS_STEP_FROM_WORDS]);
 
-/* Growth ends, once the interim level is empty: 1 store. The map stays. Refusals 1 to 3, 8, 10. */
+/* Growth or shrinking ends, once the interim level is empty: 1 store. The map stays. Refusals 1 to 3, 8, 10. */
 uint64_t ragansils_end(const uint64_t *table, size_t words, uint64_t *list, size_t list_words, uint64_t *stores);
 
 /*

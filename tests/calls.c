@@ -1,7 +1,7 @@
 /*
- * Calls each of the twelve functions through include/ragansils.h, and meets each refusal number: the ten of document 01, the paper that
- * fixes the table, on its marked examples, the chain, and the step that goes on. The answers differ for any two arguments taken for each
- * other. Says how many checks there were; exit status 0 only where all held.
+ * Calls each of the fourteen functions through include/ragansils.h, and meets each refusal number: the ten of document 01, the paper that
+ * fixes the table, on its marked examples, the chain, the step that goes on, shrink and back. The answers differ for any two arguments taken
+ * for each other. Says how many checks there were; exit status 0 only where all held.
  */
 #include <inttypes.h>
 #include <stdio.h>
@@ -26,7 +26,7 @@
 #define NO_ADDRESS (UINT64_C(1) << 56)
 
 /* A run with fewer has left something out. */
-#define LEAST_CHECKS 530
+#define LEAST_CHECKS 860
 
 static uint64_t table[WORDS], list[LENT_LIST], stores, bucket, lent[AROUND + LONGEST_CHAIN + AROUND];
 static uint64_t *const records = lent + AROUND;
@@ -55,7 +55,7 @@ static void untouch(uint64_t *words, size_t length)
         words[i] = UNTOUCHED;
 }
 
-/* ---- the eight calls that list stores, under one type ---- */
+/* ---- the ten calls that list stores, under one type ---- */
 
 struct change {
     const char *name;
@@ -85,6 +85,8 @@ static uint64_t call_delete(size_t words, size_t list_words, uint64_t key, uint6
         return ragansils_##name(table, words, list, list_words, &stores);                                                             \
     }
 WHOLE_TABLE_CALL(begin)
+WHOLE_TABLE_CALL(shrink)
+WHOLE_TABLE_CALL(back)
 WHOLE_TABLE_CALL(step)
 WHOLE_TABLE_CALL(end)
 WHOLE_TABLE_CALL(recover)
@@ -104,7 +106,8 @@ static uint64_t call_step_from(size_t words, size_t list_words, uint64_t key, ui
 
 static const struct change INSERT = { "insert", call_insert }, UPDATE = { "update", call_update }, DELETE = { "delete", call_delete },
                            BEGIN = { "begin", call_begin }, STEP = { "step", call_step }, END = { "end", call_end },
-                           RECOVER = { "recover", call_recover }, STEP_FROM = { "step_from", call_step_from };
+                           RECOVER = { "recover", call_recover }, STEP_FROM = { "step_from", call_step_from },
+                           SHRINK = { "shrink", call_shrink }, BACK = { "back", call_back };
 
 /* Makes the call with a fresh list, and checks that it answers so, lists these words and leaves the rest. */
 static void listed(struct change change, uint64_t key, uint64_t function, uint64_t place, uint64_t number, uint64_t count,
@@ -143,6 +146,15 @@ static void insert_keys(uint64_t first, uint64_t last, uint64_t apart)
 {
     for (uint64_t key = first; key <= last; key += apart)
         made(INSERT, key, 100 + key, 200 + key);
+}
+
+/* Each of these keys has the record that insert_keys gave it. */
+static void all_there(uint64_t first, uint64_t last, uint64_t apart)
+{
+    uint64_t answer[RAGANSILS_ANSWER_WORDS];
+    for (uint64_t key = first; key <= last; key += apart)
+        check(ragansils_query(table, WORDS, key, answer) == RAGANSILS_DONE && answer[0] == 100 + key && answer[1] == 200 + key,
+              "a key that was there before");
 }
 
 /* Asks for a key, and checks that the answer is just this. */
@@ -246,7 +258,7 @@ static void cut_update(void)
     listed(UPDATE, 1, 30, 40, RAGANSILS_DONE, 7, e6);
     ragansils_make(table, WORDS, list, LENT_LIST, 5);
     not_found(1, RAGANSILS_FLAG_SET, 0);
-    const struct change flag_refuses[] = { INSERT, UPDATE, DELETE, BEGIN, STEP, STEP_FROM, END };
+    const struct change flag_refuses[] = { INSERT, UPDATE, DELETE, BEGIN, SHRINK, BACK, STEP, STEP_FROM, END };
     for (size_t i = 0; i < sizeof flag_refuses / sizeof *flag_refuses; i++)
         refused(flag_refuses[i], 1, RAGANSILS_FLAG_SET);
     listed(RECOVER, 0, 0, 0, RAGANSILS_DONE, 3, e7);
@@ -264,12 +276,14 @@ static void growth(void)
     fresh_table();
     insert_keys(1, 15, 2);
     refused(INSERT, 17, RAGANSILS_NO_PLACE);
-    refused(STEP, 0, RAGANSILS_NOT_GROWING);
-    refused(STEP_FROM, 0, RAGANSILS_NOT_GROWING);
-    refused(END, 0, RAGANSILS_NOT_GROWING);
+    const struct change rest_refuses[] = { BACK, STEP, STEP_FROM, END };
+    for (size_t i = 0; i < sizeof rest_refuses / sizeof *rest_refuses; i++)
+        refused(rest_refuses[i], 0, RAGANSILS_NOT_RESIZING);
+    refused(SHRINK, 0, RAGANSILS_TOO_SMALL);
     listed(BEGIN, 0, 0, 0, RAGANSILS_DONE, 1, begun);
     made(BEGIN, 0, 0, 0);
-    refused(BEGIN, 0, RAGANSILS_ALREADY_GROWING);
+    refused(BEGIN, 0, RAGANSILS_ALREADY_RESIZING);
+    refused(SHRINK, 0, RAGANSILS_ALREADY_RESIZING);
     refused(END, 0, RAGANSILS_INTERIM_TAKEN);
     listed(STEP, 0, 0, 0, RAGANSILS_DONE, 5, moved);
     listed(STEP_FROM, 0, 0, 0, RAGANSILS_DONE, 5, moved);
@@ -281,8 +295,57 @@ static void growth(void)
     listed(END, 0, 0, 0, RAGANSILS_DONE, 1, ended);
     made(END, 0, 0, 0);
     refused(BEGIN, 0, RAGANSILS_AT_CAPACITY);
-    for (uint64_t key = 1; key <= 15; key += 2)
-        check(ragansils_query(table, WORDS, key, list) == RAGANSILS_DONE && list[0] == 100 + key && list[1] == 200 + key, "grown");
+    all_there(1, 15, 2);
+}
+
+/* The table of that growth, shrunk again. What was the top is the interim level, of four buckets, and is looked at last. */
+static void shrinking(void)
+{
+    const uint64_t begun[] = { 4, 513 }, moved[] = { 10, 9, 11, 109, 12, 209, 9, 1, 61, 2 }, ended[] = { 4, 1 };
+    growth();
+    listed(SHRINK, 0, 0, 0, RAGANSILS_DONE, 1, begun);
+    made(SHRINK, 0, 0, 0);
+    /* k is 1 now: being under way comes before being too small. */
+    refused(SHRINK, 0, RAGANSILS_ALREADY_RESIZING);
+    refused(BEGIN, 0, RAGANSILS_ALREADY_RESIZING);
+    found(3, 103, 203, 1, 39, RAGANSILS_TOP);
+    found(9, 109, 209, 3, 62, RAGANSILS_INTERIM);
+    not_found(17, RAGANSILS_KEY_ABSENT, 4);
+    listed(STEP, 0, 0, 0, RAGANSILS_DONE, 5, moved);
+    listed(STEP_FROM, 1, 0, 0, RAGANSILS_DONE, 5, moved);
+    check(bucket == 1, "the bucket told");
+    refused(STEP_FROM, 4, RAGANSILS_INTERIM_EMPTY);
+    for (int items = 4; items > 0; items--)
+        made(STEP, 0, 0, 0);
+    found(9, 109, 209, 2, 10, RAGANSILS_BOTTOM);
+    refused(STEP, 0, RAGANSILS_INTERIM_EMPTY);
+    listed(END, 0, 0, 0, RAGANSILS_DONE, 1, ended);
+    made(END, 0, 0, 0);
+    refused(SHRINK, 0, RAGANSILS_TOO_SMALL);
+    all_there(1, 15, 2);
+}
+
+/* A shrink of 16 items, for which the smaller table has 12 slots: it is stuck, and turned back. */
+static void stuck_shrink(void)
+{
+    const uint64_t to_growth[] = { 4, 258 }, to_shrink[] = { 4, 513 };
+    untouch(table, WORDS);
+    check(ragansils_create(table, WORDS, 2, 2, MUL1, MUL2) == RAGANSILS_DONE, "create");
+    insert_keys(0, 15, 1);
+    made(SHRINK, 0, 0, 0);
+    while (call_step(WORDS, LENT_LIST, 0, 0, 0) == RAGANSILS_DONE)
+        ragansils_make(table, WORDS, list, LENT_LIST, stores);
+    refused(STEP, 0, RAGANSILS_NO_PLACE);
+    refused(END, 0, RAGANSILS_INTERIM_TAKEN);
+    listed(BACK, 0, 0, 0, RAGANSILS_DONE, 1, to_growth);
+    made(BACK, 0, 0, 0);
+    listed(BACK, 0, 0, 0, RAGANSILS_DONE, 1, to_shrink);
+    while (call_step(WORDS, LENT_LIST, 0, 0, 0) == RAGANSILS_DONE)
+        ragansils_make(table, WORDS, list, LENT_LIST, stores);
+    refused(STEP, 0, RAGANSILS_INTERIM_EMPTY);
+    made(END, 0, 0, 0);
+    check(table[4] == 2, "the state before the shrink");
+    all_there(0, 15, 1);
 }
 
 /* Of the keys 1, 3, .. 15 the first four fill a bucket of the top, and the others the bottom, which a growth makes the interim level. */
@@ -382,13 +445,17 @@ static void refused_chains(void)
     chained(NO_ADDRESS, 256, 0, RAGANSILS_BAD_HEADER, 0, NULL);
 }
 
-static void chain_while_growing(void)
+static void chain_while_resizing(void)
 {
     const uint64_t four[] = { 103, 203, 102, 202, 101, 201, 100, 200 };
     table_with_chains();
     made(BEGIN, 0, 0, 0);
     /* An odd key has two buckets of the new top, an even one has one; the old top is the bottom now. */
     chained(0, 3, 8, RAGANSILS_DONE, 3 + 2 + 3 + 2, four);
+    chained(0, 5, 12, RAGANSILS_KEY_ABSENT, 4, NULL);
+    made(BACK, 0, 0, 0);
+    /* The old top is the top again, and the new one is looked at last, for what is in no other level. */
+    chained(0, 3, 8, RAGANSILS_DONE, 1 + 1 + 1 + 1, four);
     chained(0, 5, 12, RAGANSILS_KEY_ABSENT, 4, NULL);
 }
 
@@ -420,7 +487,7 @@ static void longest_chain(void)
 /* That each length is taken for the length of its own buffer. */
 static void lengths(void)
 {
-    const struct change all[] = { INSERT, UPDATE, DELETE, BEGIN, STEP, STEP_FROM, END, RECOVER };
+    const struct change all[] = { INSERT, UPDATE, DELETE, BEGIN, SHRINK, BACK, STEP, STEP_FROM, END, RECOVER };
     uint64_t answer[RAGANSILS_ANSWER_WORDS], pair[] = { WORDS - 1, 7 };
     fresh_table();
     untouch(list, LENT_LIST);
@@ -445,14 +512,16 @@ int main(void)
     one_position();
     cut_update();
     growth();
+    shrinking();
+    stuck_shrink();
     where_keys_stand();
     steps_that_go_on();
     chains();
     refused_chains();
-    chain_while_growing();
+    chain_while_resizing();
     longest_chain();
     lengths();
-    if (printf("%u checks of the twelve functions from C, %u failed\n", checks, failures) < 0 || fflush(stdout) != 0) {
+    if (printf("%u checks of the fourteen functions from C, %u failed\n", checks, failures) < 0 || fflush(stdout) != 0) {
         fprintf(stderr, "calls: standard output could not be written\n");
         return 1;
     }

@@ -14,7 +14,7 @@ fn main() {
     Library {
         name: "twin",
         compiler: &format!("{compiler} -std=c11 -pedantic"),
-        sources: &["c/changes.c", "c/growth.c", "c/listing.c", "c/placing.c", "c/recovery.c"],
+        sources: &["c/changes.c", "c/listing.c", "c/placing.c", "c/recovery.c", "c/resizing.c"],
         include: Path::new("../../include"),
     }
     .build();

@@ -25,10 +25,11 @@ static inline unsigned slot_with(const struct bucket *b, uint64_t key)
 
 static inline struct found find(const struct table *t, uint64_t key, struct hashes x)
 {
-    unsigned probes = 0, k = top_exponent(t), levels = levels_in_use(t);
+    unsigned probes = 0, levels = levels_in_use(t);
     for (unsigned level = 0; level < levels; level++) {
-        const struct bucket *first = &t->buckets[place_of(x.first, k - level)];
-        const struct bucket *second = &t->buckets[place_of(x.second, k - level)];
+        unsigned e = level_exponent(t, level);
+        const struct bucket *first = &t->buckets[place_of(x.first, e)];
+        const struct bucket *second = &t->buckets[place_of(x.second, e)];
         probes++;
         unsigned s = slot_with(first, key);
         if (s < SLOTS)

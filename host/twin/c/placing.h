@@ -1,4 +1,4 @@
-/* Where a new item goes, by "Placing" of document 01, the paper that fixes the table; used by insert and by the growth step. */
+/* Where a new item goes, by "Placing" of document 01, the paper that fixes the table; used by insert and by the steps. */
 #ifndef RAGANSILS_TWIN_PLACING_H
 #define RAGANSILS_TWIN_PLACING_H
 

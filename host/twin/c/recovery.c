@@ -9,12 +9,24 @@ struct scan {
     struct spot earlier, later; /* the last pair met */
 };
 
+/* The levels in use have 2^e buckets, for each e from the least exponent to the greatest: the interim level lies next to one of the
+ * others, as the smallest of them or as the largest. */
+static unsigned least_exponent(const struct table *t)
+{
+    return phase_of(t) == GROWING ? interim_exponent(t) : top_exponent(t) - 1;
+}
+
+static unsigned greatest_exponent(const struct table *t)
+{
+    return phase_of(t) == SHRINKING ? interim_exponent(t) : top_exponent(t);
+}
+
 /* "every token word at most 15, and 0 in levels not in use" */
 static bool tokens_good(const struct table *t)
 {
-    unsigned k = top_exponent(t), least = k + 1 - levels_in_use(t);
     for (unsigned e = 0; e <= t->c; e++) {
-        uint64_t greatest = least <= e && e <= k ? ALL_TAKEN : 0;
+        bool in_use = least_exponent(t) <= e && e <= greatest_exponent(t);
+        uint64_t greatest = in_use ? ALL_TAKEN : 0;
         size_t size = (size_t)1 << e;
         for (size_t i = size - 1; i < 2 * size - 1; i++)
             if (t->buckets[i].token > greatest)
@@ -23,18 +35,19 @@ static bool tokens_good(const struct table *t)
     return true;
 }
 
-/* The exponent of the level that a bucket belongs to. */
-static unsigned exponent_of(const struct table *t, const struct bucket *b)
+/* The level in use that a bucket belongs to. */
+static enum ragansils_level level_of(const struct table *t, const struct bucket *b)
 {
-    return 63 - __builtin_clzll((uint64_t)(b - t->buckets) + 1);
+    unsigned e = 63 - __builtin_clzll((uint64_t)(b - t->buckets) + 1), k = top_exponent(t);
+    return e == k ? RAGANSILS_TOP : e == k - 1 ? RAGANSILS_BOTTOM : RAGANSILS_INTERIM;
 }
 
 /* "by top, bottom, interim, then bucket and slot ascending" */
 static bool comes_before(const struct table *t, struct spot x, struct spot y)
 {
-    unsigned e = exponent_of(t, x.bucket), f = exponent_of(t, y.bucket);
-    if (e != f)
-        return e > f;
+    enum ragansils_level of_x = level_of(t, x.bucket), of_y = level_of(t, y.bucket);
+    if (of_x != of_y)
+        return of_x < of_y;
     return x.bucket != y.bucket ? x.bucket < y.bucket : x.slot < y.slot;
 }
 
@@ -76,8 +89,7 @@ static bool same_record(struct spot a, struct spot b)
 /* "word 6 the key word of a taken slot in a level in use" */
 static struct slot *flagged_slot(struct table *t)
 {
-    unsigned k = top_exponent(t);
-    size_t lowest = ((size_t)1 << (k + 1 - levels_in_use(t))) - 1, end = ((size_t)2 << k) - 1;
+    size_t lowest = ((size_t)1 << least_exponent(t)) - 1, end = ((size_t)2 << greatest_exponent(t)) - 1;
     uint64_t offset = (t->target - HEADER_WORDS) % BUCKET_WORDS, number = (t->target - HEADER_WORDS) / BUCKET_WORDS;
     if (t->target < HEADER_WORDS || number < lowest || number >= end || offset % SLOT_WORDS != 1)
         return NULL;
@@ -105,7 +117,7 @@ uint64_t twin_recover(uint64_t *table, size_t words)
     struct scan scan = {0};
     bool good = t->flag <= 1 && tokens_good(t);
     for (unsigned level = 0; good && level < levels_in_use(t); level++)
-        good = scan_level(&scan, t, top_exponent(t) - level);
+        good = scan_level(&scan, t, level_exponent(t, level));
     if (!good || scan.pairs > 1 - t->flag)
         return RAGANSILS_NO_KIND;
     if (t->flag == 1)

@@ -10,6 +10,8 @@
 
 enum { SLOTS = 4, ALL_TAKEN = 15, PHASE_UNIT = 256 };
 
+enum phase { AT_REST, GROWING, SHRINKING };
+
 struct slot {
     uint64_t key, function, place;
 };
@@ -54,15 +56,33 @@ static inline unsigned top_exponent(const struct table *t)
     return t->state % PHASE_UNIT;
 }
 
-static inline bool is_growing(const struct table *t)
+static inline enum phase phase_of(const struct table *t)
 {
-    return t->state >= PHASE_UNIT;
+    return t->state / PHASE_UNIT;
 }
 
-/* Top and bottom, and the interim level while growing. */
+/* Growing or shrinking. */
+static inline bool is_resizing(const struct table *t)
+{
+    return phase_of(t) != AT_REST;
+}
+
+/* Top and bottom, and the interim level of a table that is resizing. */
 static inline unsigned levels_in_use(const struct table *t)
 {
-    return is_growing(t) ? 3 : 2;
+    return is_resizing(t) ? 3 : 2;
+}
+
+/* The interim level has 2^e buckets: a quarter of the top while growing, and twice the top while shrinking. */
+static inline unsigned interim_exponent(const struct table *t)
+{
+    return phase_of(t) == GROWING ? top_exponent(t) - 2 : top_exponent(t) + 1;
+}
+
+/* A level in use (enum ragansils_level) has 2^e buckets. */
+static inline unsigned level_exponent(const struct table *t, unsigned level)
+{
+    return level == RAGANSILS_INTERIM ? interim_exponent(t) : top_exponent(t) - level;
 }
 
 static inline bool header_good(const struct table *t, size_t words)
@@ -70,7 +90,8 @@ static inline bool header_good(const struct table *t, size_t words)
     if (words < HEADER_WORDS || words != RAGANSILS_WORDS(t->c) || t->form != 1 || !both_odd(t->mul1, t->mul2))
         return false;
     uint64_t k = t->state % PHASE_UNIT, phase = t->state / PHASE_UNIT;
-    return phase <= 1 && k > phase && k <= t->c;
+    uint64_t least = phase == GROWING ? 2 : 1, greatest = phase == SHRINKING ? t->c - 1 : t->c;
+    return phase <= SHRINKING && least <= k && k <= greatest;
 }
 
 /* The tests that come before all others: 1, then 3. */

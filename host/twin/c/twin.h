@@ -24,6 +24,8 @@ uint64_t twin_update(uint64_t *table, size_t words, uint64_t key, uint64_t funct
 uint64_t twin_delete(uint64_t *table, size_t words, uint64_t key);
 
 uint64_t twin_begin(uint64_t *table, size_t words);
+uint64_t twin_shrink(uint64_t *table, size_t words);
+uint64_t twin_back(uint64_t *table, size_t words);
 uint64_t twin_step(uint64_t *table, size_t words);
 uint64_t twin_end(uint64_t *table, size_t words);
 

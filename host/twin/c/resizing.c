@@ -1,11 +1,11 @@
-/* Growth in small steps: begin, the two steps and end. */
+/* Growth and shrinking in small steps: begin, shrink, back, the two steps and end. */
 #include "placing.h"
 #include "table.h"
 #include "twin.h"
 
 static inline size_t interim_size(const struct table *t)
 {
-    return (size_t)1 << (top_exponent(t) - 2);
+    return (size_t)1 << interim_exponent(t);
 }
 
 /* The first taken interim slot that is not before `from`, by bucket, then slot. */
@@ -34,26 +34,63 @@ static inline struct spot first_interim_from(struct table *t, uint64_t from)
     return interim_from(t, (struct spot){first_interim_bucket(t) + from, 0});
 }
 
-/* The first tests of the steps and of end: then 8. */
-static inline enum ragansils_refusal growing_tests(const struct table *t, size_t words)
+/* The first tests of begin and shrink: then 7. */
+static inline enum ragansils_refusal rest_tests(const struct table *t, size_t words)
 {
     enum ragansils_refusal refusal = first_tests(t, words);
     if (refusal != RAGANSILS_DONE)
         return refusal;
-    return is_growing(t) ? RAGANSILS_DONE : RAGANSILS_NOT_GROWING;
+    return is_resizing(t) ? RAGANSILS_ALREADY_RESIZING : RAGANSILS_DONE;
+}
+
+/* The first tests of back, the steps and end: then 8. */
+static inline enum ragansils_refusal resizing_tests(const struct table *t, size_t words)
+{
+    enum ragansils_refusal refusal = first_tests(t, words);
+    if (refusal != RAGANSILS_DONE)
+        return refusal;
+    return is_resizing(t) ? RAGANSILS_DONE : RAGANSILS_NOT_RESIZING;
+}
+
+static inline void set_state(struct table *t, unsigned k, enum phase phase)
+{
+    t->state = k + PHASE_UNIT * phase;
 }
 
 uint64_t twin_begin(uint64_t *table, size_t words)
 {
     struct table *t = (struct table *)table;
-    enum ragansils_refusal refusal = first_tests(t, words);
+    enum ragansils_refusal refusal = rest_tests(t, words);
     if (refusal != RAGANSILS_DONE)
         return refusal;
-    if (is_growing(t))
-        return RAGANSILS_ALREADY_GROWING;
     if (top_exponent(t) == t->c)
         return RAGANSILS_AT_CAPACITY;
-    t->state = top_exponent(t) + 1 + PHASE_UNIT;
+    set_state(t, top_exponent(t) + 1, GROWING);
+    return RAGANSILS_DONE;
+}
+
+uint64_t twin_shrink(uint64_t *table, size_t words)
+{
+    struct table *t = (struct table *)table;
+    enum ragansils_refusal refusal = rest_tests(t, words);
+    if (refusal != RAGANSILS_DONE)
+        return refusal;
+    if (top_exponent(t) < 2)
+        return RAGANSILS_TOO_SMALL;
+    set_state(t, top_exponent(t) - 1, SHRINKING);
+    return RAGANSILS_DONE;
+}
+
+uint64_t twin_back(uint64_t *table, size_t words)
+{
+    struct table *t = (struct table *)table;
+    enum ragansils_refusal refusal = resizing_tests(t, words);
+    if (refusal != RAGANSILS_DONE)
+        return refusal;
+    if (phase_of(t) == GROWING)
+        set_state(t, top_exponent(t) - 1, SHRINKING);
+    else
+        set_state(t, top_exponent(t) + 1, GROWING);
     return RAGANSILS_DONE;
 }
 
@@ -61,7 +98,7 @@ uint64_t twin_step_from(uint64_t *table, size_t words, uint64_t from, uint64_t *
 {
     struct table *t = (struct table *)table;
     *bucket = 0;
-    enum ragansils_refusal refusal = growing_tests(t, words);
+    enum ragansils_refusal refusal = resizing_tests(t, words);
     if (refusal != RAGANSILS_DONE)
         return refusal;
     struct spot spot = first_interim_from(t, from);
@@ -90,11 +127,11 @@ uint64_t twin_step(uint64_t *table, size_t words)
 uint64_t twin_end(uint64_t *table, size_t words)
 {
     struct table *t = (struct table *)table;
-    enum ragansils_refusal refusal = growing_tests(t, words);
+    enum ragansils_refusal refusal = resizing_tests(t, words);
     if (refusal != RAGANSILS_DONE)
         return refusal;
     if (first_interim_from(t, 0).bucket != NULL)
         return RAGANSILS_INTERIM_TAKEN;
-    t->state = top_exponent(t);
+    set_state(t, top_exponent(t), AT_REST);
     return RAGANSILS_DONE;
 }
