@@ -1,11 +1,12 @@
-//! Reading ahead in a growth: the processor is told which buckets the next items may move to, so that these are on their way out of memory
+//! Reading ahead in a growth or a shrink: the processor is told which buckets the next items may move to, so that these are on their way out of memory
 //! when the steps come that ask for them. It is a mere hint: no answer and no store depends on it.
 
 use std::arch::x86_64::{_mm_prefetch, _MM_HINT_T0};
 
+use crate::phase::State;
+
 // As document 01, the paper that fixes the table, lays its words out.
 const MULTIPLIERS: [usize; 2] = [2, 3];
-const STATE: usize = 4;
 const HEADER_WORDS: usize = 9;
 const BUCKET_WORDS: usize = 13;
 const SLOT_WORDS: usize = 3;
@@ -31,11 +32,11 @@ pub(crate) fn read_ahead(words: &[u64], last: u64, bucket: u64) {
 
 /// Asks for the top buckets of the items of an interim bucket, counted from 0 in the level.
 fn ask_for_items(words: &[u64], bucket: u64) {
-    let k = words.get(STATE).map_or(0, |state| state & 0xff);
-    if !(2..=LARGEST_K).contains(&k) || bucket >= 1 << (k - 2) {
-        return;
-    }
-    let (top, interim) = (1 << k, 1 << (k - 2));
+    let exponents = State::of(words).and_then(|state| Some((state.k, state.interim_exponent()?)));
+    let (top, interim) = match exponents {
+        Some((k, e)) if k.max(e) <= LARGEST_K && bucket < 1 << e => (1 << k, 1 << e),
+        _ => return,
+    };
     let items = match words.get(first_word(interim, bucket)..first_word(interim, bucket + 1)) {
         Some(items) => items,
         None => return,
@@ -69,11 +70,11 @@ mod tests {
     #[test]
     fn any_words_and_buckets_may_be_handed_in() {
         let lengths = [0, 1, 4, 5, 9, 22, 100, 412];
-        let states = [0, 1, 2, 258, 259, 260, 276, 277, u64::MAX];
+        let states = [0, 1, 2, 257, 258, 259, 260, 276, 277, 512, 513, 514, 531, 532, 767, u64::MAX];
         let buckets = [0, 1, 2, 7, 1 << 18, u64::MAX - 1, u64::MAX];
         for (length, state) in lengths.into_iter().flat_map(|length| states.map(|state| (length, state))) {
             let mut words = vec![u64::MAX; length];
-            words.iter_mut().skip(STATE).take(1).for_each(|word| *word = state);
+            words.iter_mut().skip(4).take(1).for_each(|word| *word = state);
             for (last, bucket) in buckets.into_iter().flat_map(|last| buckets.map(|bucket| (last, bucket))) {
                 read_ahead(&words, last, bucket);
             }

@@ -1,4 +1,4 @@
-//! The twelve functions over slices: each is one call of the library and nothing else.
+//! The fourteen functions over slices: each is one call of the library and nothing else.
 //!
 //! [`Table`](crate::Table) is the way to use them in a collector. Here a changing call is in two parts, as the library has it: the call
 //! only reads the table and lists its stores, and something else makes them.
@@ -100,12 +100,22 @@ pub fn delete(words: &[u64], key: Key) -> Result<StoreList, Refusal> {
     })
 }
 
-/// Lists the store that begins a growth. Refusals: `BadHeader`, `FlagSet`, `AlreadyGrowing`, `AtCapacity`.
+/// Lists the store that begins a growth. Refusals: `BadHeader`, `FlagSet`, `AlreadyResizing`, `AtCapacity`.
 pub fn begin(words: &[u64]) -> Result<StoreList, Refusal> {
     whole_table(words, raw::ragansils_begin)
 }
 
-/// Lists the stores that move the first interim item that has a place. Refusals: `BadHeader`, `FlagSet`, `NotGrowing`, `InterimEmpty`,
+/// Lists the store that begins a shrink. Refusals: `BadHeader`, `FlagSet`, `AlreadyResizing`, `TooSmall`.
+pub fn shrink(words: &[u64]) -> Result<StoreList, Refusal> {
+    whole_table(words, raw::ragansils_shrink)
+}
+
+/// Lists the store that turns a growth into a shrink, or a shrink into a growth. Refusals: `BadHeader`, `FlagSet`, `NotResizing`.
+pub fn back(words: &[u64]) -> Result<StoreList, Refusal> {
+    whole_table(words, raw::ragansils_back)
+}
+
+/// Lists the stores that move the first interim item that has a place. Refusals: `BadHeader`, `FlagSet`, `NotResizing`, `InterimEmpty`,
 /// and `NoPlace`, where no interim item has one.
 pub fn step(words: &[u64]) -> Result<StoreList, Refusal> {
     whole_table(words, raw::ragansils_step)
@@ -120,8 +130,8 @@ pub fn step_from(words: &[u64], from: u64) -> Result<(StoreList, u64), Refusal> 
     Ok((list, bucket))
 }
 
-/// The same into a list that the caller has; answers the bucket told. A whole growth makes this call for each of its items, and a list that
-/// is handed back by value is copied on its way.
+/// The same into a list that the caller has; answers the bucket told. A whole growth or shrink makes this call for each of its items, and a
+/// list that is handed back by value is copied on its way.
 #[inline]
 pub(crate) fn list_step_from(words: &[u64], from: u64, list: &mut StoreList) -> Result<u64, Refusal> {
     let mut answer = [0; 2];
@@ -134,13 +144,13 @@ pub(crate) fn list_step_from(words: &[u64], from: u64, list: &mut StoreList) -> 
 }
 
 /// Asks the processor for the words that the steps will look at that come after one in this bucket; `last` is the bucket of the step before
-/// it. A mere hint, for whoever drives a growth by hand: nothing that is answered or stored depends on it.
+/// it. A mere hint, for whoever drives a growth or a shrink by hand: nothing that is answered or stored depends on it.
 #[inline]
 pub fn read_ahead(words: &[u64], last: u64, bucket: u64) {
     ahead::read_ahead(words, last, bucket)
 }
 
-/// Lists the store that ends a growth. Refusals: `BadHeader`, `FlagSet`, `NotGrowing`, `InterimTaken`.
+/// Lists the store that ends a growth or a shrink. Refusals: `BadHeader`, `FlagSet`, `NotResizing`, `InterimTaken`.
 pub fn end(words: &[u64]) -> Result<StoreList, Refusal> {
     whole_table(words, raw::ragansils_end)
 }

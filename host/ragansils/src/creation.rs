@@ -20,7 +20,7 @@ pub const MULTIPLIER_1: u64 = 0x9e37_79b9_7f4a_7c15;
 /// The second of two multipliers that spread keys well; [`MULTIPLIER_1`] tells how well.
 pub const MULTIPLIER_2: u64 = 0xc2b2_ae3d_27d4_eb4f;
 
-/// The settings of a new table. They stay in its header for its whole life, but for the top, which grows.
+/// The settings of a new table. They stay in its header for its whole life, but for the top, which grows and shrinks.
 #[derive(Clone, Copy, Debug, PartialEq, Eq)]
 pub struct Creation {
     /// The capacity exponent c, 1 to 20: the top level can grow to 2^c buckets of four slots.

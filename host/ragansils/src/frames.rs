@@ -56,7 +56,7 @@ impl Frames {
         &self.records[..self.count]
     }
 
-    /// The number of buckets looked at: at most four for each depth, or six while the table grows.
+    /// The number of buckets looked at: at most four for each depth, or six while the table grows or shrinks.
     pub fn buckets(&self) -> u64 {
         self.buckets
     }

@@ -4,17 +4,17 @@
 //! words when power fails. Every change is an ordered list of at most ten word stores, and power may fail after any of them.
 //!
 //! The work is done by the static library `collector`, written in Rattle and proved to answer as its rules say on every input; this
-//! crate is thin over its twelve functions and has no other dependency. What is proved ends at the library: that stores are made in order
+//! crate is thin over its fourteen functions and has no other dependency. What is proved ends at the library: that stores are made in order
 //! is this crate's own part, and is tested.
 //!
 //! From the bottom up:
-//! - [`raw`]: the twelve functions, unsafe;
+//! - [`raw`]: the fourteen functions, unsafe;
 //! - [`calls`]: the same over slices, safe;
 //! - [`Key`], [`Record`], [`Lookup`] with [`Found`], [`Slot`] and [`Level`], [`Chain`], [`Creation`], [`Refusal`]: what goes in and comes
 //!   out;
 //! - [`StoreList`], [`Platform`]: stores, and what a platform does after each;
-//! - [`Table`]: a table that makes its own stores, grows in small parts ([`Growth`], by hand [`Step`]) and tells the inlined frames at an
-//!   address ([`Frames`]);
+//! - [`Table`]: a table that makes its own stores, grows and shrinks in small parts ([`Part`], by hand [`Step`]; [`Phase`] is what it is
+//!   about) and tells the inlined frames at an address ([`Frames`]);
 //! - [`MappedFile`]: words in a file, with [`words_of`] and [`bytes_of`] for a file that is only read.
 //!
 //! ```
@@ -43,22 +43,24 @@ mod bytes;
 pub mod calls;
 mod creation;
 mod frames;
-mod growth;
 #[cfg(all(target_os = "linux", target_pointer_width = "64"))]
 mod mapped;
+mod phase;
 mod position;
 pub mod raw;
 mod refusal;
+mod resizing;
 mod stores;
 mod table;
 
 pub use bytes::{bytes_of, words_of};
 pub use creation::{Creation, MULTIPLIER_1, MULTIPLIER_2};
 pub use frames::Frames;
-pub use growth::{Growth, Step};
 #[cfg(all(target_os = "linux", target_pointer_width = "64"))]
 pub use mapped::{FileError, MappedFile};
+pub use phase::Phase;
 pub use position::{Chain, Found, Key, Level, Lookup, Record, Slot};
 pub use refusal::{Refusal, UnknownNumber};
+pub use resizing::{Part, Step};
 pub use stores::{OrdinaryMemory, Platform, Store, StoreList};
 pub use table::Table;

@@ -62,11 +62,11 @@ pub struct Record {
 /// A level of a table, by the number of the C interface; in the order in which a query looks at them.
 #[derive(Clone, Copy, Debug, PartialEq, Eq, PartialOrd, Ord, Hash)]
 pub enum Level {
-    /// The largest level.
+    /// The level where a new item is placed first.
     Top = 0,
     /// Half as large.
     Bottom = 1,
-    /// A quarter as large, and there only while the table grows.
+    /// There only while the table grows or shrinks: a quarter as large as the top while it grows, and twice as large while it shrinks.
     Interim = 2,
 }
 
@@ -147,7 +147,7 @@ pub struct Found {
 pub struct Lookup {
     /// The key's record, and where it stands; none where the key is absent.
     pub found: Option<Found>,
-    /// The number of buckets looked at: at most four, or six while the table grows.
+    /// The number of buckets looked at: at most four, or six while the table grows or shrinks.
     pub buckets: u64,
 }
 
@@ -180,7 +180,7 @@ impl Lookup {
 pub struct Chain<'r> {
     /// The records of all frames, the innermost first, or why there are none.
     pub records: Result<&'r [Record], Refusal>,
-    /// The number of buckets looked at: at most four for each depth, or six while the table grows. With `KeyAbsent` the depth that has no
-    /// record is the last that was looked for. With any other refusal the number is 0.
+    /// The number of buckets looked at: at most four for each depth, or six while the table grows or shrinks. With `KeyAbsent` the depth that
+    /// has no record is the last that was looked for. With any other refusal the number is 0.
     pub buckets: u64,
 }

@@ -1,4 +1,4 @@
-//! The twelve functions of the static library `collector`, as `include/ragansils.h` declares them.
+//! The fourteen functions of the static library `collector`, as `include/ragansils.h` declares them.
 //!
 //! They are unsafe for what a compiler cannot see: a pointer must be aligned and valid for as many words as the length beside it says,
 //! and no two buffers of a call may overlap. [`calls`](crate::calls) has the same over slices.
@@ -45,6 +45,20 @@ extern "C" {
         stores: *mut u64,
     ) -> u64;
     pub fn ragansils_begin(
+        table: *const u64,
+        words: usize,
+        list: *mut u64,
+        list_words: usize,
+        stores: *mut u64,
+    ) -> u64;
+    pub fn ragansils_shrink(
+        table: *const u64,
+        words: usize,
+        list: *mut u64,
+        list_words: usize,
+        stores: *mut u64,
+    ) -> u64;
+    pub fn ragansils_back(
         table: *const u64,
         words: usize,
         list: *mut u64,

@@ -28,18 +28,18 @@ pub enum Refusal {
     KeyPresent = 4,
     /// Update and delete: the key is absent. Chain: one of the depths has no record.
     KeyAbsent = 5,
-    /// Insert: there is no place for the key; the table may grow, or something may be deleted. Growth step: no interim item
-    /// has a place, or, of a step from a bucket, none from there on; a delete may make room for one.
+    /// Insert: there is no place for the key; the table may grow, or something may be deleted. Step: no interim item has a place, or, of a
+    /// step from a bucket, none from there on; a delete may make room for one, and a shrink may be turned back.
     NoPlace = 6,
-    /// Begin: the table is growing already.
-    AlreadyGrowing = 7,
-    /// Step and end: the table is not growing.
-    NotGrowing = 8,
+    /// Begin and shrink: the table is growing or shrinking already.
+    AlreadyResizing = 7,
+    /// Back, step and end: the table is neither growing nor shrinking.
+    NotResizing = 8,
     /// Begin: the table is as large as its words allow.
     AtCapacity = 9,
     /// End: there are items in the interim level, which steps move.
     InterimTaken = 10,
-    /// Step: the interim level is empty, so growth can end. Step from a bucket: there is no item from there on.
+    /// Step: the interim level is empty, so the growth or shrink can end. Step from a bucket: there is no item from there on.
     InterimEmpty = 11,
     /// Recovery: the table is none of the three kinds that a cut leaves.
     NoKind = 12,
@@ -51,6 +51,8 @@ pub enum Refusal {
     ShortRecords = 15,
     /// Chain: the address is 2^56 or more, or the depth above 255.
     BadPosition = 16,
+    /// Shrink: the top has two buckets, and the table is as small as it can be.
+    TooSmall = 17,
 }
 
 /// A number that is no refusal's.
@@ -59,15 +61,15 @@ pub struct UnknownNumber(pub u64);
 
 impl Refusal {
     /// Every refusal, by its number.
-    pub const ALL: [Refusal; 16] = [
+    pub const ALL: [Refusal; 17] = [
         Refusal::BadHeader,
         Refusal::ShortList,
         Refusal::FlagSet,
         Refusal::KeyPresent,
         Refusal::KeyAbsent,
         Refusal::NoPlace,
-        Refusal::AlreadyGrowing,
-        Refusal::NotGrowing,
+        Refusal::AlreadyResizing,
+        Refusal::NotResizing,
         Refusal::AtCapacity,
         Refusal::InterimTaken,
         Refusal::InterimEmpty,
@@ -76,6 +78,7 @@ impl Refusal {
         Refusal::BadMaking,
         Refusal::ShortRecords,
         Refusal::BadPosition,
+        Refusal::TooSmall,
     ];
 
     /// The number of the C interface.
@@ -100,8 +103,8 @@ impl Refusal {
             Refusal::KeyPresent => "the key is present",
             Refusal::KeyAbsent => "the key is absent",
             Refusal::NoPlace => "there is no place",
-            Refusal::AlreadyGrowing => "the table is growing already",
-            Refusal::NotGrowing => "the table is not growing",
+            Refusal::AlreadyResizing => "the table is growing or shrinking already",
+            Refusal::NotResizing => "the table is neither growing nor shrinking",
             Refusal::AtCapacity => "the table is as large as its words allow",
             Refusal::InterimTaken => "the interim level is not empty",
             Refusal::InterimEmpty => "the interim level is empty",
@@ -110,6 +113,7 @@ impl Refusal {
             Refusal::BadMaking => "the stores are not in the list, or one is outside the table",
             Refusal::ShortRecords => "fewer records are lent than there are depths",
             Refusal::BadPosition => "the address is 2^56 or more, or the depth above 255",
+            Refusal::TooSmall => "the table is as small as it can be",
         }
     }
 }

@@ -29,9 +29,9 @@ use crate::{calls, Creation, Frames, Key, Lookup, Platform, Record, Refusal, Ste
 pub struct Table<W, P> {
     words: W,
     platform: P,
-    /// The interim bucket from which the growth driver goes on. It is a mere hint: with any word here a part answers as with any other, though
+    /// The interim bucket from which growing and shrinking go on. It is a mere hint: with any word here a part answers as with any other, though
     /// it may move another item, and a wrong one costs time. So it is not kept in the table, and each opened or created one begins at 0.
-    pub(crate) growth_hint: u64,
+    pub(crate) interim_hint: u64,
 }
 
 impl<W: AsRef<[u64]> + AsMut<[u64]>, P: Platform> Table<W, P> {
@@ -41,7 +41,7 @@ impl<W: AsRef<[u64]> + AsMut<[u64]>, P: Platform> Table<W, P> {
     /// them. Refusal: `BadCreation`.
     pub fn create(mut words: W, creation: &Creation, platform: P) -> Result<Table<W, P>, Refusal> {
         calls::create(words.as_mut(), creation)?;
-        Ok(Table { words, platform, growth_hint: 0 })
+        Ok(Table { words, platform, interim_hint: 0 })
     }
 
     /// Takes up a table where an earlier process left it: looks at the whole table, and mends what a cut left, by at most three
@@ -50,7 +50,7 @@ impl<W: AsRef<[u64]> + AsMut<[u64]>, P: Platform> Table<W, P> {
     /// Refusals: `BadHeader` where the words are no table, `NoKind` where they are damaged otherwise than by a cut. Either leaves the
     /// words as they are; the program `ragansils-inspect` says what is wrong.
     pub fn open(words: W, platform: P) -> Result<Table<W, P>, Refusal> {
-        let mut table = Table { words, platform, growth_hint: 0 };
+        let mut table = Table { words, platform, interim_hint: 0 };
         table.recover()?;
         Ok(table)
     }
@@ -86,16 +86,48 @@ impl<W: AsRef<[u64]> + AsMut<[u64]>, P: Platform> Table<W, P> {
         self.change(|words| calls::delete(words, key))
     }
 
-    /// Begins a growth, by 1 store: the top becomes twice as large. Refusals: `AlreadyGrowing`, `AtCapacity`.
+    /// Begins a growth, by 1 store: the top becomes twice as large. Refusals: `AlreadyResizing`, `AtCapacity`.
     pub fn begin(&mut self) -> Result<u64, Refusal> {
         self.change_and_forget_hint(calls::begin)
     }
 
-    /// Moves the first item of the interim level that has a place, by 5 stores or 10, and answers their number. Refusals: `NotGrowing`,
+    /// Begins a shrink, by 1 store: the top becomes half as large. [`shrink`](Table::shrink) does so by itself, and says when a table can
+    /// shrink. Refusals: `AlreadyResizing`, `TooSmall`.
+    pub fn begin_shrink(&mut self) -> Result<u64, Refusal> {
+        self.change_and_forget_hint(calls::shrink)
+    }
+
+    /// Turns back, by 1 store: a table that shrinks grows, and one that grows shrinks, over the same three levels. Turning back twice gives
+    /// the state before. Refusal: `NotResizing`.
+    ///
+    /// So a shrink that is stuck is left: the level that it was emptying is the top again, with the slots that were freed there.
+    ///
+    /// ```
+    /// use ragansils::{Creation, Key, OrdinaryMemory, Phase, Record, Refusal, Table, MULTIPLIER_1, MULTIPLIER_2};
+    ///
+    /// let creation = Creation { capacity: 4, first_top: 4, multipliers: [MULTIPLIER_1, MULTIPLIER_2] };
+    /// let mut table = Table::create(vec![0; creation.words().unwrap()], &creation, OrdinaryMemory)?;
+    /// for line in 0..60 {
+    ///     table.insert(Key::new(0x5555_0000_1000 + 4 * line, 0).unwrap(), Record { function: 7, place: line })?;
+    /// }
+    /// // 60 items are more than the 48 slots of the smaller table.
+    /// assert_eq!(table.shrink(u64::MAX), Err(Refusal::NoPlace));
+    ///
+    /// table.back()?;
+    /// assert_eq!(table.phase(), Ok(Phase::Growing));
+    /// assert_eq!(table.grow(u64::MAX), Ok(true));
+    /// assert_eq!(table.phase(), Ok(Phase::AtRest));
+    /// # Ok::<(), Refusal>(())
+    /// ```
+    pub fn back(&mut self) -> Result<u64, Refusal> {
+        self.change_and_forget_hint(calls::back)
+    }
+
+    /// Moves the first item of the interim level that has a place, by 5 stores or 10, and answers their number. Refusals: `NotResizing`,
     /// `InterimEmpty`, and `NoPlace`, where items are left and none of them has a place.
     ///
-    /// It looks for that item from the first interim bucket on, so the time of a whole growth by such steps alone rises with the square of
-    /// its size; [`grow_on`](Table::grow_on) goes on where it was.
+    /// It looks for that item from the first interim bucket on, so the time of a whole growth or shrink by such steps alone rises with the
+    /// square of its size; [`grow_on`](Table::grow_on) and [`shrink_on`](Table::shrink_on) go on where they were.
     pub fn step(&mut self) -> Result<u64, Refusal> {
         self.change(calls::step)
     }
@@ -124,8 +156,8 @@ impl<W: AsRef<[u64]> + AsMut<[u64]>, P: Platform> Table<W, P> {
     /// # Ok::<(), Refusal>(())
     /// ```
     ///
-    /// A wrong start costs time or leaves items for later, and never makes a wrong table. [`grow_on`](Table::grow_on) does all this by
-    /// itself.
+    /// A wrong start costs time or leaves items for later, and never makes a wrong table. [`grow_on`](Table::grow_on) and
+    /// [`shrink_on`](Table::shrink_on) do all this by themselves.
     pub fn step_from(&mut self, from: u64) -> Result<Step, Refusal> {
         let mut list = StoreList::empty();
         let bucket = calls::list_step_from(self.words(), from, &mut list)?;
@@ -133,7 +165,7 @@ impl<W: AsRef<[u64]> + AsMut<[u64]>, P: Platform> Table<W, P> {
         Ok(Step { stores: list.count(), bucket })
     }
 
-    /// Ends a growth, by 1 store. Refusals: `NotGrowing`, `InterimTaken`.
+    /// Ends a growth or a shrink, by 1 store. Refusals: `NotResizing`, `InterimTaken`.
     pub fn end(&mut self) -> Result<u64, Refusal> {
         self.change_and_forget_hint(calls::end)
     }
@@ -154,14 +186,14 @@ impl<W: AsRef<[u64]> + AsMut<[u64]>, P: Platform> Table<W, P> {
         (self.words, self.platform)
     }
 
-    /// A change after which the growth driver begins at the first bucket again: of another interim level, or because a step that was cut
+    /// A change after which growing and shrinking begin at the first bucket again: of another interim level, or because a step that was cut
     /// may have left room for an item that was passed.
     fn change_and_forget_hint(
         &mut self,
         list: fn(&[u64]) -> Result<StoreList, Refusal>,
     ) -> Result<u64, Refusal> {
         let stores = self.change(list)?;
-        self.growth_hint = 0;
+        self.interim_hint = 0;
         Ok(stores)
     }
 

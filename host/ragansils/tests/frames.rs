@@ -3,7 +3,7 @@
 use std::panic::{catch_unwind, resume_unwind, AssertUnwindSafe};
 
 use ragansils::{
-    calls, Creation, Growth, Key, OrdinaryMemory, Record, Refusal, Table, MULTIPLIER_1, MULTIPLIER_2,
+    calls, Creation, Key, OrdinaryMemory, Part, Phase, Record, Refusal, Table, MULTIPLIER_1, MULTIPLIER_2,
 };
 
 /// A table that takes all 256 depths of an address, some of them in its bottom level, and can grow.
@@ -128,18 +128,23 @@ fn an_address_of_more_than_56_bits_is_refused() {
 }
 
 #[test]
-fn frames_stay_while_the_table_grows_and_look_at_few_buckets() {
+fn frames_stay_while_the_table_grows_and_shrinks_and_look_at_few_buckets() {
     let mut table = table_with(ADDRESS, 0..=255);
+    frames_stay(&mut table, Table::grow_on);
+    frames_stay(&mut table, Table::shrink_on);
+}
+
+fn frames_stay(table: &mut OwnTable, part: fn(&mut OwnTable) -> Result<Part, Refusal>) {
     let mut parts = vec![];
-    while parts.last() != Some(&Growth::Ended) {
+    while parts.last() != Some(&Part::Ended) {
         let frames = table.frames(ADDRESS, 255).unwrap();
         assert_eq!(frames.records(), records_from(ADDRESS, 255));
-        assert_eq!(frames.buckets(), buckets_of_queries(&table, ADDRESS, 255, 0));
-        let most = if table.is_growing().unwrap() { 6 * 256 } else { 4 * 256 };
+        assert_eq!(frames.buckets(), buckets_of_queries(table, ADDRESS, 255, 0));
+        let most = if table.phase() == Ok(Phase::AtRest) { 4 * 256 } else { 6 * 256 };
         assert!((256..=most).contains(&frames.buckets()));
-        parts.push(table.grow_on().unwrap());
+        parts.push(part(table).unwrap());
     }
-    assert!(parts.contains(&Growth::Moved));
+    assert!(parts.contains(&Part::Moved));
     assert_eq!(table.frames(ADDRESS, 255).unwrap().records(), records_from(ADDRESS, 255));
 }
 

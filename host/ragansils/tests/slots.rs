@@ -56,6 +56,11 @@ fn a_key_is_told_in_each_level() {
     for absent in [0, 2, 17, u64::MAX] {
         assert_eq!(table.query(absent.into()).unwrap().found, None);
     }
+    // Turned back, the top is the interim level, and the bottom the top.
+    table.back().unwrap();
+    assert_eq!(slot(&table, 3), Slot { word: 39, level: Level::Top });
+    assert_eq!(slot(&table, 15), Slot { word: 19, level: Level::Bottom });
+    assert_eq!(slot(&table, 9), Slot { word: 62, level: Level::Interim });
 }
 
 /// The words of a level, by the layout of document 01: a level of M buckets is buckets M - 1 to 2M - 2.

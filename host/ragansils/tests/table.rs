@@ -1,13 +1,15 @@
-//! A table over lent words: its stores, its refusals, its growth.
+//! A table over lent words: its stores, its refusals, how it grows and shrinks.
 
 use std::panic::{catch_unwind, AssertUnwindSafe};
 
 use ragansils::{
-    calls, Creation, Growth, Key, OrdinaryMemory, Record, Refusal, Step, Store, StoreList, Table,
+    calls, Creation, Key, OrdinaryMemory, Part, Phase, Record, Refusal, Step, Store, StoreList, Table,
 };
 
 /// The table of the marked examples of document 01, the paper that fixes the table.
 const MARKED: Creation = Creation { capacity: 2, first_top: 1, multipliers: [4294967297, 12884901889] };
+/// The word that holds the state.
+const STATE: usize = 4;
 const NEW: Record = Record { function: 30, place: 40 };
 
 fn empty_words() -> Vec<u64> {
@@ -35,6 +37,7 @@ fn after(mut words: Vec<u64>, list: Lister, kept: Option<u64>) -> Vec<u64> {
     words
 }
 
+type OwnTable = Table<Vec<u64>, OrdinaryMemory>;
 type Lister = fn(&[u64]) -> Result<StoreList, Refusal>;
 type Hook<'a> = &'a mut dyn FnMut(&u64);
 type Change = fn(&mut Table<&mut [u64], Hook>) -> Result<u64, Refusal>;
@@ -50,6 +53,9 @@ struct Row {
 fn every_change() -> Vec<Row> {
     let growing = after(filled_with([1, 3, 5, 7, 9]), calls::begin, None);
     let moved = after(growing.clone(), calls::step, None);
+    let grown = after(moved.clone(), calls::end, None);
+    let shrinking = after(grown.clone(), calls::shrink, None);
+    let shrunk = after(shrinking.clone(), calls::step, None);
     let row = |words, list, change| Row { words, list, change };
     vec![
         row(empty_words(), |words| calls::insert(words, 1.into(), NEW), |table| table.insert(1.into(), NEW)),
@@ -62,13 +68,29 @@ fn every_change() -> Vec<Row> {
         row(filled_with([1, 3]), |words| calls::delete(words, 3.into()), |table| table.delete(3.into())),
         row(filled_with([1, 3]), calls::begin, |table| table.begin()),
         row(growing.clone(), calls::step, |table| table.step()),
-        row(growing, stepped_from_0, |table| table.step_from(0).map(|step| step.stores)),
+        row(growing.clone(), stepped_from_0, |table| table.step_from(0).map(|step| step.stores)),
         row(moved, calls::end, |table| table.end()),
+        row(grown, calls::shrink, |table| table.begin_shrink()),
+        row(growing, calls::back, |table| table.back()),
+        row(shrinking.clone(), calls::back, |table| table.back()),
+        row(shrinking.clone(), calls::step, |table| table.step()),
+        row(shrinking.clone(), stepped_from_1, |table| table.step_from(1).map(|step| step.stores)),
+        row(shrinking, updated_9, |table| table.update(9.into(), NEW)),
+        row(shrunk, calls::end, |table| table.end()),
     ]
 }
 
 fn stepped_from_0(words: &[u64]) -> Result<StoreList, Refusal> {
     calls::step_from(words, 0).map(|(list, _)| list)
+}
+
+fn stepped_from_1(words: &[u64]) -> Result<StoreList, Refusal> {
+    calls::step_from(words, 1).map(|(list, _)| list)
+}
+
+/// While the table shrinks, key 9 stands in the interim level, which was the top.
+fn updated_9(words: &[u64]) -> Result<StoreList, Refusal> {
+    calls::update(words, 9.into(), NEW)
 }
 
 fn updated_3(words: &[u64]) -> Result<StoreList, Refusal> {
@@ -149,10 +171,26 @@ fn a_refused_change_leaves_everything() {
     assert_eq!(table.insert(17.into(), NEW), Err(Refusal::NoPlace));
     assert_eq!(table.update(2.into(), NEW), Err(Refusal::KeyAbsent));
     assert_eq!(table.delete(2.into()), Err(Refusal::KeyAbsent));
-    assert_eq!(table.step(), Err(Refusal::NotGrowing));
-    assert_eq!(table.step_from(0), Err(Refusal::NotGrowing));
-    assert_eq!(table.end(), Err(Refusal::NotGrowing));
+    assert_eq!(table.step(), Err(Refusal::NotResizing));
+    assert_eq!(table.step_from(0), Err(Refusal::NotResizing));
+    assert_eq!(table.end(), Err(Refusal::NotResizing));
+    assert_eq!(table.back(), Err(Refusal::NotResizing));
+    assert_eq!(table.begin_shrink(), Err(Refusal::TooSmall));
     assert_eq!(table.words(), words);
+}
+
+/// What is under way is told before what is too large or too small.
+#[test]
+fn a_table_that_grows_or_shrinks_begins_neither() {
+    let growing = after(filled_with([1]), calls::begin, None);
+    let shrinking = after(growing.clone(), calls::back, None);
+    assert_eq!((growing[STATE], shrinking[STATE]), (256 + 2, 512 + 1));
+    for words in [growing, shrinking] {
+        let mut table = Table::open(words.clone(), OrdinaryMemory).unwrap();
+        assert_eq!(table.begin(), Err(Refusal::AlreadyResizing));
+        assert_eq!(table.begin_shrink(), Err(Refusal::AlreadyResizing));
+        assert_eq!(table.words(), words);
+    }
 }
 
 #[test]
@@ -195,17 +233,44 @@ fn a_creation_that_is_not_allowed_is_refused_and_leaves_the_words() {
 }
 
 #[test]
-fn a_growth_goes_part_by_part_and_keeps_the_map() {
+fn growing_and_shrinking_go_part_by_part_and_keep_the_map() {
     let mut table = Table::open(filled_with([1, 3, 5, 7, 9, 11]), OrdinaryMemory).unwrap();
+    let parts = parts_of(&mut table, Phase::Growing, Table::grow_on);
+    assert_eq!(parts, [Part::Begun, Part::Moved, Part::Moved, Part::Ended]);
+    assert_eq!(table.grow_on(), Err(Refusal::AtCapacity));
+    // Keys 9 and 11 stand in the old top still.
+    let parts = parts_of(&mut table, Phase::Shrinking, Table::shrink_on);
+    assert_eq!(parts, [Part::Begun, Part::Moved, Part::Moved, Part::Ended]);
+    assert_eq!(table.shrink_on(), Err(Refusal::TooSmall));
+}
+
+/// All parts, until the table is at rest again.
+fn parts_of(
+    table: &mut OwnTable,
+    phase: Phase,
+    part: fn(&mut OwnTable) -> Result<Part, Refusal>,
+) -> Vec<Part> {
     let map = map_of(table.words());
     let mut parts = vec![];
-    while parts.last() != Some(&Growth::Ended) {
-        parts.push(table.grow_on().unwrap());
-        assert_eq!(table.is_growing(), Ok(parts.last() != Some(&Growth::Ended)));
+    while parts.last() != Some(&Part::Ended) {
+        parts.push(part(table).unwrap());
+        let expected = if parts.last() == Some(&Part::Ended) { Phase::AtRest } else { phase };
+        assert_eq!(table.phase(), Ok(expected));
         assert_eq!(map_of(table.words()), map);
     }
-    assert_eq!(parts, [Growth::Begun, Growth::Moved, Growth::Moved, Growth::Ended]);
-    assert_eq!(table.grow_on(), Err(Refusal::AtCapacity));
+    parts
+}
+
+#[test]
+fn a_part_of_the_other_kind_turns_back() {
+    let mut table = Table::open(filled_with([1, 3, 5, 7, 9, 11]), OrdinaryMemory).unwrap();
+    assert_eq!(table.grow(2), Ok(false));
+    assert_eq!((table.shrink_on(), table.phase()), (Ok(Part::Turned), Ok(Phase::Shrinking)));
+    assert_eq!((table.grow_on(), table.phase()), (Ok(Part::Turned), Ok(Phase::Growing)));
+    assert_eq!(table.shrink(u64::MAX), Ok(true));
+    // The table that was at the beginning, but for where its items stand.
+    assert_eq!(map_of(table.words()), map_of(&filled_with([1, 3, 5, 7, 9, 11])));
+    assert_eq!(table.words()[STATE], 1);
 }
 
 #[test]
@@ -213,12 +278,12 @@ fn a_growth_is_paced_and_goes_on_after_open() {
     let words = filled_with([1, 3, 5, 7, 9, 11]);
     let mut table = Table::open(words, OrdinaryMemory).unwrap();
     assert_eq!(table.grow(0), Ok(false));
-    assert_eq!(table.is_growing(), Ok(false));
+    assert_eq!(table.phase(), Ok(Phase::AtRest));
     assert_eq!(table.grow(2), Ok(false));
     let mut table = Table::open(table.into_parts().0, OrdinaryMemory).unwrap();
-    assert_eq!(table.is_growing(), Ok(true));
+    assert_eq!(table.phase(), Ok(Phase::Growing));
     assert_eq!(table.grow(u64::MAX), Ok(true));
-    assert_eq!(table.is_growing(), Ok(false));
+    assert_eq!(table.phase(), Ok(Phase::AtRest));
 }
 
 /// Document 01's E11: none of the interim items has a place.
@@ -230,14 +295,14 @@ fn a_growth_without_a_place_goes_on_once_there_is_one() {
     for key in (0..32).step_by(4) {
         table.insert(key.into(), NEW).unwrap();
     }
-    assert_eq!(table.grow_on(), Ok(Growth::Begun));
+    assert_eq!(table.grow_on(), Ok(Part::Begun));
     for key in (32..48).step_by(4) {
         table.insert(key.into(), NEW).unwrap();
     }
     assert_eq!(table.grow(10), Err(Refusal::NoPlace));
     assert_eq!(table.query(0.into()).unwrap().record(), Some(NEW));
     table.delete(32.into()).unwrap();
-    assert_eq!(table.grow_on(), Ok(Growth::Moved));
+    assert_eq!(table.grow_on(), Ok(Part::Moved));
 }
 
 /// The keys 9, 11 and 13 stand in the one bucket of the interim level.
@@ -281,10 +346,10 @@ fn a_step_goes_on_from_the_bucket_that_it_is_told() {
 }
 
 #[test]
-fn refusals_have_the_numbers_1_to_16() {
+fn refusals_have_the_numbers_1_to_17() {
     let numbers = Refusal::ALL.map(Refusal::number);
-    assert_eq!(numbers.to_vec(), (1..=16).collect::<Vec<u64>>());
-    assert!([0, 17, u64::MAX].into_iter().all(|number| Refusal::try_from(number).is_err()));
+    assert_eq!(numbers.to_vec(), (1..=17).collect::<Vec<u64>>());
+    assert!([0, 18, u64::MAX].into_iter().all(|number| Refusal::try_from(number).is_err()));
 }
 
 #[test]

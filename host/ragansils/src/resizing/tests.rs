@@ -1,10 +1,14 @@
-//! The growth driver: it answers as steps from the first bucket on would, whatever its hint is, and goes through the interim level once,
-//! and once more to see that nothing is left to move.
+//! Growing and shrinking part by part: a part answers as a step from the first bucket on would, whatever the hint is; all parts go through
+//! the interim level once, and once more to see that nothing is left to move.
+
+mod cuts;
+mod stuck_shrinks;
 
 use std::cell::Cell;
 use std::collections::HashMap;
 use std::ops::Range;
 use std::panic::{catch_unwind, resume_unwind, AssertUnwindSafe};
+use std::rc::Rc;
 
 use super::*;
 use crate::{Creation, Key, Level, OrdinaryMemory, Record, MULTIPLIER_1, MULTIPLIER_2};
@@ -28,12 +32,77 @@ fn holds(words: &[u64], keys: &[u64]) -> bool {
     keys.iter().all(has)
 }
 
-/// The words of a table of N = 2^(c-1) top buckets before its last growth, with so many tenths of its slots taken or as many as it takes;
-/// and its keys.
+/// The two ways to resize.
+#[derive(Clone, Copy, Debug)]
+enum Way {
+    Grow,
+    Shrink,
+}
+
+impl Way {
+    fn begin(self, table: &mut Table<Vec<u64>, impl Platform>) -> Result<u64, Refusal> {
+        match self {
+            Way::Grow => table.begin(),
+            Way::Shrink => table.begin_shrink(),
+        }
+    }
+
+    fn part(self, table: &mut Table<Vec<u64>, impl Platform>) -> Result<Part, Refusal> {
+        match self {
+            Way::Grow => table.grow_on(),
+            Way::Shrink => table.shrink_on(),
+        }
+    }
+
+    fn whole(self, table: &mut Table<Vec<u64>, impl Platform>) -> Result<bool, Refusal> {
+        match self {
+            Way::Grow => table.grow(u64::MAX),
+            Way::Shrink => table.shrink(u64::MAX),
+        }
+    }
+
+    /// A table of 2^k top buckets from which it begins, with so many tenths of its slots taken.
+    fn from(self, k: u64, tenths: u64) -> (Vec<u64>, Vec<u64>) {
+        match self {
+            Way::Grow => filled_of(k + 1, k, tenths),
+            Way::Shrink => filled_of(k, k, tenths),
+        }
+    }
+
+    /// Tenths that are taken before it, so that it comes to its end.
+    fn tenths(self) -> [u64; 3] {
+        match self {
+            Way::Grow => [5, 8, 10],
+            Way::Shrink => [1, 2, 3],
+        }
+    }
+
+    /// The interim level's, where it began at so many top buckets.
+    fn interim_buckets(self, top_buckets: u64) -> u64 {
+        match self {
+            Way::Grow => top_buckets / 2,
+            Way::Shrink => top_buckets,
+        }
+    }
+
+    /// The bound on all its stores, 20N + 2 or 40N + 2.
+    fn most_stores(self, top_buckets: u64) -> u64 {
+        40 * self.interim_buckets(top_buckets) + 2
+    }
+}
+
+const WAYS: [Way; 2] = [Way::Grow, Way::Shrink];
+
+/// The words of a table before its last growth, and its keys.
 fn filled(c: u64, tenths: u64) -> (Vec<u64>, Vec<u64>) {
-    let creation = Creation { capacity: c, first_top: c - 1, multipliers: [MULTIPLIER_1, MULTIPLIER_2] };
+    filled_of(c, c - 1, tenths)
+}
+
+/// The words of a table of N = 2^k top buckets, with so many tenths of its slots taken or as many as it takes; and its keys.
+fn filled_of(c: u64, k: u64, tenths: u64) -> (Vec<u64>, Vec<u64>) {
+    let creation = Creation { capacity: c, first_top: k, multipliers: [MULTIPLIER_1, MULTIPLIER_2] };
     let mut table = created(&creation);
-    let slots = 6 << (c - 1);
+    let slots = 6 << k;
     let keys =
         (0..slots * tenths / 10).map(|number| Key::new(0x5555_0000_1000 + 4 * number, 0).unwrap().word());
     let keys = keys.take_while(|&key| table.insert(key.into(), record_of(key)).is_ok()).collect();
@@ -55,7 +124,7 @@ impl Blocked {
         let creation = Creation { capacity: first_top + 1, first_top, multipliers: [4294967297; 2] };
         let mut blocked = Blocked { table: created(&creation), interim_buckets, stuck_buckets };
         blocked.insert(blocked.keys_at_rest());
-        assert_eq!(blocked.table.grow_on(), Ok(Growth::Begun));
+        assert_eq!(blocked.table.grow_on(), Ok(Part::Begun));
         blocked.insert(blocked.later_keys());
         blocked
     }
@@ -116,18 +185,28 @@ impl Blocked {
     }
 }
 
+/// Every size and load from which a way is tried.
+fn each_start(least_k: u64, most_k: u64) -> impl Iterator<Item = (Way, u64, u64)> {
+    let starts =
+        move |way: Way| (least_k..=most_k).flat_map(move |k| way.tenths().map(|tenths| (way, k, tenths)));
+    WAYS.into_iter().flat_map(starts)
+}
+
 #[test]
-fn a_growth_by_the_driver_leaves_the_words_that_steps_leave() {
-    for (c, tenths) in (2..=10).flat_map(|c| [(c, 5), (c, 8), (c, 10)]) {
-        let (words, keys) = filled(c, tenths);
+fn the_parts_leave_the_words_that_steps_leave() {
+    // A table of two top buckets cannot shrink.
+    for (way, k, tenths) in each_start(2, 9).chain(Way::Grow.tenths().map(|tenths| (Way::Grow, 1, tenths))) {
+        let (words, keys) = way.from(k, tenths);
         let mut by_steps = opened(&words);
-        by_steps.begin().unwrap();
+        way.begin(&mut by_steps).unwrap();
         while by_steps.step().is_ok() {}
         by_steps.end().unwrap();
-        let mut by_driver = opened(&words);
-        assert_eq!(by_driver.grow(u64::MAX), Ok(true));
-        assert_eq!(by_driver.words(), by_steps.words());
-        assert!(holds(by_driver.words(), &keys), "c = {c}, {tenths} tenths");
+        let mut by_parts = opened(&words);
+        assert_eq!(way.whole(&mut by_parts), Ok(true), "{way:?}, k = {k}, {tenths} tenths");
+        assert_eq!(by_parts.words(), by_steps.words());
+        assert!(holds(by_parts.words(), &keys), "{way:?}, k = {k}, {tenths} tenths");
+        let sound = calls::recover(by_parts.words()).map(|list| list.count());
+        assert_eq!((by_parts.phase(), sound), (Ok(Phase::AtRest), Ok(0)));
     }
 }
 
@@ -135,40 +214,39 @@ fn a_growth_by_the_driver_leaves_the_words_that_steps_leave() {
 fn looked_at_next(table: &Table<Vec<u64>, impl Platform>, interim_buckets: u64) -> (u64, u64) {
     let from = |start: u64| match calls::step_from(table.words(), start) {
         Ok((_, bucket)) => (true, bucket - start + 1),
-        Err(Refusal::NotGrowing) => (true, 0),
+        Err(Refusal::NotResizing) => (true, 0),
         Err(_) => (false, interim_buckets - start),
     };
-    match from(table.growth_hint) {
-        (false, buckets) if table.growth_hint > 0 => (2, buckets + from(0).1),
+    match from(table.interim_hint) {
+        (false, buckets) if table.interim_hint > 0 => (2, buckets + from(0).1),
         (_, buckets) => (1, buckets),
     }
 }
 
 /// One pass finds all items; then it is seen, from the hint and from the first bucket on, that there are no more.
 #[test]
-fn a_growth_goes_through_the_interim_level_once() {
-    for c in 2..=11 {
-        let (words, _) = filled(c, 8);
-        let (top_buckets, interim_buckets) = (1 << (c - 1), 1 << (c - 2));
+fn all_parts_go_through_the_interim_level_once() {
+    for (way, k, tenths) in each_start(2, 10) {
+        let (words, _) = way.from(k, tenths);
+        let interim_buckets = way.interim_buckets(1 << k);
         let made = Cell::new(0);
         let mut table = Table::open(words, |_: &u64| made.set(made.get() + 1)).unwrap();
         let (mut parts, mut calls, mut buckets, mut ended) = (0, 0, 0, false);
         while !ended {
             let (next_calls, next_buckets) = looked_at_next(&table, interim_buckets);
             (parts, calls, buckets) = (parts + 1, calls + next_calls, buckets + next_buckets);
-            ended = table.grow_on() == Ok(Growth::Ended);
+            ended = way.part(&mut table).unwrap() == Part::Ended;
         }
         let steps = parts - 2;
-        assert!(steps > 0 && calls <= parts + 1, "{calls} calls in {parts} parts");
+        assert!(calls <= parts + 1, "{calls} calls in {parts} parts");
+        // Half of the slots may be in the top, so that a growth finds nothing to move.
+        assert!(steps > 0 || tenths == 5, "{way:?}: nothing moves, k = {k}");
         assert!(
             buckets <= interim_buckets + steps + interim_buckets,
-            "{buckets} buckets, {steps} steps, c = {c}"
+            "{way:?}: {buckets} buckets, {steps} steps, k = {k}"
         );
-        assert!(
-            (5 * steps + 2..=20 * top_buckets + 2).contains(&made.get()),
-            "{} stores, c = {c}",
-            made.get()
-        );
+        let bounds = 5 * steps + 2..=way.most_stores(1 << k);
+        assert!(bounds.contains(&made.get()), "{way:?}: {} stores, k = {k}", made.get());
     }
 }
 
@@ -178,10 +256,10 @@ fn hints(interim_buckets: u64) -> impl Iterator<Item = u64> {
 }
 
 /// What a part should answer: the driver may move another item than a step does, but only where there is one to move.
-fn by_step(words: &[u64]) -> Result<Growth, Refusal> {
+fn by_step(words: &[u64]) -> Result<Part, Refusal> {
     match calls::step(words) {
-        Ok(_) => Ok(Growth::Moved),
-        Err(Refusal::InterimEmpty) => Ok(Growth::Ended),
+        Ok(_) => Ok(Part::Moved),
+        Err(Refusal::InterimEmpty) => Ok(Part::Ended),
         Err(refusal) => Err(refusal),
     }
 }
@@ -196,7 +274,7 @@ fn whatever_the_hint_is_a_part_answers_as_a_step_does() {
             let words = blocked.table.words().to_vec();
             for hint in hints(8) {
                 let mut table = opened(&words);
-                table.growth_hint = hint;
+                table.interim_hint = hint;
                 let part = table.grow_on();
                 assert_eq!(part, by_step(&words), "hint {hint}, stuck buckets {stuck_buckets:?}");
                 assert_eq!(table.words() == words, part.is_err());
@@ -213,9 +291,9 @@ fn a_growth_with_a_wrong_hint_before_each_part_ends_with_the_same_map() {
     let parts_of = |mut hint: Box<dyn FnMut(u64) -> u64>| {
         let mut table = opened(&words);
         let mut parts = vec![];
-        while parts.last() != Some(&Growth::Ended) {
+        while parts.last() != Some(&Part::Ended) {
             parts.push(table.grow_on().unwrap());
-            table.growth_hint = hint(table.growth_hint);
+            table.interim_hint = hint(table.interim_hint);
         }
         assert!(holds(table.words(), &keys));
         parts
@@ -240,12 +318,12 @@ fn a_growth_goes_past_items_without_a_place() {
         (0..blocked.free_items()).for_each(|_| assert_eq!(by_steps.step(), Ok(5)));
         assert_eq!(by_steps.step(), Err(Refusal::NoPlace));
         for _ in 0..blocked.free_items() {
-            let hint = blocked.table.growth_hint;
-            assert_eq!(blocked.table.grow_on(), Ok(Growth::Moved));
-            assert!(hint <= blocked.table.growth_hint, "no item is looked for twice");
+            let hint = blocked.table.interim_hint;
+            assert_eq!(blocked.table.grow_on(), Ok(Part::Moved));
+            assert!(hint <= blocked.table.interim_hint, "no item is looked for twice");
         }
         assert_eq!(blocked.table.grow_on(), Err(Refusal::NoPlace));
-        assert_eq!((blocked.table.growth_hint, blocked.table.end()), (0, Err(Refusal::InterimTaken)));
+        assert_eq!((blocked.table.interim_hint, blocked.table.end()), (0, Err(Refusal::InterimTaken)));
         assert_eq!(blocked.table.words(), by_steps.words());
         assert!(holds(blocked.table.words(), &blocked.keys()));
         assert_eq!(blocked.interim_keys(), blocked.stuck_keys());
@@ -263,10 +341,10 @@ fn a_growth_without_a_place_goes_on_with_each_delete() {
             assert_eq!(blocked.table.grow_on(), Err(Refusal::NoPlace));
             let deleted = blocked.make_room_for(stuck);
             keys.retain(|&key| key != deleted);
-            assert_eq!(blocked.table.grow_on(), Ok(Growth::Moved));
+            assert_eq!(blocked.table.grow_on(), Ok(Part::Moved));
             assert!(!blocked.is_interim(stuck));
         }
-        assert_eq!(blocked.table.grow_on(), Ok(Growth::Ended));
+        assert_eq!(blocked.table.grow_on(), Ok(Part::Ended));
         assert!(holds(blocked.table.words(), &keys));
     }
 }
@@ -277,16 +355,16 @@ fn an_item_that_gets_room_behind_the_hint_waits_for_the_end_of_the_pass() {
     let mut blocked = Blocked::new(128, 0..64);
     let free_items = blocked.free_items();
     assert_eq!(blocked.table.grow(free_items / 2), Ok(false));
-    let hint = blocked.table.growth_hint;
+    let hint = blocked.table.interim_hint;
     let waiting = [3, 10, 60].map(|bucket| (bucket, blocked.interim_key(bucket, 0)));
     for (_, key) in waiting {
         blocked.make_room_for(key);
     }
-    assert_eq!((blocked.table.growth_hint, hint > 64), (hint, true));
+    assert_eq!((blocked.table.interim_hint, hint > 64), (hint, true));
     assert_eq!(blocked.table.grow(free_items / 2), Ok(false));
     assert!(waiting.into_iter().all(|(_, key)| blocked.is_interim(key)));
     for (bucket, key) in waiting {
-        assert_eq!((blocked.table.grow_on(), blocked.table.growth_hint), (Ok(Growth::Moved), bucket));
+        assert_eq!((blocked.table.grow_on(), blocked.table.interim_hint), (Ok(Part::Moved), bucket));
         assert!(!blocked.is_interim(key));
     }
     assert_eq!(blocked.table.grow_on(), Err(Refusal::NoPlace));
@@ -316,7 +394,7 @@ fn a_growth_goes_on_between_other_changes() {
                 map.remove(&deleted);
             }
             match table.grow_on() {
-                Ok(Growth::Ended) => break,
+                Ok(Part::Ended) => break,
                 part => assert!(part.is_ok() || part == Err(Refusal::NoPlace)),
             }
         }
@@ -330,25 +408,36 @@ fn a_growth_goes_on_between_other_changes() {
 fn half_grown() -> Blocked {
     let mut blocked = Blocked::new(8, 0..2);
     assert_eq!(blocked.table.grow(blocked.free_items() / 2), Ok(false));
-    assert!(blocked.table.growth_hint > 0);
+    assert!(blocked.table.interim_hint > 0);
     blocked
 }
 
 #[test]
-fn a_new_growth_begins_at_the_first_bucket() {
+fn what_changes_the_interim_level_begins_at_the_first_bucket() {
     let (words, _) = filled(5, 8);
     let mut table = opened(&words);
-    assert_eq!(table.growth_hint, 0);
-    table.growth_hint = 5;
-    assert_eq!((table.begin(), table.growth_hint), (Ok(1), 0));
+    assert_eq!(table.interim_hint, 0);
+    table.interim_hint = 5;
+    assert_eq!((table.begin(), table.interim_hint), (Ok(1), 0));
     while table.step_from(0).is_ok() {}
-    table.growth_hint = 5;
-    assert_eq!((table.end(), table.growth_hint), (Ok(1), 0));
+    for _ in 0..2 {
+        table.interim_hint = 5;
+        assert_eq!((table.back(), table.interim_hint), (Ok(1), 0));
+    }
+    table.interim_hint = 5;
+    assert_eq!((table.end(), table.interim_hint), (Ok(1), 0));
+    table.interim_hint = 5;
+    assert_eq!((table.begin_shrink(), table.interim_hint), (Ok(1), 0));
     // A refused one leaves the growth where it is.
     let mut blocked = half_grown();
-    let hint = blocked.table.growth_hint;
-    assert_eq!((blocked.table.begin(), blocked.table.growth_hint), (Err(Refusal::AlreadyGrowing), hint));
-    assert_eq!((blocked.table.end(), blocked.table.growth_hint), (Err(Refusal::InterimTaken), hint));
+    let hint = blocked.table.interim_hint;
+    for begin in [Table::begin, Table::begin_shrink] {
+        assert_eq!(
+            (begin(&mut blocked.table), blocked.table.interim_hint),
+            (Err(Refusal::AlreadyResizing), hint)
+        );
+    }
+    assert_eq!((blocked.table.end(), blocked.table.interim_hint), (Err(Refusal::InterimTaken), hint));
 }
 
 #[test]
@@ -356,7 +445,7 @@ fn an_opened_table_begins_at_the_first_bucket() {
     let blocked = half_grown();
     let keys = blocked.keys();
     let table = opened(blocked.table.words());
-    assert_eq!(table.growth_hint, 0);
+    assert_eq!(table.interim_hint, 0);
     let mut blocked = Blocked { table, ..blocked };
     assert_eq!(blocked.table.grow(u64::MAX), Err(Refusal::NoPlace));
     assert!(holds(blocked.table.words(), &keys));
@@ -379,7 +468,7 @@ fn a_growth_goes_on_in_a_file_that_is_opened_again() {
     let mut has_ended = false;
     while !has_ended {
         let mut table = Table::open(MappedFile::open(&path).unwrap(), OrdinaryMemory).unwrap();
-        assert_eq!(table.growth_hint, 0);
+        assert_eq!(table.interim_hint, 0);
         has_ended = table.grow(7).unwrap();
         assert!(holds(table.words(), &keys));
     }
@@ -391,7 +480,7 @@ fn a_growth_goes_on_in_a_file_that_is_opened_again() {
 fn a_recovered_table_begins_at_the_first_bucket() {
     for kept in 1..=5 {
         let blocked = half_grown();
-        let (hint, keys) = (blocked.table.growth_hint, blocked.keys());
+        let (hint, keys) = (blocked.table.interim_hint, blocked.keys());
         let left = Cell::new(kept);
         let cut = |_: &u64| {
             left.set(left.get() - 1);
@@ -401,10 +490,10 @@ fn a_recovered_table_begins_at_the_first_bucket() {
             }
         };
         let mut table = Table::open(blocked.table.into_parts().0, cut).unwrap();
-        table.growth_hint = hint;
+        table.interim_hint = hint;
         assert!(catch_unwind(AssertUnwindSafe(|| table.grow_on())).is_err());
         left.set(u64::MAX);
-        assert_eq!((table.growth_hint, table.recover().is_ok(), table.growth_hint), (hint, true, 0));
+        assert_eq!((table.interim_hint, table.recover().is_ok(), table.interim_hint), (hint, true, 0));
         assert_eq!(table.grow(u64::MAX), Err(Refusal::NoPlace));
         assert!(holds(table.words(), &keys));
     }
