@@ -13,6 +13,7 @@ use ragansils_compare::told_slots::LevelTally;
 use ragansils_model::{table_words, Event, SUCCESS};
 use ragansils_twin::{ListingTwin, Proved, Side, Twin};
 
+use crate::phases::PhaseTally;
 use crate::starts::{answer_after_pass, interim_items, random_start, StartTally};
 
 /// What a run has met.
@@ -30,6 +31,8 @@ pub struct Seen {
     pub steps: StepTally,
     /// Steps that go on, by where they start.
     pub starts: StartTally,
+    /// What was found and changed in each phase.
+    pub phases: PhaseTally,
 }
 
 /// Makes at least so many calls of each side, or says where they differ.
@@ -64,11 +67,11 @@ fn play_past_stuck_items(random: &mut Random, kind: Kind, seen: &mut Seen) -> Re
     Ok(())
 }
 
-/// One pass over a growing table, in which each step goes on from the bucket told: it places every item that has a place, whatever stuck
+/// One pass over a table that grows or shrinks, in which each step goes on from the bucket told: it places every item that has a place, whatever stuck
 /// items stand before it, and so the step after it is refused.
-fn one_pass(seen: &mut Seen, growing: &[u64]) -> Result<(), String> {
-    let items = interim_items(growing);
-    let (mut start, mut from, mut moved, mut table) = (Start::First, 0, 0, growing.to_vec());
+fn one_pass(seen: &mut Seen, resizing: &[u64]) -> Result<(), String> {
+    let items = interim_items(resizing);
+    let (mut start, mut from, mut moved, mut table) = (Start::First, 0, 0, resizing.to_vec());
     loop {
         let (number, bucket, after) = both_step_from(seen, &table, start, from)?;
         if number != SUCCESS {
@@ -84,7 +87,7 @@ fn one_pass(seen: &mut Seen, growing: &[u64]) -> Result<(), String> {
     seen.starts.count_pass(left);
     if moved + left != items || number != answer_after_pass(left) {
         return Err(format!(
-            "a pass moves {moved} of {items} items, leaves {left}, and a step then answers {number}; table before: {growing:?}"
+            "a pass moves {moved} of {items} items, leaves {left}, and a step then answers {number}; table before: {resizing:?}"
         ));
     }
     Ok(())
@@ -142,12 +145,12 @@ impl History {
 
     /// A step from some start on a copy of the table, and one that goes on from the bucket told.
     fn some_start(&mut self, seen: &mut Seen) -> Result<(), String> {
-        let is_growing = interim_buckets(&self.table).is_some();
+        let is_resizing = interim_buckets(&self.table).is_some();
         // At rest there is one answer, and it need not be met often.
-        if !is_growing && !self.random.one_in(20) {
+        if !is_resizing && !self.random.one_in(20) {
             return Ok(());
         }
-        if is_growing && self.random.one_in(20) {
+        if is_resizing && self.random.one_in(20) {
             one_pass(seen, &self.table)?;
         }
         let (start, from) = random_start(&mut self.random, &self.table);
@@ -188,6 +191,8 @@ impl History {
             Event::Update { key, function, place },
             Event::Delete { key },
             Event::Begin,
+            Event::Shrink,
+            Event::Back,
             Event::Step,
             Event::End,
         ];
@@ -220,6 +225,7 @@ fn both_query(seen: &mut Seen, table: &[u64], key: u64) -> Result<(), String> {
     same(what, table, (number, answer.to_vec()), (twin_number, twin_answer.to_vec()))?;
     if let Ok(Lookup { found: Some(found), .. }) = Lookup::of_words(number, answer) {
         seen.levels.count(found.slot.level);
+        seen.phases.count_found(table, found.slot.level);
     }
     Ok(())
 }
@@ -232,6 +238,9 @@ fn both_change(seen: &mut Seen, table: &[u64], event: Event) -> Result<(u64, Vec
         (Event::Recover, 1) => seen.doubled += 1,
         (Event::Recover, 3) => seen.flagged += 1,
         _ => {}
+    }
+    if by_library.0 == SUCCESS {
+        seen.phases.count_change(table, event, library.stores());
     }
     let what = || format!("{event:?}");
     let by_both = same(what, table, by_library, changed(&mut Twin, table, event))?;

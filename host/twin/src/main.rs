@@ -1,6 +1,7 @@
 //! `twin-check SEED CALLS`: the twin answers and writes as the proved library does.
 
 mod check;
+mod phases;
 mod starts;
 
 use std::process::ExitCode;
@@ -17,6 +18,8 @@ const TELLING_CALLS: u64 = 100_000;
 const LEAST_OF_EACH_START: u64 = 15;
 /// And queries find so many keys in each level.
 const LEAST_OF_EACH_LEVEL: u64 = 100;
+/// And each change that a phase has is met so often in it.
+const LEAST_OF_EACH_CHANGE: u64 = 10;
 
 fn main() -> ExitCode {
     program::run(|arguments| run(arguments).map(|report| say!("{report}")))
@@ -35,7 +38,7 @@ fn run(arguments: &[String]) -> Result<String, String> {
     Ok(format!(
         "{} calls of the twin ({TWIN_COMPILER}) and of the proved library: the same answers and words; seed {seed}; \
          keys found by level: {}; {} doubled and {} flagged tables recovered; steps past stuck items: {} to a free slot, {} by a move; \
-         {} steps from some start; passes that went on: {} to the end, {} with stuck items left",
+         {} steps from some start; passes that went on: {} to the end, {} with stuck items left; {}",
         seen.calls,
         levels.join(", "),
         seen.doubled,
@@ -44,7 +47,8 @@ fn run(arguments: &[String]) -> Result<String, String> {
         seen.steps.past_stuck_items(Way::Move),
         seen.starts.steps(),
         seen.starts.passes_to_the_end,
-        seen.starts.passes_with_items_left
+        seen.starts.passes_with_items_left,
+        seen.phases
     ))
 }
 
@@ -66,6 +70,10 @@ fn demand(seen: &Seen, calls: u64) -> Result<(), String> {
     if !rare_levels.is_empty() {
         return Err(format!("levels in which queries seldom found a key: {rare_levels:?}"));
     }
+    let rare_changes = seen.phases.rare(telling * LEAST_OF_EACH_CHANGE);
+    if !rare_changes.is_empty() {
+        return Err(format!("changes that were seldom met in a phase: {rare_changes:?}"));
+    }
     let least = telling * LEAST_OF_EACH_START;
     let rare_starts = seen.starts.rare(least);
     if !rare_starts.is_empty() {
@@ -74,7 +82,7 @@ fn demand(seen: &Seen, calls: u64) -> Result<(), String> {
     Ok(())
 }
 
-/// All but 2 and 14, which need a list.
+/// All but 2 and 14, which need a list, and 15 and 16, which are a chain's.
 fn possible_answers() -> impl Iterator<Item = u64> {
-    (0..=13).filter(|&number| number != 2)
+    (0..=17).filter(|number| ![2, 14, 15, 16].contains(number))
 }

@@ -9,7 +9,7 @@ use ragansils_model::{Refusal, Table};
 /// Those that need no step before them.
 const FRESH: [Start; 5] = [Start::First, Start::Within, Start::Size, Start::Past, Start::Last];
 
-/// Any but one that a step tells, with its bucket. A table that does not grow is asked as if its level were small.
+/// Any but one that a step tells, with its bucket. A table at rest is asked as if it had a small interim level.
 pub fn random_start(random: &mut Random, table: &[u64]) -> (Start, u64) {
     let buckets = interim_buckets(table).unwrap_or(4);
     // Half of all starts lie in the level, where most is to be met.
@@ -18,7 +18,7 @@ pub fn random_start(random: &mut Random, table: &[u64]) -> (Start, u64) {
     word.map_or((Start::First, 0), |word| (start, word))
 }
 
-/// The answers that a step from there may give where the table grows, its header is good and its flag is clear.
+/// The answers that a step from there may give where the table grows or shrinks, its header is good and its flag is clear.
 fn answers(start: Start) -> &'static [u64] {
     match start {
         Start::First | Start::Told | Start::Within => &[0, 6, 11],

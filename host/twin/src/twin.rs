@@ -23,6 +23,8 @@ mod raw {
         pub fn twin_update(table: *mut u64, words: usize, key: u64, function: u64, place: u64) -> u64;
         pub fn twin_delete(table: *mut u64, words: usize, key: u64) -> u64;
         pub fn twin_begin(table: *mut u64, words: usize) -> u64;
+        pub fn twin_shrink(table: *mut u64, words: usize) -> u64;
+        pub fn twin_back(table: *mut u64, words: usize) -> u64;
         pub fn twin_step(table: *mut u64, words: usize) -> u64;
         pub fn twin_step_from(table: *mut u64, words: usize, from: u64, bucket: *mut u64) -> u64;
         pub fn twin_end(table: *mut u64, words: usize) -> u64;
@@ -67,6 +69,8 @@ impl Side for Twin {
                 }
                 Event::Delete { key } => raw::twin_delete(words, length, key),
                 Event::Begin => raw::twin_begin(words, length),
+                Event::Shrink => raw::twin_shrink(words, length),
+                Event::Back => raw::twin_back(words, length),
                 Event::Step => raw::twin_step(words, length),
                 Event::StepFrom { from } => raw::twin_step_from(words, length, from, &mut 0),
                 Event::End => raw::twin_end(words, length),
