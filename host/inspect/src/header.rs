@@ -34,6 +34,7 @@ fn state_words(state: &u64) -> String {
     match state / PHASE_UNIT {
         0 => format!(": k = {k}, at rest"),
         1 => format!(": k = {k}, growing"),
+        2 => format!(": k = {k}, shrinking"),
         phase => format!(": k = {k}, in phase {phase}"),
     }
 }
@@ -98,13 +99,16 @@ fn capacity_fault(capacity: u64, length: u64) -> Option<String> {
 
 fn state_fault(state: u64, capacity: u64) -> Option<String> {
     let (phase, k) = (state / PHASE_UNIT, state % PHASE_UNIT);
-    let least = match phase {
-        0 => 1,
-        1 => 2,
+    let (least, most, most_words) = match phase {
+        0 => (1, capacity, "c"),
+        1 => (2, capacity, "c"),
+        // The interim level is twice as large as the top.
+        2 => (1, capacity.saturating_sub(1), "c - 1"),
         _ => {
-            return Some(format!("the state {state} has phase {phase}; known are 0, at rest, and 1, growing"))
+            let known = "known are 0, at rest, 1, growing, and 2, shrinking";
+            return Some(format!("the state {state} has phase {phase}; {known}"));
         }
     };
-    let bad = k < least || k > capacity;
-    bad.then(|| format!("the state {state} has k = {k}, which is not {least} to c = {capacity}"))
+    let bad = k < least || k > most;
+    bad.then(|| format!("the state {state} has k = {k}, which is not {least} to {most_words} = {most}"))
 }

@@ -47,7 +47,8 @@ fn fill_line(name: impl Display, buckets: usize, taken: usize) -> String {
 
 /// How many buckets of the largest level a character stands for, if several.
 fn cell_note(levels: &[Level]) -> String {
-    match levels.first().map_or(1, |top| buckets_per_cell(*top)) {
+    // Not always the top: while a table shrinks, the interim level is.
+    match levels.iter().map(|level| buckets_per_cell(*level)).max().unwrap_or(1) {
         1 => String::new(),
         several => format!(" (up to {several} together, rounded up)"),
     }

@@ -47,14 +47,16 @@ mod tests {
         Some(level)
     }
 
-    /// With so many parts of a growth done.
-    fn check_table(multipliers: [u64; 2], parts: u64) -> Vec<Option<Level>> {
+    type OwnTable = ragansils::Table<Vec<u64>, OrdinaryMemory>;
+
+    /// After some parts of a growth or a shrink.
+    fn check_table(multipliers: [u64; 2], resize: impl FnOnce(&mut OwnTable)) -> Vec<Option<Level>> {
         let creation = Creation { capacity: 7, first_top: 6, multipliers };
         let words = vec![0; creation.words().unwrap()];
         let mut table = ragansils::Table::create(words, &creation, OrdinaryMemory).unwrap();
         let record = Record { function: 1, place: 2 };
         let taken = (0..KEYS).take_while(|&number| table.insert(key(number), record).is_ok()).count() as u64;
-        table.grow(parts).unwrap();
+        resize(&mut table);
         let of_words = Table::read(table.words()).unwrap();
         let told = |number| check(&of_words, key(number), table.query(key(number)).unwrap());
         let mut levels: Vec<Option<Level>> = (0..2 * taken).map(told).collect();
@@ -67,15 +69,19 @@ mod tests {
     fn the_slot_that_is_told_lies_in_the_last_place_looked_at() {
         let multipliers = [MULTIPLIER_1, MULTIPLIER_2];
         let at_rest = [None, Some(Level::Top), Some(Level::Bottom)];
-        assert_eq!(check_table(multipliers, 0), at_rest);
-        assert_eq!(check_table(multipliers, 10), [&at_rest[..], &[Some(Level::Interim)]].concat());
+        assert_eq!(check_table(multipliers, |_| ()), at_rest);
+        let resizing = [&at_rest[..], &[Some(Level::Interim)]].concat();
+        assert_eq!(check_table(multipliers, |table| assert_eq!(table.grow(10), Ok(false))), resizing);
+        assert_eq!(check_table(multipliers, |table| assert_eq!(table.shrink(100), Ok(false))), resizing);
     }
 
     /// With equal multipliers both places are one.
     #[test]
     fn places_that_coincide_are_one() {
-        let levels = check_table([MULTIPLIER_1; 2], 10);
-        assert!(levels.contains(&Some(Level::Interim)));
+        for resize in [OwnTable::grow, OwnTable::shrink] {
+            let levels = check_table([MULTIPLIER_1; 2], |table| assert_eq!(resize(table, 10), Ok(false)));
+            assert!(levels.contains(&Some(Level::Interim)));
+        }
         let creation = Creation { capacity: 2, first_top: 1, multipliers: [EQUAL; 2] };
         let words = vec![0; creation.words().unwrap()];
         let table = ragansils::Table::create(words, &creation, OrdinaryMemory).unwrap();

@@ -74,6 +74,24 @@ fn a_key_is_shown_in_the_bottom_and_in_the_interim_level() {
     );
 }
 
+/// k = 1, shrinking: the top has become the interim level, of four buckets, and is looked at last.
+#[test]
+fn a_key_is_shown_in_the_interim_level_of_a_shrink() {
+    let shrinking = with(table([1, 3, 5, 7]), &[(4, 513), (61, 1), (62, 9), (63, 109), (64, 209)]);
+    has(
+        told_of_key("key-shrink", &shrinking, 9),
+        FOUND,
+        &[
+            "where: word 62, byte 496 of the file, in the interim level; marked * below",
+            "buckets looked at: 3 of 4",
+            "1. top bucket 2 [####], looked at; its token, word 35, is 15",
+            "2. bottom bucket 0 [....], looked at; its token, word 9, is 0",
+            "3. interim bucket 4 [*...], looked at; its token, word 61, is 1",
+            "4. interim bucket 6 [....], not looked at; its token, word 87, is 0",
+        ],
+    );
+}
+
 #[test]
 fn of_a_key_that_stands_twice_the_first_slot_is_marked() {
     let doubled = with(table([3]), &[(9, 1), (10, 3), (11, 103), (12, 203)]);

@@ -52,6 +52,77 @@ fn a_large_level_is_drawn_with_several_buckets_to_a_digit() {
     );
 }
 
+/// Key 9 stands in the second of four interim buckets, which were the top; all other keys are where they were.
+const SHRINKING: [(usize, u64); 5] = [(4, 513), (61, 1), (62, 9), (63, 109), (64, 209)];
+
+#[test]
+fn three_levels_are_drawn_while_a_table_grows_or_shrinks() {
+    has(
+        told_of("growing", &with(table([1, 3, 5, 7, 9]), &[(4, 258)])),
+        SOUND,
+        &[
+            "state        258: k = 2, growing",
+            "top             4 buckets,        0 of       16 slots taken,   0.0 % [....................]",
+            "in all          7 buckets,        5 of       28 slots taken,  17.9 % [###.................]",
+            "top      |....|",
+            "bottom   |.4|",
+            "interim  |1|",
+        ],
+    );
+    has(
+        told_of("shrinking", &with(table([1, 3, 5, 7]), &SHRINKING)),
+        SOUND,
+        &[
+            "state        513: k = 1, shrinking",
+            "interim         4 buckets,        1 of       16 slots taken,   6.2 % [#...................]",
+            "in all          7 buckets,        5 of       28 slots taken,  17.9 % [###.................]",
+            "top      |.4|",
+            "bottom   |.|",
+            "interim  |.1..|",
+            "would do nothing",
+        ],
+    );
+}
+
+/// While a table shrinks the interim level is the largest, and the largest tells how many buckets a digit has.
+#[test]
+fn a_large_interim_level_is_drawn_with_several_buckets_to_a_digit() {
+    let mut words = empty(&Creation { capacity: 8, first_top: 7, ..MARKED });
+    words[4] = 512 + 7;
+    words[9 + 13 * 510] = 1;
+    words[9 + 13 * 510 + 1] = 255;
+    has(
+        told_of("large-interim", &words),
+        SOUND,
+        &[
+            "buckets, each by its taken slots (up to 4 together, rounded up):",
+            &format!("top      |{}|", ".".repeat(64)),
+            &format!("interim  |{}1|", ".".repeat(63)),
+        ],
+    );
+}
+
+/// Of two copies the one in the interim level goes, though that level is the largest; and what lies below the bottom is not in use.
+#[test]
+fn a_shrink_that_was_cut_is_told_by_its_own_levels() {
+    let doubled = with(table([1, 3, 5, 7, 9]), &SHRINKING);
+    has(
+        told_of("shrink-cut", &doubled),
+        MENDABLE,
+        &[
+            "- key 9 (address 0x0, depth 9) stands in 2 slots with equal records: slot 0 of bottom bucket 0, slot 0 of interim bucket 4",
+            "would clear the later of two equal copies of key 9 (address 0x0, depth 9): slot 0 of interim bucket 4",
+            "word 61 becomes 0",
+        ],
+    );
+    let mut words = empty(&Creation { capacity: 3, first_top: 2, ..MARKED });
+    words[4] = 512 + 2;
+    has(told_of("shrink-empty", &words), SOUND, &["interim  |........|"]);
+    words[9] = 1;
+    let fault = "- the token word of bucket 0 is 1, and its level is not in use";
+    has(told_of("shrink-unused", &words), REFUSED, &[fault]);
+}
+
 #[test]
 fn an_update_that_was_cut_would_be_made_again() {
     let cut = with(table([1, 3, 5, 7]), &[(6, 36), (7, 30), (8, 40), (5, 1), (37, 30)]);
@@ -133,7 +204,7 @@ fn many_faults_of_a_kind_are_counted() {
 #[test]
 fn a_bad_header_is_named() {
     let good = table([1]);
-    let rows: [(&str, Vec<u64>, &str); 10] = [
+    let rows: [(&str, Vec<u64>, &str); 12] = [
         ("length", good[..47].to_vec(), "the length 376 bytes is no table's length; a table of c = 1 has 384"),
         ("tiny", good[..3].to_vec(), "the file is too short for a header of 9 words"),
         ("form", with(good.clone(), &[(0, 2)]), "form 2 is not known; known is 1"),
@@ -146,7 +217,13 @@ fn a_bad_header_is_named() {
         ("other", with(good.clone(), &[(1, 3)]), "a table of c = 3 has 1632 bytes, and the file has 800"),
         ("even", with(good.clone(), &[(3, 4)]), "the second multiplier 4 is even"),
         ("k", with(good.clone(), &[(4, 3)]), "the state 3 has k = 3, which is not 1 to c = 2"),
-        ("phase", with(good.clone(), &[(4, 513)]), "the state 513 has phase 2; known are 0, at rest, and 1, growing"),
+        ("growing", with(good.clone(), &[(4, 257)]), "the state 257 has k = 1, which is not 2 to c = 2"),
+        ("shrinking", with(good.clone(), &[(4, 514)]), "the state 514 has k = 2, which is not 1 to c - 1 = 1"),
+        (
+            "phase",
+            with(good.clone(), &[(4, 769)]),
+            "the state 769 has phase 3; known are 0, at rest, 1, growing, and 2, shrinking",
+        ),
         (
             "zeros",
             vec![0; good.len()],
