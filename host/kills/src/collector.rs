@@ -4,11 +4,11 @@ use std::cell::Cell;
 use std::path::Path;
 use std::rc::Rc;
 
-use ragansils::{MappedFile, Platform, Record, Table};
+use ragansils::{MappedFile, Phase, Platform, Record, Refusal, Table};
 use ragansils_compare::history::{next_event, Keys, Mood, Setting};
 use ragansils_compare::random::Random;
 use ragansils_compare::say;
-use ragansils_model::{word, Event};
+use ragansils_model::{word, Event, PHASE_UNIT};
 
 use crate::records::sealed;
 use crate::said::Said;
@@ -115,7 +115,7 @@ fn hold_wrongly(path: &Path, event: Event, after: u64, wrong: Wrong) -> Answer {
     Ok(())
 }
 
-/// Changes without end, growing the table where there is no place.
+/// Changes without end; the table grows where there is no place, shrinks and is turned back.
 fn live(path: &Path, seed: u64, keys_seed: u64) -> Answer {
     let mut random = Random::new(seed);
     let gate = Gate { slowness: 200 + random.below(2000), ..Gate::default() };
@@ -124,7 +124,7 @@ fn live(path: &Path, seed: u64, keys_seed: u64) -> Answer {
     say(Said::Done(0));
 
     let header = table.words();
-    let (c, k) = (header[word::CAPACITY], header[word::STATE]);
+    let (c, k) = (header[word::CAPACITY], header[word::STATE] % PHASE_UNIT);
     let setting = Setting { c, k, mul1: header[word::MULTIPLIER_1], mul2: header[word::MULTIPLIER_2] };
     // All collectors of a file have the same keys, so that they find each other's.
     let keys = Keys::random(&mut Random::new(keys_seed), setting);
@@ -139,6 +139,16 @@ fn live(path: &Path, seed: u64, keys_seed: u64) -> Answer {
     }
 }
 
+/// By a part of what is under way, so that kills meet it in the middle of a pass. Where nothing is left to move it comes to its end, which keeps
+/// the map as a step does.
+fn step(table: &mut Table<MappedFile, Gate>) -> Result<u64, Refusal> {
+    match table.phase()? {
+        Phase::AtRest => table.step(),
+        Phase::Growing => table.grow_on().map(|_| 0),
+        Phase::Shrinking => table.shrink_on().map(|_| 0),
+    }
+}
+
 /// Makes a change through the crate; answers the number of the C interface.
 fn change(table: &mut Table<MappedFile, Gate>, event: Event) -> u64 {
     let changed = match event {
@@ -146,10 +156,9 @@ fn change(table: &mut Table<MappedFile, Gate>, event: Event) -> u64 {
         Event::Update { key, function, place } => table.update(key.into(), Record { function, place }),
         Event::Delete { key } => table.delete(key.into()),
         Event::Begin => table.begin(),
-        // By the growth driver, so that kills meet it in the middle of a pass. Where nothing is left to move it ends the growth, which keeps
-        // the map as a step does.
-        Event::Step if table.is_growing() == Ok(true) => table.grow_on().map(|_| 0),
-        Event::Step => table.step(),
+        Event::Shrink => table.begin_shrink(),
+        Event::Back => table.back(),
+        Event::Step => step(table),
         Event::StepFrom { from } => table.step_from(from).map(|step| step.stores),
         Event::End => table.end(),
         Event::Recover => table.recover(),

@@ -3,7 +3,6 @@
 use std::collections::BTreeMap;
 use std::path::Path;
 
-use ragansils_compare::case::event_name;
 use ragansils_compare::plain_map::PlainMap;
 use ragansils_compare::random::Random;
 use ragansils_compare::say;
@@ -13,18 +12,18 @@ use crate::collector::Task;
 use crate::judge::{made, maps_after, read_words, stores_of, which_map, write_words};
 use crate::process::Collector;
 use crate::said::Said;
-use crate::tables::Prepared;
+use crate::tables::{Kind, Prepared};
 use crate::wrong::Wrong;
 
 /// Kills by kind of change and by the stores that were made.
 #[derive(Default)]
 pub struct Kills {
-    counts: BTreeMap<(String, u64), BTreeMap<u64, u64>>,
+    counts: BTreeMap<Kind, BTreeMap<u64, u64>>,
 }
 
 impl Kills {
-    fn count(&mut self, name: &str, stores: u64, made: u64) {
-        *self.counts.entry((name.to_string(), stores)).or_default().entry(made).or_default() += 1;
+    fn count(&mut self, kind: Kind, made: u64) {
+        *self.counts.entry(kind).or_default().entry(made).or_default() += 1;
     }
 
     pub fn total(&self) -> u64 {
@@ -33,9 +32,9 @@ impl Kills {
 
     pub fn print(&self) {
         say!("kills after so many stores of a change (the numbers of kills):");
-        for ((name, stores), by_made) in &self.counts {
+        for (kind, by_made) in &self.counts {
             let cells: Vec<String> = by_made.iter().map(|(made, kills)| format!("{made}: {kills}")).collect();
-            say!("  {:<20} {}", format!("{name} of {stores}"), cells.join("  "));
+            say!("  {kind:<24} {}", cells.join("  "));
         }
     }
 }
@@ -51,7 +50,7 @@ pub struct Exact<'a> {
 impl Exact<'_> {
     /// Kills a change after each of its stores, and before the first.
     pub fn every_store(&mut self, prepared: &Prepared) -> Result<(), String> {
-        for after in 0..=prepared.stores() {
+        for after in 0..=prepared.kind.stores {
             let in_words = |what| format!("{:?} killed after {after} stores: {what}", prepared.event);
             self.one_kill(prepared, after).map_err(in_words)?;
         }
@@ -60,7 +59,7 @@ impl Exact<'_> {
 
     fn one_kill(&mut self, prepared: &Prepared, after: u64) -> Result<(), String> {
         write_words(self.path, &prepared.words)?;
-        let said = self.kill_at(prepared.event, prepared.stores(), after)?;
+        let said = self.kill_at(prepared.event, prepared.kind, after)?;
         let maps = self.maps_now(prepared, after, &said)?;
         let cut = read_words(self.path)?;
         if self.wrong.is_none() && cut != made(&prepared.words, &prepared.list, after) {
@@ -72,7 +71,7 @@ impl Exact<'_> {
     }
 
     /// Starts a collector that waits after so many stores of the event, and kills it there; answers what it said.
-    fn kill_at(&mut self, event: Event, stores: u64, after: u64) -> Result<Vec<Said>, String> {
+    fn kill_at(&mut self, event: Event, kind: Kind, after: u64) -> Result<Vec<Said>, String> {
         let mut collector = Collector::start(self.path, self.wrong, Task::Hold { event, after })?;
         let mut said = vec![];
         loop {
@@ -85,7 +84,7 @@ impl Exact<'_> {
             }
         }
         said.extend(collector.kill()?);
-        self.kills.count(event_name(event), stores, after);
+        self.kills.count(kind, after);
         Ok(said)
     }
 
@@ -93,7 +92,7 @@ impl Exact<'_> {
     fn maps_now(&self, prepared: &Prepared, after: u64, said: &[Said]) -> Result<Vec<PlainMap>, String> {
         Ok(match after {
             0 => vec![prepared.before.clone()],
-            _ if after == prepared.stores() => vec![prepared.after.clone()],
+            _ if after == prepared.kind.stores => vec![prepared.after.clone()],
             _ => maps_after(&prepared.before, said)?,
         })
     }
@@ -104,15 +103,16 @@ impl Exact<'_> {
         if self.wrong.is_some() || stores == 0 {
             return Ok(());
         }
+        let kind = Kind::of(cut, Event::Recover, stores)?;
         for after in 0..=stores {
             write_words(self.path, cut)?;
-            self.kill_at(Event::Recover, stores, after)?;
+            self.kill_at(Event::Recover, kind, after)?;
             let again = stores_of(&read_words(self.path)?, Event::Recover);
             let again = again
                 .map_err(|refusal| format!("a killed recovery leaves a table refused with {refusal}"))?;
-            let stores_again = again.len() as u64 / 2;
-            let after_again = self.random.below(stores_again + 1);
-            self.kill_at(Event::Recover, stores_again, after_again)?;
+            let kind_again = Kind { stores: again.len() as u64 / 2, ..kind };
+            let after_again = self.random.below(kind_again.stores + 1);
+            self.kill_at(Event::Recover, kind_again, after_again)?;
             self.opened_again(maps).map_err(|what| format!("recovery killed after {after}: {what}"))?;
         }
         Ok(())

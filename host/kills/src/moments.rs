@@ -3,10 +3,11 @@
 use std::path::Path;
 use std::time::Duration;
 
-use ragansils::{Creation, MappedFile};
+use ragansils::{Creation, MappedFile, Phase};
 use ragansils_compare::plain_map::PlainMap;
 use ragansils_compare::random::Random;
 use ragansils_compare::say;
+use ragansils_model::word;
 
 use crate::collector::Task;
 use crate::judge::{maps_after, read_words, recovered, which_map};
@@ -27,13 +28,17 @@ pub struct Moments {
     pub changes: u64,
     pub in_a_change: u64,
     pub to_mend: u64,
+    /// Of tables that were growing, and of tables that were shrinking.
+    pub growing: u64,
+    pub shrinking: u64,
 }
 
 impl Moments {
     pub fn print(&self) {
         say!(
-            "kills at random moments: {}, of which {} in the middle of a change and {} with something to mend; changes acknowledged: {}",
-            self.kills, self.in_a_change, self.to_mend, self.changes
+            "kills at random moments: {}, of which {} in the middle of a change and {} with something to mend; {} of tables that grew and \
+             {} of tables that shrank; changes acknowledged: {}",
+            self.kills, self.in_a_change, self.to_mend, self.growing, self.shrinking, self.changes
         );
     }
 
@@ -87,6 +92,11 @@ impl Moments {
         self.changes += said.iter().filter(|one| matches!(one, Said::Done(0))).count() as u64;
         self.in_a_change += u64::from(matches!(said.last(), Some(Said::About(_))));
         self.to_mend += u64::from(recovered != words);
+        match Phase::of_state(words[word::STATE]) {
+            Some(Phase::Growing) => self.growing += 1,
+            Some(Phase::Shrinking) => self.shrinking += 1,
+            _ => {}
+        }
         Ok(maps.into_iter().nth(which).unwrap_or_default())
     }
 }

@@ -24,11 +24,10 @@ impl Collector {
         let program = std::env::current_exe().map_err(|error| error.to_string())?;
         let mut command = built(program);
         command.arg("collect").arg(path).arg(wrong.map_or("right", Wrong::name)).args(task_words(task));
-        let mut child = command
-            .stdin(Stdio::piped())
-            .stdout(Stdio::piped())
-            .spawn()
-            .map_err(|error| error.to_string())?;
+        // What a wrong one complains of is no finding.
+        let complaints = if wrong.is_some() { Stdio::null() } else { Stdio::inherit() };
+        let child = command.stdin(Stdio::piped()).stdout(Stdio::piped()).stderr(complaints).spawn();
+        let mut child = child.map_err(|error| error.to_string())?;
         let output = child.stdout.take().ok_or("no output of a collector")?;
         Ok(Collector { child, lines: BufReader::new(output).lines() })
     }

@@ -69,9 +69,18 @@ mod tests {
         let insert = Event::Insert { key: u64::MAX, function: 0, place: 7 };
         let update = Event::Update { key: 1, function: 2, place: 3 };
         let (delete, step_from) = (Event::Delete { key: 4 }, Event::StepFrom { from: 5 });
-        for event in
-            [insert, update, delete, Event::Begin, Event::Step, step_from, Event::End, Event::Recover]
-        {
+        for event in [
+            insert,
+            update,
+            delete,
+            Event::Begin,
+            Event::Shrink,
+            Event::Back,
+            Event::Step,
+            step_from,
+            Event::End,
+            Event::Recover,
+        ] {
             assert_eq!(Said::read(&Said::About(event).line()), Ok(Said::About(event)));
         }
         for said in [Said::Done(6), Said::Held] {

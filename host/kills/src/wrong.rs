@@ -1,7 +1,7 @@
 //! Collectors with a mistake. The comparison must catch each of them, or it would show nothing of the right one.
 
 use ragansils::Platform;
-use ragansils_model::{word, Event, LEAST_LIST_WORDS};
+use ragansils_model::{word, Event, LEAST_LIST_WORDS, PHASE_UNIT};
 
 use crate::collector::{say, Gate};
 use crate::said::Said;
@@ -14,6 +14,8 @@ pub enum Wrong {
     LastFirst,
     /// Updates a full bucket's two words without the log.
     WithoutLog,
+    /// Stores the state of a shrink as if the table grew.
+    ShrinkAsGrowth,
     /// Says that a change is done before it is.
     DoneTooSoon,
     /// Does not recover when it opens the table.
@@ -21,14 +23,21 @@ pub enum Wrong {
 }
 
 impl Wrong {
-    pub const ALL: [Wrong; 5] =
-        [Wrong::Backwards, Wrong::LastFirst, Wrong::WithoutLog, Wrong::DoneTooSoon, Wrong::WithoutRecovery];
+    pub const ALL: [Wrong; 6] = [
+        Wrong::Backwards,
+        Wrong::LastFirst,
+        Wrong::WithoutLog,
+        Wrong::ShrinkAsGrowth,
+        Wrong::DoneTooSoon,
+        Wrong::WithoutRecovery,
+    ];
 
     pub fn name(self) -> &'static str {
         match self {
             Wrong::Backwards => "backwards",
             Wrong::LastFirst => "last-first",
             Wrong::WithoutLog => "without-log",
+            Wrong::ShrinkAsGrowth => "shrink-as-growth",
             Wrong::DoneTooSoon => "done-too-soon",
             Wrong::WithoutRecovery => "without-recovery",
         }
@@ -39,6 +48,7 @@ impl Wrong {
         match self {
             Wrong::Backwards | Wrong::LastFirst => "",
             Wrong::WithoutLog => "half new",
+            Wrong::ShrinkAsGrowth => "cannot open the table",
             Wrong::DoneTooSoon => "neither map",
             Wrong::WithoutRecovery => "recovery has something to mend",
         }
@@ -59,6 +69,7 @@ pub fn change(words: &mut [u64], event: Event, wrong: Wrong, gate: &mut Gate) {
         Wrong::Backwards => stores.reverse(),
         Wrong::LastFirst => stores.rotate_right(1),
         Wrong::WithoutLog => stores.retain(|&[index, _]| index > word::UPDATE_PLACE as u64),
+        Wrong::ShrinkAsGrowth => stores.iter_mut().for_each(as_growth),
         Wrong::DoneTooSoon => say(Said::Done(0)),
         Wrong::WithoutRecovery => {}
     }
@@ -66,5 +77,12 @@ pub fn change(words: &mut [u64], event: Event, wrong: Wrong, gate: &mut Gate) {
         let word = &mut words[index as usize];
         *word = value;
         gate.stored(word);
+    }
+}
+
+/// The state word of phase 2 becomes that of phase 1.
+fn as_growth([index, value]: &mut [u64; 2]) {
+    if *index == word::STATE as u64 && *value / PHASE_UNIT == 2 {
+        *value -= PHASE_UNIT;
     }
 }
