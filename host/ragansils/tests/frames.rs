@@ -143,6 +143,7 @@ fn frames_stay(table: &mut OwnTable, part: fn(&mut OwnTable) -> Result<Part, Ref
         let most = if table.phase() == Ok(Phase::AtRest) { 4 * 256 } else { 6 * 256 };
         assert!((256..=most).contains(&frames.buckets()));
         parts.push(part(table).unwrap());
+        assert_ne!(parts.last(), Some(&Part::Turned));
     }
     assert!(parts.contains(&Part::Moved));
     assert_eq!(table.frames(ADDRESS, 255).unwrap().records(), records_from(ADDRESS, 255));

@@ -267,7 +267,7 @@ fn a_part_of_the_other_kind_turns_back() {
     assert_eq!(table.grow(2), Ok(false));
     assert_eq!((table.shrink_on(), table.phase()), (Ok(Part::Turned), Ok(Phase::Shrinking)));
     assert_eq!((table.grow_on(), table.phase()), (Ok(Part::Turned), Ok(Phase::Growing)));
-    assert_eq!(table.shrink(u64::MAX), Ok(true));
+    assert_eq!(table.shrink(100), Ok(true));
     // The table that was at the beginning, but for where its items stand.
     assert_eq!(map_of(table.words()), map_of(&filled_with([1, 3, 5, 7, 9, 11])));
     assert_eq!(table.words()[STATE], 1);

@@ -56,8 +56,8 @@ impl Way {
 
     fn whole(self, table: &mut Table<Vec<u64>, impl Platform>) -> Result<bool, Refusal> {
         match self {
-            Way::Grow => table.grow(u64::MAX),
-            Way::Shrink => table.shrink(u64::MAX),
+            Way::Grow => table.grow(ENOUGH),
+            Way::Shrink => table.shrink(ENOUGH),
         }
     }
 
@@ -92,6 +92,9 @@ impl Way {
 }
 
 const WAYS: [Way; 2] = [Way::Grow, Way::Shrink];
+
+/// More parts than any of these tables has: a driver that only turns back and forth does not come to its end.
+const ENOUGH: u64 = 10_000;
 
 /// The words of a table before its last growth, and its keys.
 fn filled(c: u64, tenths: u64) -> (Vec<u64>, Vec<u64>) {
@@ -235,7 +238,9 @@ fn all_parts_go_through_the_interim_level_once() {
         while !ended {
             let (next_calls, next_buckets) = looked_at_next(&table, interim_buckets);
             (parts, calls, buckets) = (parts + 1, calls + next_calls, buckets + next_buckets);
-            ended = way.part(&mut table).unwrap() == Part::Ended;
+            let part = way.part(&mut table).unwrap();
+            assert_ne!(part, Part::Turned);
+            ended = part == Part::Ended;
         }
         let steps = parts - 2;
         assert!(calls <= parts + 1, "{calls} calls in {parts} parts");

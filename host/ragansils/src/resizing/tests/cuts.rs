@@ -7,8 +7,12 @@ fn cut_after(words: &[u64], kept: u64, change: impl FnOnce(&mut Table<Vec<u64>, 
     let left = Rc::new(Cell::new(kept));
     let hook = Hook(Rc::clone(&left));
     let mut table = Table::open(words.to_vec(), hook).unwrap();
-    let run = catch_unwind(AssertUnwindSafe(|| change(&mut table)));
-    run.err().map(|_| table.into_parts().0)
+    let panic = catch_unwind(AssertUnwindSafe(|| change(&mut table))).err()?;
+    // Any other panic is a check that failed.
+    match left.get() {
+        0 => Some(table.into_parts().0),
+        _ => resume_unwind(panic),
+    }
 }
 
 /// A platform whose act panics after the last store that is to be made.

@@ -8,7 +8,7 @@ fn stuck(k: u64) -> (OwnTable, Vec<u64>) {
     let (words, keys) = filled_of(k, k, 8);
     assert!(keys.len() > 6 << (k - 1));
     let mut table = opened(&words);
-    assert_eq!(table.shrink(u64::MAX), Err(Refusal::NoPlace));
+    assert_eq!(table.shrink(ENOUGH), Err(Refusal::NoPlace));
     assert_eq!((table.phase(), table.end()), (Ok(Phase::Shrinking), Err(Refusal::InterimTaken)));
     assert!(holds(table.words(), &keys));
     (table, keys)
@@ -20,7 +20,7 @@ fn a_stuck_shrink_is_turned_back() {
         for turn in [Table::back, |table: &mut OwnTable| table.grow_on().map(|_| 1)] {
             let (mut table, keys) = stuck(k);
             assert_eq!((turn(&mut table), table.phase()), (Ok(1), Ok(Phase::Growing)));
-            assert_eq!(table.grow(u64::MAX), Ok(true), "k = {k}");
+            assert_eq!(table.grow(ENOUGH), Ok(true), "k = {k}");
             assert_eq!((table.phase(), table.words()[4]), (Ok(Phase::AtRest), k));
             assert!(holds(table.words(), &keys));
         }
@@ -36,7 +36,7 @@ fn a_stuck_shrink_goes_on_once_keys_are_deleted() {
         for key in keys {
             table.delete(key.into()).unwrap();
         }
-        assert_eq!(table.shrink(u64::MAX), Ok(true), "k = {k}");
+        assert_eq!(table.shrink(ENOUGH), Ok(true), "k = {k}");
         assert_eq!((table.phase(), table.words()[4]), (Ok(Phase::AtRest), k - 1));
         assert!(holds(table.words(), &kept));
     }
