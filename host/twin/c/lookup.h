@@ -23,25 +23,32 @@ static inline unsigned slot_with(const struct bucket *b, uint64_t key)
     return SLOTS;
 }
 
+/* The search in one level, of 2^e buckets, after so many buckets of others. */
+static inline struct found find_in(const struct table *t, uint64_t key, struct hashes x, enum ragansils_level level, unsigned e,
+                                   unsigned probes)
+{
+    const struct bucket *first = &t->buckets[place_of(x.first, e)];
+    const struct bucket *second = &t->buckets[place_of(x.second, e)];
+    unsigned s = slot_with(first, key);
+    if (s < SLOTS)
+        return (struct found){first, s, level, probes + 1};
+    if (second == first)
+        return (struct found){NULL, 0, 0, probes + 1};
+    s = slot_with(second, key);
+    if (s < SLOTS)
+        return (struct found){second, s, level, probes + 2};
+    return (struct found){NULL, 0, 0, probes + 2};
+}
+
 static inline struct found find(const struct table *t, uint64_t key, struct hashes x)
 {
-    unsigned probes = 0, levels = levels_in_use(t);
-    for (unsigned level = 0; level < levels; level++) {
-        unsigned e = level_exponent(t, level);
-        const struct bucket *first = &t->buckets[place_of(x.first, e)];
-        const struct bucket *second = &t->buckets[place_of(x.second, e)];
-        probes++;
-        unsigned s = slot_with(first, key);
-        if (s < SLOTS)
-            return (struct found){first, s, level, probes};
-        if (second == first)
-            continue;
-        probes++;
-        s = slot_with(second, key);
-        if (s < SLOTS)
-            return (struct found){second, s, level, probes};
-    }
-    return (struct found){NULL, 0, 0, probes};
+    unsigned k = top_exponent(t);
+    struct found found = find_in(t, key, x, RAGANSILS_TOP, k, 0);
+    if (found.bucket == NULL)
+        found = find_in(t, key, x, RAGANSILS_BOTTOM, k - 1, found.probes);
+    if (found.bucket == NULL && is_resizing(t))
+        found = find_in(t, key, x, RAGANSILS_INTERIM, interim_exponent(t), found.probes);
+    return found;
 }
 
 /* The first tests of an insert, then 4 where the key stands; and the hashes of one that does not. */

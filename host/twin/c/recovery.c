@@ -116,8 +116,8 @@ uint64_t twin_recover(uint64_t *table, size_t words)
         return RAGANSILS_BAD_HEADER;
     struct scan scan = {0};
     bool good = t->flag <= 1 && tokens_good(t);
-    for (unsigned level = 0; good && level < levels_in_use(t); level++)
-        good = scan_level(&scan, t, level_exponent(t, level));
+    for (unsigned e = least_exponent(t); good && e <= greatest_exponent(t); e++)
+        good = scan_level(&scan, t, e);
     if (!good || scan.pairs > 1 - t->flag)
         return RAGANSILS_NO_KIND;
     if (t->flag == 1)

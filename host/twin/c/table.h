@@ -67,22 +67,10 @@ static inline bool is_resizing(const struct table *t)
     return phase_of(t) != AT_REST;
 }
 
-/* Top and bottom, and the interim level of a table that is resizing. */
-static inline unsigned levels_in_use(const struct table *t)
-{
-    return is_resizing(t) ? 3 : 2;
-}
-
 /* The interim level has 2^e buckets: a quarter of the top while growing, and twice the top while shrinking. */
 static inline unsigned interim_exponent(const struct table *t)
 {
     return phase_of(t) == GROWING ? top_exponent(t) - 2 : top_exponent(t) + 1;
-}
-
-/* A level in use (enum ragansils_level) has 2^e buckets. */
-static inline unsigned level_exponent(const struct table *t, unsigned level)
-{
-    return level == RAGANSILS_INTERIM ? interim_exponent(t) : top_exponent(t) - level;
 }
 
 static inline bool header_good(const struct table *t, size_t words)

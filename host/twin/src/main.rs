@@ -19,7 +19,7 @@ const LEAST_OF_EACH_START: u64 = 15;
 /// And queries find so many keys in each level.
 const LEAST_OF_EACH_LEVEL: u64 = 100;
 /// And each change that a phase has is met so often in it.
-const LEAST_OF_EACH_CHANGE: u64 = 10;
+const LEAST_OF_EACH_CHANGE: u64 = 2;
 
 fn main() -> ExitCode {
     program::run(|arguments| run(arguments).map(|report| say!("{report}")))
