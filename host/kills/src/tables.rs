@@ -12,7 +12,7 @@ use ragansils_model::{create, table_words, word, Event};
 use crate::judge::{made, stores_of};
 use crate::records::sealed;
 
-/// A kind of change: what the table was about, the call, and its number of stores.
+/// A kind of change: the phase of the table before it, the call, and its number of stores.
 #[derive(Clone, Copy, Debug, PartialEq, Eq, PartialOrd, Ord)]
 pub struct Kind {
     pub phase: Phase,

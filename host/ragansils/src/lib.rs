@@ -13,8 +13,8 @@
 //! - [`Key`], [`Record`], [`Lookup`] with [`Found`], [`Slot`] and [`Level`], [`Chain`], [`Creation`], [`Refusal`]: what goes in and comes
 //!   out;
 //! - [`StoreList`], [`Platform`]: stores, and what a platform does after each;
-//! - [`Table`]: a table that makes its own stores, grows and shrinks in small parts ([`Part`], by hand [`Step`]; [`Phase`] is what it is
-//!   about) and tells the inlined frames at an address ([`Frames`]);
+//! - [`Table`]: a table that makes its own stores, grows and shrinks in small parts ([`Part`], by hand [`Step`]; [`Phase`] tells which is
+//!   under way) and tells the inlined frames at an address ([`Frames`]);
 //! - [`MappedFile`]: words in a file, with [`words_of`] and [`bytes_of`] for a file that is only read.
 //!
 //! ```

@@ -1,4 +1,4 @@
-//! What a table is about.
+//! Whether a table is at rest, grows or shrinks.
 
 use std::fmt;
 

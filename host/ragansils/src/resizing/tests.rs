@@ -77,7 +77,7 @@ impl Way {
         }
     }
 
-    /// The interim level's, where it began at so many top buckets.
+    /// The buckets of its interim level, where it began at so many top buckets.
     fn interim_buckets(self, top_buckets: u64) -> u64 {
         match self {
             Way::Grow => top_buckets / 2,
