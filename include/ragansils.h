@@ -182,8 +182,8 @@ uint64_t ragansils_begin(const uint64_t *table, size_t words, uint64_t *list, si
  * 40 N + 2 stores together, under the same premises. Refusals 1 to 3, 7, 17.
  *
  * The table has half as many slots afterwards. With more items than that a shrink is stuck for certain, and with nearly as many it may be: a
- * step is refused with 6. Nothing is lost, and every other call goes on working. There are three ways on: turn back, by ragansils_back; delete,
- * and step again; or leave the table as it is until deletes come by themselves.
+ * step is refused with 6. Nothing is lost, and every other call goes on working. There are three ways on: turn back, by ragansils_back, which
+ * makes room for inserts too; delete, and step again; or leave the table as it is until deletes come by themselves.
  */
 uint64_t ragansils_shrink(const uint64_t *table, size_t words, uint64_t *list, size_t list_words, uint64_t *stores);
 
