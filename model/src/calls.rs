@@ -1,4 +1,4 @@
-//! The twelve calls over raw words. A changing call only reads the table and
+//! The fourteen calls over raw words. A changing call only reads the table and
 //! lists its stores; `make` makes them.
 
 use crate::layout::{key_of, table_words, word, Level, Slot, LEAST_LIST_WORDS};
@@ -6,7 +6,8 @@ use crate::layout::{ADDRESS_LIMIT, LARGEST_DEPTH, WORDS_PER_CHAIN_RECORD};
 use crate::placing::{find_placing, Placing};
 use crate::recovery::{judge, Kind};
 use crate::refusal::{Refusal, SUCCESS};
-use crate::table::{Found, Search, State, Table};
+use crate::state::State;
+use crate::table::{Found, Search, Table};
 
 /// A word index and the new word.
 type Store = (usize, u64);
@@ -24,7 +25,7 @@ pub fn create(table: &mut [u64], c: u64, k: u64, mul1: u64, mul2: u64) -> u64 {
     table[word::CAPACITY] = c;
     table[word::MULTIPLIER_1] = mul1;
     table[word::MULTIPLIER_2] = mul2;
-    table[word::STATE] = State { k, growing: false }.word();
+    table[word::STATE] = State::at_rest(k).word();
     SUCCESS
 }
 
@@ -93,16 +94,16 @@ pub fn delete(table: &[u64], key: u64, list: &mut [u64]) -> (u64, u64) {
 }
 
 pub fn begin(table: &[u64], list: &mut [u64]) -> (u64, u64) {
-    change(table, list, |table| {
-        if table.state.growing {
-            return Err(Refusal::AlreadyGrowing);
-        }
-        if table.state.k == table.capacity() {
-            return Err(Refusal::AtCapacity);
-        }
-        let grown = State { k: table.state.k + 1, growing: true };
-        Ok(vec![(word::STATE, grown.word())])
-    })
+    change_state(table, list, |table| table.state.begin(table.capacity()))
+}
+
+pub fn shrink(table: &[u64], list: &mut [u64]) -> (u64, u64) {
+    change_state(table, list, |table| table.state.shrink())
+}
+
+/// Turns a growth into a shrink and a shrink into a growth, whatever stands in the levels.
+pub fn back(table: &[u64], list: &mut [u64]) -> (u64, u64) {
+    change_state(table, list, |table| table.state.turn_back())
 }
 
 /// "`step` keeps its own name, promise and numbers, and is `step_from` with 0."
@@ -117,7 +118,7 @@ pub fn step_from(table: &[u64], from: u64, list: &mut [u64]) -> (u64, [u64; 2]) 
     // "the bucket told with a refusal is 0".
     let mut bucket = 0;
     let (number, stores) = change(table, list, |table| {
-        let interim = table.interim().ok_or(Refusal::NotGrowing)?;
+        let interim = table.interim().ok_or(Refusal::NotResizing)?;
         let item = first_item_with_place(table, interim, from)?;
         let mut stores = placing_stores(table, table.record(item))?;
         stores.push(token_cleared(table, item));
@@ -128,13 +129,12 @@ pub fn step_from(table: &[u64], from: u64, list: &mut [u64]) -> (u64, [u64; 2]) 
 }
 
 pub fn end(table: &[u64], list: &mut [u64]) -> (u64, u64) {
-    change(table, list, |table| {
-        let interim = table.interim().ok_or(Refusal::NotGrowing)?;
+    change_state(table, list, |table| {
+        let interim = table.interim().ok_or(Refusal::NotResizing)?;
         if !table.taken_slots(&[interim]).is_empty() {
             return Err(Refusal::InterimNotEmpty);
         }
-        let at_rest = State { growing: false, ..table.state };
-        Ok(vec![(word::STATE, at_rest.word())])
+        Ok(table.state.end())
     })
 }
 
@@ -173,6 +173,18 @@ pub fn make(table: &mut [u64], list: &[u64], n: u64) -> u64 {
 /// The frame of a changing call: refusals 1, 2, 3 in this order, then its own plan.
 fn change(table: &[u64], list: &mut [u64], plan: impl FnOnce(&Table) -> Plan) -> (u64, u64) {
     answer(list, |list_words| plan(&refuse_flag(read_for_list(table, list_words)?)?))
+}
+
+/// The frame of a changing call that stores a new state and nothing else.
+fn change_state(
+    table: &[u64],
+    list: &mut [u64],
+    next: impl FnOnce(&Table) -> Result<State, Refusal>,
+) -> (u64, u64) {
+    change(table, list, |table| {
+        let state = next(table)?;
+        Ok(vec![(word::STATE, state.word())])
+    })
 }
 
 /// Writes an accepted plan's stores to the list; a refused one leaves it alone.

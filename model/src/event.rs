@@ -9,6 +9,8 @@ pub enum Event {
     Update { key: u64, function: u64, place: u64 },
     Delete { key: u64 },
     Begin,
+    Shrink,
+    Back,
     Step,
     StepFrom { from: u64 },
     End,
@@ -24,6 +26,8 @@ impl Event {
             Event::Update { key, function, place } => calls::update(table, key, function, place, list),
             Event::Delete { key } => calls::delete(table, key, list),
             Event::Begin => calls::begin(table, list),
+            Event::Shrink => calls::shrink(table, list),
+            Event::Back => calls::back(table, list),
             Event::Step => calls::step(table, list),
             Event::StepFrom { from } => {
                 let (number, [stores, _bucket]) = calls::step_from(table, from, list);

@@ -1,15 +1,16 @@
 //! An independent model of the level hashing table of document 01, the paper that fixes the table and its calls,
-//! with four requests of document 02: a), the inlined callers of an address, b), the growth step that passes
-//! over items without a place, d), the sample ledger, and e), where the answer stood; and with a request of its own
-//! that comes after b), the step that goes on from a bucket.
+//! with five requests of document 02: a), the inlined callers of an address, b), the growth step that passes
+//! over items without a place, d), the sample ledger, e), where the answer stood, and f), shrinking and turning back;
+//! and with a request of its own that comes after b), the step that goes on from a bucket.
 //!
 //! From the bottom up:
 //! - `layout`: where words, buckets, slots and levels stand;
 //! - `refusal`: the refusal numbers;
+//! - `state`: the state word, and how it goes on when a table is resized;
 //! - `table`: reading a table whose header is good;
 //! - `placing`: where a new item would go;
 //! - `recovery`: which of the three kinds a table is, and what is unsound;
-//! - `calls`: the twelve calls, over raw words;
+//! - `calls`: the fourteen calls, over raw words;
 //! - `event`: the changing calls and recovery, as values;
 //! - `script_lines`: reading the lines of a script;
 //! - `script_events`: a script's header and events, read and performed;
@@ -30,9 +31,12 @@ mod refusal;
 mod script;
 mod script_events;
 mod script_lines;
+mod state;
 mod table;
 
-pub use calls::{begin, chain, create, delete, end, insert, make, query, recover, step, step_from, update};
+pub use calls::{
+    back, begin, chain, create, delete, end, insert, make, query, recover, shrink, step, step_from, update,
+};
 pub use event::Event;
 pub use layout::{table_words, word, Level, Slot, LEAST_LIST_WORDS, SLOTS_PER_BUCKET};
 pub use ledger::{run as run_ledger, MOST_COUNTED_FUNCTIONS};
@@ -41,4 +45,5 @@ pub use refusal::{Refusal, SUCCESS};
 pub use script::run as run_script;
 pub use script_events::LARGEST_PROGRAM_CAPACITY;
 pub use script_lines::{LONGEST_LEDGER_LINE, LONGEST_LINE};
-pub use table::{State, Table, PHASE_UNIT};
+pub use state::{Phase, State, PHASE_UNIT};
+pub use table::Table;

@@ -13,7 +13,7 @@ pub enum Placing {
     },
 }
 
-/// Placing uses top and bottom only, also while growing.
+/// Placing uses top and bottom only, also while resizing.
 pub fn find_placing(table: &Table, key: u64) -> Option<Placing> {
     free_slot(table, key, table.top())
         .or_else(|| free_slot(table, key, table.bottom()))

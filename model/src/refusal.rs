@@ -1,4 +1,4 @@
-//! The refusal numbers of document 01, and 15 and 16 of document 02, request a).
+//! The refusal numbers of document 01, and of document 02: 15 and 16 of request a), 17 of request f).
 
 /// The number that stands for "not refused".
 pub const SUCCESS: u64 = 0;
@@ -11,8 +11,9 @@ pub enum Refusal {
     KeyPresent = 4,
     KeyAbsent = 5,
     NoPlace = 6,
-    AlreadyGrowing = 7,
-    NotGrowing = 8,
+    /// Resizing is growing or shrinking.
+    AlreadyResizing = 7,
+    NotResizing = 8,
     AtCapacity = 9,
     InterimNotEmpty = 10,
     InterimEmpty = 11,
@@ -21,6 +22,7 @@ pub enum Refusal {
     BadStores = 14,
     ShortRecords = 15,
     AddressOrDepthTooLarge = 16,
+    TooSmall = 17,
 }
 
 impl Refusal {

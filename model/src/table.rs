@@ -5,34 +5,10 @@ use std::iter;
 
 use crate::layout::{table_words, token_word, word, Level, LevelName, Slot};
 use crate::refusal::Refusal;
+use crate::state::State;
 
 /// Token words are read modulo this.
 const TOKEN_MODULUS: u64 = 16;
-/// The state word is k and so many times the phase.
-pub const PHASE_UNIT: u64 = 256;
-
-/// The state of a table: its top level has 2^k buckets.
-#[derive(Clone, Copy, Debug, PartialEq, Eq)]
-pub struct State {
-    pub k: u64,
-    pub growing: bool,
-}
-
-impl State {
-    pub fn word(self) -> u64 {
-        self.k + PHASE_UNIT * u64::from(self.growing)
-    }
-
-    fn from_word(state: u64, c: u64) -> Option<State> {
-        let k = state % PHASE_UNIT;
-        let (growing, least_k) = match state / PHASE_UNIT {
-            0 => (false, 1),
-            1 => (true, 2),
-            _ => return None,
-        };
-        (least_k..=c).contains(&k).then_some(State { k, growing })
-    }
-}
 
 /// Where a key stood.
 #[derive(Clone, Copy, Debug, PartialEq, Eq)]
@@ -86,12 +62,13 @@ impl<'a> Table<'a> {
         Level::with_exponent(self.state.k - 1)
     }
 
-    /// The interim level, there only while growing.
+    /// The interim level, there only while resizing.
     pub fn interim(&self) -> Option<Level> {
-        self.state.growing.then(|| Level::with_exponent(self.state.k - 2))
+        self.state.interim_exponent().map(Level::with_exponent)
     }
 
-    /// The levels in use, in the order top, bottom, interim.
+    /// The levels in use, in the order top, bottom, interim. This is no order by size: in a shrink the interim level is
+    /// the largest.
     pub fn levels_in_use(&self) -> Vec<Level> {
         self.each_level_in_use().map(|(_name, level)| level).collect()
     }

@@ -74,6 +74,23 @@ fn while_growing_the_records_stay_and_the_count_follows_the_items() {
 }
 
 #[test]
+fn while_shrinking_the_records_stay_and_the_count_follows_the_items() {
+    // c = 2, k = 2: even depths have one place in the top of four, odd ones two; each is met in the first.
+    let mut story = Story::with(2, 2, MARKED_1, MARKED_2);
+    insert_depths(&mut story, ADDRESS, 0..=3);
+    assert_eq!(story.chain(ADDRESS, 3, 8), (0, 4, records_from(3, 0)));
+    story.whole(Event::Shrink);
+    // One bucket of the new top, one of the new bottom, and the first of the interim level.
+    assert_eq!(story.chain(ADDRESS, 3, 8), (0, 4 * 3, records_from(3, 0)));
+    for stepped in 1..=4 {
+        story.whole(Event::Step); // the next one comes to its top place
+        assert_eq!(story.chain(ADDRESS, 3, 8), (0, stepped + (4 - stepped) * 3, records_from(3, 0)));
+    }
+    story.whole(Event::End);
+    assert_eq!(story.chain(ADDRESS, 3, 8), (0, 4, records_from(3, 0)));
+}
+
+#[test]
 fn only_the_records_are_written() {
     let story = ten_depths();
     for depth in 0..=9 {
@@ -129,6 +146,15 @@ fn five_while_growing() {
     story.whole(Event::Delete { key: ADDRESS * 256 });
     // As above, and the missing depth 0 takes one bucket of each level.
     refused(&story, [ADDRESS, 9], 20, 5, 3 * 2 + 4 * 3 + 3 + 4 + 3);
+}
+
+#[test]
+fn five_while_shrinking() {
+    let mut story = Story::with(2, 2, MARKED_1, MARKED_2);
+    insert_depths(&mut story, ADDRESS, [0, 2, 3]);
+    story.whole(Event::Shrink);
+    // Depth 3 is met in the third bucket. The missing depth 1 looks at both of its interim places too.
+    refused(&story, [ADDRESS, 3], 8, 5, 3 + 3 + 4);
 }
 
 #[test]
@@ -264,8 +290,8 @@ fn garbage_answers_as_its_queries_do() {
     let mut garbage = garbage_words();
     let (mut complete, mut incomplete) = (0, 0);
     for round in 0..4000 {
-        let (state, most_probes) = [(1, 4), (2, 4), (256 + 2, 6)][round % 3];
-        let depth = round as u64 % 4;
+        let (state, most_probes) = [(1, 4), (2, 4), (256 + 2, 6), (512 + 1, 6)][round % 4];
+        let depth = garbage() % 4;
         let story = garbage_table(state, &mut garbage);
 
         let answers: Vec<(u64, [u64; 5])> = (0..=depth).rev().map(|smaller| story.query(smaller)).collect();

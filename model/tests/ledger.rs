@@ -120,6 +120,26 @@ fn buckets_are_summed_with_those_of_absent_keys() {
 }
 
 #[test]
+fn a_script_may_leave_its_table_shrinking() {
+    // c = 2 and k = 2: keys 1 and 5 have the same two places in a top of four; 1 stands in the first, 5 in the second.
+    let script = format!("op=begin,op=end,{}{}op=shrink,", insert(1, 10), insert(5, 11));
+    let asked = samples([1, 5, 7]);
+    // One bucket of top and one of bottom, then the interim level: 1 is met third, 5 fourth; the absent one looks at four.
+    let counts = "samples=3,none=1,fn10=1,fn11=1,other=0";
+    assert_eq!(after_header(&format!("{script}{asked}")), format!("{counts},buckets=11,"));
+    // Turned back, the level of four is looked at first; the absent key still looks at four buckets.
+    assert_eq!(after_header(&format!("{script}op=back,{asked}")), format!("{counts},buckets=7,"));
+    // A cut step in the shrink is mended: 1 is met in the top.
+    let cut = format!("{script}op=cut,after=4,op=step,{asked}");
+    assert_eq!(after_header(&cut), format!("{counts},buckets=9,"));
+    // Lines of the new events are script lines: they are bad behind a sample, and so is a cut line without one.
+    assert_eq!(after_header("sample=1,op=shrink,"), "bad=6,");
+    assert_eq!(after_header("sample=1,op=back,"), "bad=6,");
+    assert_eq!(after_header("op=cut,after=1,op=shrink,op=cut,after=0,op=back,"), ZEROS);
+    assert_eq!(after_header("op=shrink=1,"), "bad=5,");
+}
+
+#[test]
 fn keys_and_functions_up_to_the_largest() {
     let largest = u64::MAX;
     let answer = after_header(&(insert(largest, largest) + &samples([largest, largest - 1, largest])));
@@ -425,9 +445,9 @@ fn a_cut_recovery_is_finished() {
     assert_eq!(answer, "samples=1,none=0,fn30=1,other=0,buckets=1,");
 }
 
-/// The smallest script found whose table recovery refuses, 31 lines. All keys have the same places. The fifth goes to
-/// the bottom, which is the interim level after begin. Its step is cut twice before the interim token is cleared, so
-/// that it stands three times.
+/// The smallest script without a shrink found whose table recovery refuses, 31 lines. All keys have the same places. The
+/// fifth goes to the bottom, which is the interim level after begin. Its step is cut twice before the interim token is
+/// cleared, so that it stands three times.
 fn refused_script() -> String {
     let inserts: String = (0..5).map(|key| insert(key, 10)).collect();
     let cut_step = "op=cut,after=4,op=step,";
@@ -449,6 +469,15 @@ fn a_refused_recovery_is_the_whole_report() {
     // Without one of the two cuts the table is accepted.
     let once = script.strip_suffix("op=cut,after=4,op=step,").unwrap();
     assert_eq!(commas(&format!("{once}{}", samples([4]))), "samples=1,none=0,fn10=1,other=0,buckets=1,");
+}
+
+#[test]
+fn a_shrink_makes_such_a_script_shorter() {
+    // 15 lines. One key is enough, as the old top is the interim level.
+    let cut_step = "op=cut,after=4,op=step,";
+    let once = format!("cap=2,top=2,mul1=1,mul2=1,{}op=shrink,{cut_step}", insert(0, 10));
+    assert_eq!(commas(&format!("{once}{cut_step}")), "answer=12,");
+    assert_eq!((once + cut_step).matches(',').count(), 15);
 }
 
 #[test]
@@ -613,13 +642,15 @@ fn random_script(garbage: &mut impl FnMut() -> u64, cap: u64, events: u64, one_c
             let after = if garbage() % 2 == 0 { 4 } else { garbage() % 11 };
             script += &format!("op=cut,after={after},");
         }
-        script += &match garbage() % 20 {
+        script += &match garbage() % 22 {
             0 => "op=begin,".to_string(),
             1 => "op=end,".to_string(),
             2..=5 => "op=step,".to_string(),
             6 => format!("op=delete,key={key},"),
             7 => format!("op=update,key={key},fn={},at=1,", garbage() % 1000),
             8 if garbage() % 4 == 0 => "op=recover,".to_string(),
+            9 => "op=shrink,".to_string(),
+            10 if garbage() % 2 == 0 => "op=back,".to_string(),
             _ => insert(key, garbage() % 1000),
         };
     }

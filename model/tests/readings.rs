@@ -164,14 +164,16 @@ fn garbage_is_always_answered() {
     for round in 0..2000 {
         let mut table: Vec<u64> = (0..100).map(|_| garbage()).collect();
         if round % 4 != 0 {
-            table[..6].copy_from_slice(&[1, 2, garbage() | 1, garbage() | 1, 1 + garbage() % 2, 0]);
+            let state = [1, 2, 258, 513][garbage() as usize % 4];
+            table[..6].copy_from_slice(&[1, 2, garbage() | 1, garbage() | 1, state, 0]);
         }
         let key = garbage();
         query(&table, key);
         chain(&table, key / 256, key % 256, &mut [0; 512]);
         for event in [insert_event(key, 1, 2), update_event(key, 1, 2), Event::Delete { key }]
             .into_iter()
-            .chain([Event::Begin, Event::Step, Event::StepFrom { from: key }, Event::End, Event::Recover])
+            .chain([Event::Begin, Event::Shrink, Event::Back, Event::Step, Event::StepFrom { from: key }])
+            .chain([Event::End, Event::Recover])
         {
             event.list_stores(&table, &mut [0; 20]);
         }

@@ -4,11 +4,13 @@ mod common;
 use common::*;
 use ragansils_model::*;
 
-const EVENTS: [Event; 9] = [
+const EVENTS: [Event; 11] = [
     Event::Insert { key: 1, function: 2, place: 3 },
     Event::Update { key: 1, function: 2, place: 3 },
     Event::Delete { key: 1 },
     Event::Begin,
+    Event::Shrink,
+    Event::Back,
     Event::Step,
     Event::StepFrom { from: 0 },
     Event::StepFrom { from: u64::MAX },
@@ -36,7 +38,7 @@ fn one_for_bad_words() {
         (word::CAPACITY, &[0, 1, 3, 21, 64, u64::MAX]),
         (word::MULTIPLIER_1, &[0, 2, u64::MAX - 1]),
         (word::MULTIPLIER_2, &[0, 2, u64::MAX - 1]),
-        (word::STATE, &[0, 3, 256, 257, 259, 512, 513, 514, 1 << 32 | 1, u64::MAX]),
+        (word::STATE, &[0, 3, 256, 257, 259, 512, 514, 515, 768, 769, 770, 1 << 32 | 1, u64::MAX]),
     ];
     for (index, values) in bad_words {
         for &value in values {
@@ -61,7 +63,7 @@ fn one_for_bad_lengths() {
 
 #[test]
 fn good_states_are_taken() {
-    for state in [1, 2, 258] {
+    for state in [1, 2, 258, 513] {
         let mut story = Story::marked();
         story.table[word::STATE] = state;
         assert_eq!(story.query(1).0, 5);

@@ -1,5 +1,7 @@
 //! The script program, line by line.
 
+use ragansils_model::LONGEST_LINE;
+
 const HEADER: &str = "cap=2\ntop=1\nmul1=4294967297\nmul2=12884901889\n";
 
 fn run(script: impl AsRef<[u8]>) -> String {
@@ -124,6 +126,86 @@ fn cuts() {
     assert_eq!(after_header(refused), "made=0,answer=8,stores=0,kept=0,events=1,");
     let recover = "op=cut,after=0,op=recover,";
     assert_eq!(after_header(recover), "made=0,answer=0,stores=0,kept=0,events=1,");
+}
+
+#[test]
+fn shrink_and_back() {
+    // k = 1 can only grow; then the growth is turned back, and back again.
+    assert_eq!(after_header("op=shrink,op=back,"), "made=0,answer=17,stores=0,answer=8,stores=0,events=2,");
+    let turns = "op=begin,op=shrink,op=back,op=begin,op=shrink,op=back,op=end,op=shrink,op=end,op=shrink,";
+    let answers = "0,7,0,7,7,0,0,0,0,17".split(',').map(|number| {
+        let stores = u64::from(number == "0");
+        format!("answer={number},stores={stores},")
+    });
+    assert_eq!(after_header(turns), format!("made=0,{}events=10,", answers.collect::<String>()));
+}
+
+#[test]
+fn cuts_of_shrink_and_back() {
+    let begun = "op=begin,op=end,";
+    let made = "made=0,answer=0,stores=1,answer=0,stores=1,";
+    // A shrink that is cut before its store has not begun.
+    for (after, kept, then) in [(0, 0, 8), (1, 1, 0), (7, 1, 0)] {
+        let cut = after_header(&format!("{begun}op=cut,after={after},op=shrink,op=back,"));
+        let stores = u64::from(then == 0);
+        assert_eq!(
+            cut,
+            format!("{made}answer=0,stores=1,kept={kept},answer={then},stores={stores},events=4,")
+        );
+    }
+    // A turn that is cut before its store leaves the table shrinking: its bottom has one bucket, and key 1 has one place
+    // in a top of two and two places in a level of four, so that four buckets are looked at in either phase.
+    for (after, kept) in [(0, 0), (1, 1)] {
+        let cut = after_header(&format!("{begun}op=shrink,op=cut,after={after},op=back,op=query,key=1,"));
+        let query = "answer=5,fn=0,at=0,probes=4,word=0,level=0";
+        let expected = format!("answer=0,stores=1,answer=0,stores=1,kept={kept},{query},events=5,");
+        assert_eq!(cut, format!("{made}{expected}"));
+    }
+    let refused = "op=cut,after=0,op=shrink,op=cut,after=0,op=back,";
+    let answers = "answer=17,stores=0,kept=0,answer=8,stores=0,kept=0";
+    assert_eq!(after_header(refused), format!("made=0,{answers},events=2,"));
+}
+
+#[test]
+fn lines_of_shrink_and_back_have_no_numbers() {
+    for bad in
+        ["op=shrink=1,", "op=shrink ,", "op=shrunk,", "op=shrinks,", "op=backs,", "op=bac,", "shrink=1,"]
+    {
+        assert_eq!(after_header(bad), "made=0,bad=5,", "{bad:?}");
+        assert_eq!(after_header(&format!("op=cut,after=1,{bad}")), "made=0,bad=5,", "{bad:?}");
+    }
+    for event in ["shrink", "back"] {
+        assert_eq!(after_header(&format!("op={event}")), "made=0,bad=5,");
+        let number_behind = after_header(&format!("op={event},key=1,"));
+        assert!(number_behind.ends_with(",stores=0,bad=6,"), "{number_behind}");
+    }
+}
+
+#[test]
+fn word_and_level_follow_an_item_through_a_shrink_and_back() {
+    let script = "op=begin,op=end,op=insert,key=1,fn=0,at=0,op=query,key=1,op=shrink,op=query,key=1,op=back,op=query,key=1,\
+                  op=back,op=step,op=query,key=1,op=end,op=query,key=1,";
+    let told = |probes: u64, word: u64, level: u64| {
+        format!("answer=0,fn=0,at=0,probes={probes},word={word},level={level},")
+    };
+    let change = |stores: u64| format!("answer=0,stores={stores},");
+    // In bucket 4, which is the top, the interim level and the top again, and at last in bucket 2, the new top.
+    let answers = [
+        [change(1), change(1), change(4), told(1, 62, 0)].concat(),
+        [change(1), told(3, 62, 2), change(1), told(1, 62, 0)].concat(),
+        [change(1), change(5), told(1, 36, 0), change(1), told(1, 36, 0)].concat(),
+    ];
+    assert_eq!(after_header(script), format!("made=0,{}events=13,", answers.concat()));
+}
+
+#[test]
+fn the_longest_good_line_is_that_of_a_cut() {
+    // No event line is longer.
+    let events =
+        ["insert", "update", "delete", "query", "begin", "shrink", "back", "step", "end", "recover", "cut"];
+    let longest_event = events.map(|event| format!("op={event}\n").len()).into_iter().max();
+    assert!(longest_event < Some(LONGEST_LINE));
+    assert_eq!(LONGEST_LINE, format!("after={}\n", u64::MAX).len());
 }
 
 #[test]

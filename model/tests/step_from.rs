@@ -6,7 +6,7 @@
 //! (with a place) to interim bucket 1; their tokens are at words 22 and 35.
 
 mod common;
-use common::growing::*;
+use common::resizing::*;
 use common::*;
 use ragansils_model::*;
 
@@ -169,15 +169,15 @@ fn refused_in_order(mut table: Vec<u64>, from: u64, then: u64) {
     assert_eq!((number, stores, bucket), (then, if then == SUCCESS { 5 } else { 0 }, 0));
 }
 
-/// Any table: growing and sound, growing and damaged, at rest, with a bad state, or with a set flag.
-fn any_table(round: u64, mut garbage: impl FnMut() -> u64) -> Story {
+/// Any table: resizing and sound, resizing and damaged, at rest, with a bad state, or with a set flag.
+fn any_table(way: Way, round: u64, mut garbage: impl FnMut() -> u64) -> Story {
     let mut story = match round % 10 {
-        0 => crowded_table(3, round % 4 == 0, &mut garbage),
-        _ => garbage_table(round % 4, round % 9 == 0, &mut garbage),
+        0 => crowded_table(way, 3, round % 4 == 0, &mut garbage),
+        _ => garbage_table(way, round % 4, round % 9 == 0, &mut garbage),
     };
     match round % 13 {
-        0 => story.table[word::STATE] -= PHASE_UNIT,
-        1 => story.table[word::STATE] += PHASE_UNIT,
+        0 => story.table[word::STATE] %= PHASE_UNIT,
+        1 => story.table[word::STATE] += 2 * PHASE_UNIT, // there is no phase 3 or 4
         2 => story.table[word::FLAG] = garbage(),
         _ => {}
     }
@@ -186,61 +186,67 @@ fn any_table(round: u64, mut garbage: impl FnMut() -> u64) -> Story {
 
 #[test]
 fn zero_is_the_step() {
-    let mut garbage = garbage_words();
-    let mut answered = [0; 12];
-    for round in 0..2000 {
-        let table = any_table(round, &mut garbage).table;
-        let list_words = if round % 17 == 0 { 19 } else { 24 };
-        let [mut list_of_step, mut list] = [(); 2].map(|_| vec![UNTOUCHED; list_words]);
-        let (number, stores) = step(&table, &mut list_of_step);
-        let (number_from_0, [stores_from_0, _]) = step_from(&table, 0, &mut list);
-        assert_eq!((number_from_0, stores_from_0, list), (number, stores, list_of_step));
-        answered[number as usize] += 1;
+    for way in BOTH_WAYS {
+        let mut garbage = garbage_words();
+        let mut answered = [0; 12];
+        for round in 0..2000 {
+            let table = any_table(way, round, &mut garbage).table;
+            let list_words = if round % 17 == 0 { 19 } else { 24 };
+            let [mut list_of_step, mut list] = [(); 2].map(|_| vec![UNTOUCHED; list_words]);
+            let (number, stores) = step(&table, &mut list_of_step);
+            let (number_from_0, [stores_from_0, _]) = step_from(&table, 0, &mut list);
+            assert_eq!((number_from_0, stores_from_0, list), (number, stores, list_of_step));
+            answered[number as usize] += 1;
+        }
+        assert!([0, 1, 2, 3, 6, 8, 11].iter().all(|&number| answered[number] > 50), "{way:?} {answered:?}");
     }
-    assert!([0, 1, 2, 3, 6, 8, 11].iter().all(|&number| answered[number] > 50), "{answered:?}");
 }
 
 #[test]
 fn from_each_start_it_takes_the_first_item_that_insert_would_take() {
-    let mut garbage = garbage_words();
-    let mut answered = [0; 12];
-    let [mut by_move, mut told_later] = [0; 2];
-    for round in 0..1200 {
-        let story = match round % 3 {
-            0 => crowded_table(2 + round % 5 / 2, round % 2 == 0, &mut garbage),
-            _ => garbage_table(round % 4, round % 9 == 1, &mut garbage),
-        };
-        let buckets = interim_size(&story.table);
-        for start in (0..buckets).chain(starts_past(buckets)) {
-            let told = step_told_by_inserts(&story.table, start);
-            answered[told.number as usize] += 1;
-            by_move += usize::from(told.stores.len() == 10);
-            told_later += usize::from(told.number == SUCCESS && told.bucket > start);
-            assert_eq!(story.step_from(start), (told.number, told.bucket, told.stores));
+    for way in BOTH_WAYS {
+        let mut garbage = garbage_words();
+        let mut answered = [0; 12];
+        let [mut by_move, mut told_later] = [0; 2];
+        for round in 0..1200 {
+            let story = match round % 3 {
+                0 => crowded_table(way, 2 + round % 5 / 2, round % 2 == 0, &mut garbage),
+                _ => garbage_table(way, round % 4, round % 9 == 1, &mut garbage),
+            };
+            let buckets = interim_size(&story.table);
+            for start in (0..buckets).chain(starts_past(buckets)) {
+                let told = step_told_by_inserts(&story.table, start);
+                answered[told.number as usize] += 1;
+                by_move += usize::from(told.stores.len() == 10);
+                told_later += usize::from(told.number == SUCCESS && told.bucket > start);
+                assert_eq!(story.step_from(start), (told.number, told.bucket, told.stores));
+            }
         }
+        let counts = [answered[0], answered[6], answered[11], by_move, told_later];
+        assert!(counts.iter().all(|&count| count > 300), "{way:?} {counts:?}");
     }
-    let counts = [answered[0], answered[6], answered[11], by_move, told_later];
-    assert!(counts.iter().all(|&count| count > 300), "{counts:?}");
 }
 
 #[test]
 fn where_no_item_stands_before_the_start_it_answers_as_the_step() {
-    let mut garbage = garbage_words();
-    let mut answered = [0; 12];
-    for round in 0..1000 {
-        let mut story = match round % 4 {
-            0 => crowded_table(4, round % 8 == 0, &mut garbage),
-            _ => garbage_table(round % 4, false, &mut garbage),
-        };
-        let buckets = interim_size(&story.table);
-        let start = garbage() % (buckets + 2);
-        clear_interim(&mut story.table, 0..start.min(buckets) as usize);
-        let (number, bucket, stores) = story.step_from(start);
-        assert_eq!(story.list(Event::Step), (number, stores.clone()));
-        assert_eq!(story.step_from(0), (number, bucket, stores));
-        answered[number as usize] += 1;
+    for way in BOTH_WAYS {
+        let mut garbage = garbage_words();
+        let mut answered = [0; 12];
+        for round in 0..1000 {
+            let mut story = match round % 4 {
+                0 => crowded_table(way, 4, round % 8 == 0, &mut garbage),
+                _ => garbage_table(way, round / 4 % 4, false, &mut garbage),
+            };
+            let buckets = interim_size(&story.table);
+            let start = garbage() % (buckets + 2);
+            clear_interim(&mut story.table, 0..start.min(buckets) as usize);
+            let (number, bucket, stores) = story.step_from(start);
+            assert_eq!(story.list(Event::Step), (number, stores.clone()));
+            assert_eq!(story.step_from(0), (number, bucket, stores));
+            answered[number as usize] += 1;
+        }
+        assert!([0, 6, 11].iter().all(|&number| answered[number] > 50), "{way:?} {answered:?}");
     }
-    assert!([0, 6, 11].iter().all(|&number| answered[number] > 50), "{answered:?}");
 }
 
 /// Gives all 13 words of some interim buckets, counted from 0 in the level, other ones.
@@ -254,17 +260,20 @@ fn scramble_interim(table: &mut [u64], numbers: std::ops::Range<u64>, mut garbag
 
 #[test]
 fn buckets_before_the_start_and_behind_the_one_told_do_not_count() {
-    let mut garbage = garbage_words();
-    for round in 0..1000 {
-        let story = garbage_table(round % 4, false, &mut garbage);
-        let start = garbage() % 9;
-        let answer = story.step_from(start);
-        let mut other = Story { table: story.table.clone() };
-        scramble_interim(&mut other.table, 0..start, &mut garbage);
-        if answer.0 == SUCCESS {
-            scramble_interim(&mut other.table, answer.1 + 1..8, &mut garbage);
+    for way in BOTH_WAYS {
+        let mut garbage = garbage_words();
+        for round in 0..1000 {
+            let story = garbage_table(way, round % 4, false, &mut garbage);
+            let buckets = interim_size(&story.table);
+            let start = garbage() % (buckets + 1);
+            let answer = story.step_from(start);
+            let mut other = Story { table: story.table.clone() };
+            scramble_interim(&mut other.table, 0..start, &mut garbage);
+            if answer.0 == SUCCESS {
+                scramble_interim(&mut other.table, answer.1 + 1..buckets, &mut garbage);
+            }
+            assert_eq!(other.step_from(start), answer);
         }
-        assert_eq!(other.step_from(start), answer);
     }
 }
 

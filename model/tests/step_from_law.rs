@@ -1,7 +1,7 @@
 //! The step that goes on: its law, cuts and bounds.
 
 mod common;
-use common::growing::*;
+use common::resizing::*;
 use common::*;
 use ragansils_model::*;
 
@@ -46,13 +46,13 @@ fn repeat_step(story: &mut Story) -> u64 {
     }
 }
 
-/// A growing table: sound with one place for each key, sound with two, or damaged, with one place or two.
-fn any_growing_table(round: u64, mut garbage: impl FnMut() -> u64) -> Story {
+/// A resizing table: sound with one place for each key, sound with two, or damaged, with one place or two.
+fn any_resizing_table(way: Way, round: u64, mut garbage: impl FnMut() -> u64) -> Story {
     match round % 3 {
-        0 => crowded_table(2 + round % 4, true, &mut garbage),
-        1 => crowded_table(2 + round % 4, false, &mut garbage),
+        0 => crowded_table(way, 2 + round % 4, true, &mut garbage),
+        1 => crowded_table(way, 2 + round % 4, false, &mut garbage),
         _ => {
-            let mut story = garbage_table(round % 16, round % 9 == 8, &mut garbage);
+            let mut story = garbage_table(way, round % 16, round % 9 == 8, &mut garbage);
             if round % 2 == 0 {
                 story.table[word::MULTIPLIER_2] = story.table[word::MULTIPLIER_1];
             }
@@ -63,30 +63,32 @@ fn any_growing_table(round: u64, mut garbage: impl FnMut() -> u64) -> Story {
 
 #[test]
 fn a_pass_ends_with_an_empty_level_or_stuck_items_as_repeated_steps_do() {
-    let mut garbage = garbage_words();
-    let [mut empty, mut stuck_behind, mut stuck_before] = [0; 3];
-    for round in 0..600 {
-        let mut story = any_growing_table(round, &mut garbage);
-        let mut stepped = Story { table: story.table.clone() };
-        let pass = pass(&mut story);
-        let refusal_of_step = repeat_step(&mut stepped);
-        assert_eq!(story.table, stepped.table);
-        // "A pass of s steps over a level of M buckets looks at no more than M + s interim buckets"; with its
-        // refused step it looks at just as many.
-        assert_eq!(pass.looked_at, interim_size(&story.table) + pass.steps);
+    for way in BOTH_WAYS {
+        let mut garbage = garbage_words();
+        let [mut empty, mut stuck_behind, mut stuck_before] = [0; 3];
+        for round in 0..900 {
+            let mut story = any_resizing_table(way, round, &mut garbage);
+            let mut stepped = Story { table: story.table.clone() };
+            let pass = pass(&mut story);
+            let refusal_of_step = repeat_step(&mut stepped);
+            assert_eq!(story.table, stepped.table);
+            // "A pass of s steps over a level of M buckets looks at no more than M + s interim buckets"; with its
+            // refused step it looks at just as many.
+            assert_eq!(pass.looked_at, interim_size(&story.table) + pass.steps);
 
-        let left = interim_items(&story.table);
-        assert_eq!(stuck_items(&story.table), left);
-        match (left.is_empty(), pass.refusal, refusal_of_step) {
-            (true, 11, 11) => empty += 1,
-            (false, 6, 6) => stuck_behind += 1,
-            // All items left stand before the last start.
-            (false, 11, 6) => stuck_before += 1,
-            ended => panic!("{ended:?}"),
+            let left = interim_items(&story.table);
+            assert_eq!(stuck_items(&story.table), left);
+            match (left.is_empty(), pass.refusal, refusal_of_step) {
+                (true, 11, 11) => empty += 1,
+                (false, 6, 6) => stuck_behind += 1,
+                // All items left stand before the last start.
+                (false, 11, 6) => stuck_before += 1,
+                ended => panic!("{ended:?}"),
+            }
         }
+        let counts = [empty, stuck_behind, stuck_before];
+        assert!(counts.iter().all(|&count| count > 30), "{way:?} {counts:?}");
     }
-    let counts = [empty, stuck_behind, stuck_before];
-    assert!(counts.iter().all(|&count| count > 30), "{counts:?}");
 }
 
 #[test]
@@ -120,52 +122,56 @@ fn a_pass_over_e11_ends_at_once() {
 
 #[test]
 fn a_step_gives_no_place_to_an_item_that_had_none() {
-    let mut garbage = garbage_words();
-    let [mut beside_stuck, mut by_move] = [0; 2];
-    for round in 0..600 {
-        let story = any_growing_table(round, &mut garbage);
-        let stuck = stuck_items(&story.table);
-        for from in 0..interim_size(&story.table) {
-            let mut stepped = Story { table: story.table.clone() };
-            let event = if from == 0 { Event::Step } else { Event::StepFrom { from } };
-            if stepped.list(event).0 != SUCCESS {
-                continue;
+    for way in BOTH_WAYS {
+        let mut garbage = garbage_words();
+        let [mut beside_stuck, mut by_move] = [0; 2];
+        for round in 0..600 {
+            let story = any_resizing_table(way, round, &mut garbage);
+            let stuck = stuck_items(&story.table);
+            for from in 0..interim_size(&story.table) {
+                let mut stepped = Story { table: story.table.clone() };
+                let event = if from == 0 { Event::Step } else { Event::StepFrom { from } };
+                if stepped.list(event).0 != SUCCESS {
+                    continue;
+                }
+                let stores = stepped.whole(event).len();
+                let stuck_after = stuck_items(&stepped.table);
+                assert!(stuck.iter().all(|item| stuck_after.contains(item)));
+                beside_stuck += usize::from(!stuck.is_empty());
+                by_move += usize::from(!stuck.is_empty() && stores == 10);
             }
-            let stores = stepped.whole(event).len();
-            let stuck_after = stuck_items(&stepped.table);
-            assert!(stuck.iter().all(|item| stuck_after.contains(item)));
-            beside_stuck += usize::from(!stuck.is_empty());
-            by_move += usize::from(!stuck.is_empty() && stores == 10);
         }
+        assert!(beside_stuck > 500 && by_move > 100, "{way:?} {beside_stuck} {by_move}");
     }
-    assert!(beside_stuck > 500 && by_move > 100, "{beside_stuck} {by_move}");
 }
 
 #[test]
 fn a_whole_step_keeps_the_map_and_a_cut_one_keeps_it_once_recovered() {
-    let mut garbage = garbage_words();
-    let [mut free_slots, mut moves] = [0; 2];
-    for round in 0..150 {
-        let story = crowded_table(2 + round % 3, round % 2 == 0, &mut garbage);
-        let map = map_of(&story.table);
-        for from in 0..interim_size(&story.table) {
-            let (number, _, pairs) = story.step_from(from);
-            if number != SUCCESS {
-                continue;
-            }
-            for kept in 0..=pairs.len() {
-                let mut cut = Story { table: story.table.clone() };
-                cut.cut(Event::StepFrom { from }, kept);
-                recover_with_cuts(&mut cut);
-                assert_eq!(map_of(&cut.table), map, "from {from}, kept {kept}");
-            }
-            match pairs.len() {
-                5 => free_slots += 1,
-                stores => moves += stores / 10,
+    for way in BOTH_WAYS {
+        let mut garbage = garbage_words();
+        let [mut free_slots, mut moves] = [0; 2];
+        for round in 0..300 {
+            let story = crowded_table(way, 2 + round % 3, round % 2 == 0, &mut garbage);
+            let map = map_of(&story.table);
+            for from in 0..interim_size(&story.table) {
+                let (number, _, pairs) = story.step_from(from);
+                if number != SUCCESS {
+                    continue;
+                }
+                for kept in 0..=pairs.len() {
+                    let mut cut = Story { table: story.table.clone() };
+                    cut.cut(Event::StepFrom { from }, kept);
+                    recover_with_cuts(&mut cut);
+                    assert_eq!(map_of(&cut.table), map, "from {from}, kept {kept}");
+                }
+                match pairs.len() {
+                    5 => free_slots += 1,
+                    stores => moves += stores / 10,
+                }
             }
         }
+        assert!(free_slots > 50 && moves > 20, "{way:?} {free_slots} {moves}");
     }
-    assert!(free_slots > 50 && moves > 20, "{free_slots} {moves}");
 }
 
 /// A recovery that is cut before its first store, one that is not, and one that finds nothing left to do.
@@ -206,30 +212,36 @@ fn one_growth_by_step_from_may_spend_20_n_plus_2_stores() {
 }
 
 #[test]
-fn one_growth_spends_no_more_with_any_starts_and_other_calls_between() {
-    let mut garbage = garbage_words();
-    let mut with_stuck = 0;
-    for round in 0..100 {
-        let mut story = crowded_table(3, round % 2 == 0, &mut garbage);
-        let top_buckets_before = 4;
-        let mut stores = 1; // begin
-        for _ in 0..200 {
-            stores += any_step(&mut story, &mut garbage);
-            if none_has_a_place(&story) {
-                with_stuck += 1;
-                delete_some(&mut story, &mut garbage);
+fn one_resize_spends_no_more_with_any_starts_and_other_calls_between() {
+    for way in BOTH_WAYS {
+        let mut garbage = garbage_words();
+        let mut with_stuck = 0;
+        // A growth from 4 top buckets, or a shrink from 8.
+        let most_stores = match way {
+            Way::Growth => 20 * 4 + 2,
+            Way::Shrink => 40 * 8 + 2,
+        };
+        for round in 0..100 {
+            let mut story = crowded_table(way, 3, round % 2 == 0, &mut garbage);
+            let mut stores = 1; // begin or shrink
+            for _ in 0..200 {
+                stores += any_step(&mut story, &mut garbage);
+                if none_has_a_place(&story) {
+                    with_stuck += 1;
+                    delete_some(&mut story, &mut garbage);
+                }
+                try_inserts(&mut story, garbage() % 2, &mut garbage);
             }
-            try_inserts(&mut story, garbage() % 2, &mut garbage);
+            stores += story.whole(Event::End).len(); // so many tries are enough
+            assert!(stores <= most_stores);
         }
-        stores += story.whole(Event::End).len(); // so many tries are enough
-        assert!(stores <= 20 * top_buckets_before + 2);
+        assert!(with_stuck > 20, "{way:?} {with_stuck}");
     }
-    assert!(with_stuck > 20, "{with_stuck}");
 }
 
 /// A step, or a step from any bucket, if it is accepted; how many stores it made.
 fn any_step(story: &mut Story, mut garbage: impl FnMut() -> u64) -> usize {
-    let from = garbage() % 3;
+    let from = garbage() % (interim_size(&story.table) + 1);
     let event = if garbage() % 4 == 0 { Event::Step } else { Event::StepFrom { from } };
     match story.list(event).0 {
         SUCCESS => story.whole(event).len(),
@@ -310,15 +322,17 @@ fn pass_with_cuts(story: &mut Story, mut garbage: impl FnMut() -> u64) {
 
 #[test]
 fn a_pass_with_cut_and_recovered_steps_ends_in_the_same_way() {
-    let mut garbage = garbage_words();
-    let [mut empty, mut stuck] = [0; 2];
-    for round in 0..300 {
-        let mut story = crowded_table(2 + round % 4, false, &mut garbage);
-        let map = map_of(&story.table);
-        pass_with_cuts(&mut story, &mut garbage);
-        let left = interim_items(&story.table);
-        assert_eq!((stuck_items(&story.table), map_of(&story.table)), (left.clone(), map));
-        *if left.is_empty() { &mut empty } else { &mut stuck } += 1;
+    for way in BOTH_WAYS {
+        let mut garbage = garbage_words();
+        let [mut empty, mut stuck] = [0; 2];
+        for round in 0..300 {
+            let mut story = crowded_table(way, 2 + round % 4, false, &mut garbage);
+            let map = map_of(&story.table);
+            pass_with_cuts(&mut story, &mut garbage);
+            let left = interim_items(&story.table);
+            assert_eq!((stuck_items(&story.table), map_of(&story.table)), (left.clone(), map));
+            *if left.is_empty() { &mut empty } else { &mut stuck } += 1;
+        }
+        assert!(empty > 30 && stuck > 30, "{way:?} {empty} {stuck}");
     }
-    assert!(empty > 30 && stuck > 30, "{empty} {stuck}");
 }

@@ -1,11 +1,12 @@
-//! Request b) of document 02: a growth step passes over interim items that have no place.
+//! Request b) of document 02: a step passes over interim items that have no place. Told for growth; any tables at the
+//! end grow or shrink.
 //!
 //! In all tables but the last one both multipliers are 4294967297, so that a key below 2^32 has one place in each
 //! level: key modulo the level's size. An item then has no "other" place, and the only move is that of a bottom
 //! item to its top place. Bucket j has its token at word 9 + 13j: 9, 22, 35, 48, 61, 74, 87, 100, 113, ...
 
 mod common;
-use common::growing::*;
+use common::resizing::*;
 use common::*;
 use ragansils_model::*;
 use std::collections::BTreeMap;
@@ -277,20 +278,22 @@ fn hundreds_are_placed_behind_stuck_items_and_these_after_deletes() {
 
 #[test]
 fn a_step_inserts_the_first_item_that_insert_would_take() {
-    let mut garbage = garbage_words();
-    let [mut first, mut later, mut later_by_move, mut stuck, mut empty] = [0; 5];
-    for round in 0..4000 {
-        let story = garbage_table(round % 4, round % 9 == 0, &mut garbage);
-        let Told { number, stores, passed_over, .. } = step_told_by_inserts(&story.table, 0);
-        match (number, passed_over) {
-            (SUCCESS, 0) => first += 1,
-            (SUCCESS, _) => later += 1,
-            (6, _) => stuck += 1,
-            _ => empty += 1,
+    for way in BOTH_WAYS {
+        let mut garbage = garbage_words();
+        let [mut first, mut later, mut later_by_move, mut stuck, mut empty] = [0; 5];
+        for round in 0..8000 {
+            let story = garbage_table(way, round % 4, round % 9 == 0, &mut garbage);
+            let Told { number, stores, passed_over, .. } = step_told_by_inserts(&story.table, 0);
+            match (number, passed_over) {
+                (SUCCESS, 0) => first += 1,
+                (SUCCESS, _) => later += 1,
+                (6, _) => stuck += 1,
+                _ => empty += 1,
+            }
+            later_by_move += usize::from(passed_over > 0 && stores.len() == 10);
+            assert_eq!(story.list(Event::Step), (number, stores));
         }
-        later_by_move += usize::from(passed_over > 0 && stores.len() == 10);
-        assert_eq!(story.list(Event::Step), (number, stores));
+        let counts = [first, later, later_by_move, stuck, empty];
+        assert!(counts.iter().all(|&count| count > 300), "{way:?} {counts:?}");
     }
-    let counts = [first, later, later_by_move, stuck, empty];
-    assert!(counts.iter().all(|&count| count > 300), "{counts:?}");
 }

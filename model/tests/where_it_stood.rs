@@ -2,7 +2,7 @@
 //! starts at word 9 + 13j with its token, and the key of its slot s stands 1 + 3s behind that.
 
 mod common;
-use common::growing::{crowded_table, map_of, try_inserts};
+use common::resizing::{crowded_table, map_of, try_inserts, Way, BOTH_WAYS};
 use common::*;
 use ragansils_model::{word, Event, SUCCESS};
 use std::ops::Range;
@@ -16,25 +16,44 @@ const SUM_OF_HALVES: u64 = (1 << 32) + 1;
 /// Its hashes are 1 and 2.
 const KEY: u64 = (1 << 32) + 1;
 
-const AT_REST: u64 = 3;
-const GROWING: u64 = 256 + 3;
-
-/// c = 3, growing to a top of eight, buckets 7 to 14, with bottom buckets 3 to 6 and interim buckets 1 and 2.
-fn empty_table() -> Story {
+/// c = 3 with levels of eight, buckets 7 to 14, of four, buckets 3 to 6, and of two, buckets 1 and 2. Growing, these are
+/// top, bottom and interim level. Shrinking, the interim level is the first, the top the second and the bottom the third.
+fn empty_table(way: Way) -> Story {
     let mut story = Story::with(3, 3, UPPER_HALF, SUM_OF_HALVES);
-    story.table[word::STATE] = GROWING;
+    story.table[word::STATE] = match way {
+        Way::Growth => 256 + 3,
+        Way::Shrink => 512 + 2,
+    };
     story
 }
 
-/// Where the key may stand in that table, in probe order: the level, the token word and the four key words of a bucket.
-const PLACES: [(u64, usize, [usize; 4]); 6] = [
-    (0, 113, [114, 117, 120, 123]), // bucket 8, place 1 of the top
-    (0, 126, [127, 130, 133, 136]), // bucket 9, place 2 of the top
-    (1, 61, [62, 65, 68, 71]),      // bucket 4, place 1 of the bottom
-    (1, 74, [75, 78, 81, 84]),      // bucket 5, place 2 of the bottom
-    (2, 35, [36, 39, 42, 45]),      // bucket 2, place 1 of the interim level
-    (2, 22, [23, 26, 29, 32]),      // bucket 1, place 0 of the interim level
+/// Without its phase the state is at rest with the same top and bottom.
+fn put_at_rest(story: &mut Story) {
+    story.table[word::STATE] %= 256;
+}
+
+/// Where the key may stand in a level: the token word and the four key words of a bucket, first place, then second.
+type Places = [(usize, [usize; 4]); 2];
+const PLACES_OF_EIGHT: Places = [
+    (113, [114, 117, 120, 123]), // bucket 8, place 1
+    (126, [127, 130, 133, 136]), // bucket 9, place 2
 ];
+const PLACES_OF_FOUR: Places = [
+    (61, [62, 65, 68, 71]), // bucket 4, place 1
+    (74, [75, 78, 81, 84]), // bucket 5, place 2
+];
+const PLACES_OF_TWO: Places = [
+    (35, [36, 39, 42, 45]), // bucket 2, place 1
+    (22, [23, 26, 29, 32]), // bucket 1, place 0
+];
+
+/// By top, bottom, interim.
+fn places(way: Way) -> [Places; 3] {
+    match way {
+        Way::Growth => [PLACES_OF_EIGHT, PLACES_OF_FOUR, PLACES_OF_TWO],
+        Way::Shrink => [PLACES_OF_FOUR, PLACES_OF_TWO, PLACES_OF_EIGHT],
+    }
+}
 
 /// The buckets that are no places of the key. Bucket 0 is in no level in use.
 const OTHER_BUCKETS: [usize; 9] = [0, 3, 6, 7, 10, 11, 12, 13, 14];
@@ -52,8 +71,9 @@ struct Stand {
 }
 
 /// All of them in probe order.
-fn stands() -> Vec<Stand> {
-    let slots = (1..).zip(PLACES).flat_map(|(probes, (level, token_word, key_words))| {
+fn stands(way: Way) -> Vec<Stand> {
+    let buckets = (0..).zip(places(way)).flat_map(|(level, places)| places.map(|place| (level, place)));
+    let slots = (1..).zip(buckets).flat_map(|(probes, (level, (token_word, key_words)))| {
         let slots = (0..).zip(key_words);
         slots.map(move |(slot, key_word)| Stand { probes, level, token_word, slot, key_word })
     });
@@ -84,26 +104,30 @@ impl Stand {
     }
 }
 
-fn with_the_key_at(stand: Stand) -> Story {
-    let mut story = empty_table();
+fn with_the_key_at(way: Way, stand: Stand) -> Story {
+    let mut story = empty_table(way);
     stand.take(&mut story);
     story
 }
 
 #[test]
 fn every_slot_of_every_place_is_told() {
-    for stand in stands() {
-        assert_eq!(with_the_key_at(stand).query(KEY), stand.told(), "{stand:?}");
+    for way in BOTH_WAYS {
+        for stand in stands(way) {
+            assert_eq!(with_the_key_at(way, stand).query(KEY), stand.told(), "{way:?} {stand:?}");
+        }
     }
 }
 
 #[test]
 fn at_rest_top_and_bottom_are_told_and_no_interim_level() {
-    for stand in stands() {
-        let mut story = with_the_key_at(stand);
-        story.table[word::STATE] = AT_REST;
-        let told = if stand.level == 2 { (5, [0, 0, 4, 0, 0]) } else { stand.told() };
-        assert_eq!(story.query(KEY), told, "{stand:?}");
+    for way in BOTH_WAYS {
+        for stand in stands(way) {
+            let mut story = with_the_key_at(way, stand);
+            put_at_rest(&mut story);
+            let told = if stand.level == 2 { (5, [0, 0, 4, 0, 0]) } else { stand.told() };
+            assert_eq!(story.query(KEY), told, "{way:?} {stand:?}");
+        }
     }
 }
 
@@ -111,84 +135,95 @@ fn at_rest_top_and_bottom_are_told_and_no_interim_level() {
 
 #[test]
 fn one_tells_nothing_of_a_key_that_stands_there() {
-    let bad_words = [
-        (word::FORM, 2),
-        (word::CAPACITY, 4),
-        (word::MULTIPLIER_1, 2),
-        (word::MULTIPLIER_2, 0),
-        (word::STATE, 256 + 4),
-    ];
-    for stand in stands() {
-        for (index, bad_word) in bad_words {
-            let mut story = with_the_key_at(stand);
-            story.table[index] = bad_word;
-            assert_eq!(story.query(KEY), (1, [0; 5]), "{stand:?}");
+    for way in BOTH_WAYS {
+        let bad_words = [
+            (word::FORM, 2),
+            (word::CAPACITY, 4),
+            (word::MULTIPLIER_1, 2),
+            (word::MULTIPLIER_2, 0),
+            (word::STATE, 256 + 4),
+            (word::STATE, 512 + 3),
+        ];
+        for stand in stands(way) {
+            for (index, bad_word) in bad_words {
+                let mut story = with_the_key_at(way, stand);
+                story.table[index] = bad_word;
+                assert_eq!(story.query(KEY), (1, [0; 5]), "{way:?} {stand:?}");
+            }
+            let mut story = with_the_key_at(way, stand);
+            story.table.push(0);
+            assert_eq!(story.query(KEY), (1, [0; 5]), "{way:?} {stand:?}");
+            story.table.truncate(203);
+            assert_eq!(story.query(KEY), (1, [0; 5]), "{way:?} {stand:?}");
         }
-        let mut story = with_the_key_at(stand);
-        story.table.push(0);
-        assert_eq!(story.query(KEY), (1, [0; 5]), "{stand:?}");
-        story.table.truncate(203);
-        assert_eq!(story.query(KEY), (1, [0; 5]), "{stand:?}");
     }
 }
 
 #[test]
 fn three_tells_nothing_of_a_key_that_stands_there() {
-    for stand in stands() {
-        for flag in [1, 2, u64::MAX] {
-            let mut story = with_the_key_at(stand);
-            story.table[word::FLAG] = flag;
-            // The update target of a cut update is no answer either.
-            story.table[word::UPDATE_TARGET] = stand.key_word as u64;
-            assert_eq!(story.query(KEY), (3, [0; 5]), "{stand:?}");
+    for way in BOTH_WAYS {
+        for stand in stands(way) {
+            for flag in [1, 2, u64::MAX] {
+                let mut story = with_the_key_at(way, stand);
+                story.table[word::FLAG] = flag;
+                // The update target of a cut update is no answer either.
+                story.table[word::UPDATE_TARGET] = stand.key_word as u64;
+                assert_eq!(story.query(KEY), (3, [0; 5]), "{way:?} {stand:?}");
+            }
         }
     }
 }
 
 #[test]
 fn five_tells_no_word_beside_its_count() {
-    let mut story = empty_table();
-    assert_eq!(story.query(KEY), ABSENT);
-    // All slots are taken, with other keys.
-    for bucket in 0..15 {
-        (0..4).for_each(|slot| put(&mut story, bucket, slot, [KEY + 1, 7, 8]));
+    for way in BOTH_WAYS {
+        let mut story = empty_table(way);
+        assert_eq!(story.query(KEY), ABSENT);
+        // All slots are taken, with other keys.
+        for bucket in 0..15 {
+            (0..4).for_each(|slot| put(&mut story, bucket, slot, [KEY + 1, 7, 8]));
+        }
+        assert_eq!(story.query(KEY), ABSENT);
+        put_at_rest(&mut story);
+        assert_eq!(story.query(KEY), (5, [0, 0, 4, 0, 0]));
     }
-    assert_eq!(story.query(KEY), ABSENT);
-    story.table[word::STATE] = AT_REST;
-    assert_eq!(story.query(KEY), (5, [0, 0, 4, 0, 0]));
 }
 
 // ---- Damaged tables.
 
 #[test]
 fn the_first_of_two_in_probe_order_is_told() {
-    let stands = stands();
-    for (index, earlier) in stands.iter().enumerate() {
-        for later in &stands[index + 1..] {
-            let mut story = with_the_key_at(*later);
-            earlier.take(&mut story);
-            assert_eq!(story.query(KEY), earlier.told(), "{earlier:?} {later:?}");
+    for way in BOTH_WAYS {
+        let stands = stands(way);
+        for (index, earlier) in stands.iter().enumerate() {
+            for later in &stands[index + 1..] {
+                let mut story = with_the_key_at(way, *later);
+                earlier.take(&mut story);
+                assert_eq!(story.query(KEY), earlier.told(), "{earlier:?} {later:?}");
+            }
         }
     }
 }
 
 #[test]
 fn a_key_that_stands_everywhere_is_told_and_deleted_in_probe_order() {
-    let mut story = empty_table();
-    stands().iter().for_each(|stand| stand.take(&mut story));
-    for stand in stands() {
-        assert_eq!(story.query(KEY), stand.told());
-        // The slots before this one are free by now.
-        let token_left = [14, 12, 8, 0][stand.slot];
-        assert_eq!(story.whole(Event::Delete { key: KEY }), [(stand.token_word as u64, token_left)]);
+    for way in BOTH_WAYS {
+        let mut story = empty_table(way);
+        stands(way).iter().for_each(|stand| stand.take(&mut story));
+        for stand in stands(way) {
+            assert_eq!(story.query(KEY), stand.told());
+            // The slots before this one are free by now.
+            let token_left = [14, 12, 8, 0][stand.slot];
+            assert_eq!(story.whole(Event::Delete { key: KEY }), [(stand.token_word as u64, token_left)]);
+        }
+        assert_eq!(story.query(KEY), ABSENT);
     }
-    assert_eq!(story.query(KEY), ABSENT);
 }
 
 #[test]
 fn recovery_may_clear_the_slot_that_was_told() {
     // Probed are bucket 2, then bucket 1; recovery clears the later one by bucket.
-    let mut story = empty_table();
+    let mut story = empty_table(Way::Growth);
     put(&mut story, 1, 0, [KEY, 7, 8]);
     put(&mut story, 2, 0, [KEY, 7, 8]);
     assert_eq!(story.query(KEY), (0, [7, 8, 5, 36, 2]));
@@ -198,48 +233,56 @@ fn recovery_may_clear_the_slot_that_was_told() {
 
 #[test]
 fn a_stale_key_in_a_free_slot_is_not_told() {
-    let mut stale = empty_table();
-    stands().iter().for_each(|stand| stand.write(&mut stale));
-    assert_eq!(stale.query(KEY), ABSENT);
-    for stand in stands() {
-        // The one taken slot is told, with the stale key before and behind it.
-        let mut story = Story { table: stale.table.clone() };
-        stand.take(&mut story);
-        assert_eq!(story.query(KEY), stand.told());
-        // And a free one is not, with another key in the taken slots around it.
-        let mut story = empty_table();
-        PLACES.iter().for_each(|(_, token_word, _)| story.table[*token_word] = 15);
-        stand.write(&mut story);
-        story.table[stand.token_word] = 15 - (1 << stand.slot);
-        assert_eq!(story.query(KEY), ABSENT);
-    }
-}
-
-#[test]
-fn high_bits_of_a_token_word_do_not_count() {
-    for stand in stands() {
-        let mut story = with_the_key_at(stand);
-        for high_bits in [16, 240, 1 << 63, !15] {
-            story.table[stand.token_word] = high_bits + (1 << stand.slot);
+    for way in BOTH_WAYS {
+        let mut stale = empty_table(way);
+        stands(way).iter().for_each(|stand| stand.write(&mut stale));
+        assert_eq!(stale.query(KEY), ABSENT);
+        for stand in stands(way) {
+            // The one taken slot is told, with the stale key before and behind it.
+            let mut story = Story { table: stale.table.clone() };
+            stand.take(&mut story);
             assert_eq!(story.query(KEY), stand.told());
-            // They take no slot.
-            story.table[stand.token_word] = high_bits;
+            // And a free one is not, with another key in the taken slots around it.
+            let mut story = empty_table(way);
+            for (token_word, _) in places(way).concat() {
+                story.table[token_word] = 15;
+            }
+            stand.write(&mut story);
+            story.table[stand.token_word] = 15 - (1 << stand.slot);
             assert_eq!(story.query(KEY), ABSENT);
         }
     }
 }
 
 #[test]
-fn a_taken_slot_outside_its_places_is_not_told() {
-    let mut misplaced = empty_table();
-    for bucket in OTHER_BUCKETS {
-        (0..4).for_each(|slot| put(&mut misplaced, bucket, slot, [KEY, 7, 8]));
+fn high_bits_of_a_token_word_do_not_count() {
+    for way in BOTH_WAYS {
+        for stand in stands(way) {
+            let mut story = with_the_key_at(way, stand);
+            for high_bits in [16, 240, 1 << 63, !15] {
+                story.table[stand.token_word] = high_bits + (1 << stand.slot);
+                assert_eq!(story.query(KEY), stand.told());
+                // They take no slot.
+                story.table[stand.token_word] = high_bits;
+                assert_eq!(story.query(KEY), ABSENT);
+            }
+        }
     }
-    assert_eq!(misplaced.query(KEY), ABSENT);
-    for stand in stands() {
-        let mut story = Story { table: misplaced.table.clone() };
-        stand.take(&mut story);
-        assert_eq!(story.query(KEY), stand.told());
+}
+
+#[test]
+fn a_taken_slot_outside_its_places_is_not_told() {
+    for way in BOTH_WAYS {
+        let mut misplaced = empty_table(way);
+        for bucket in OTHER_BUCKETS {
+            (0..4).for_each(|slot| put(&mut misplaced, bucket, slot, [KEY, 7, 8]));
+        }
+        assert_eq!(misplaced.query(KEY), ABSENT);
+        for stand in stands(way) {
+            let mut story = Story { table: misplaced.table.clone() };
+            stand.take(&mut story);
+            assert_eq!(story.query(KEY), stand.told());
+        }
     }
 }
 
@@ -249,7 +292,7 @@ fn a_taken_slot_outside_its_places_is_not_told() {
 fn both_places_coincide() {
     // Key 5 has place 5 of eight, 1 of four and 1 of two: buckets 12, 4 and 2, which start at words 165, 61 and 35.
     let mut story = Story::with(3, 3, MARKED_1, MARKED_1);
-    story.table[word::STATE] = GROWING;
+    story.table[word::STATE] = 256 + 3;
     assert_eq!(story.query(5), (5, [0, 0, 3, 0, 0]));
     put(&mut story, 2, 0, [5, 11, 12]);
     assert_eq!(story.query(5), (0, [11, 12, 3, 36, 2]));
@@ -263,7 +306,7 @@ fn both_places_coincide() {
 fn both_places_coincide_below_the_top_alone() {
     // The hashes are 1 and 5: places 1 and 5 of eight, buckets 8 and 12, but only place 1 of four and of two.
     let key = (1 << 32) + 4;
-    let mut story = empty_table();
+    let mut story = empty_table(Way::Growth);
     assert_eq!(story.query(key), (5, [0, 0, 4, 0, 0]));
     put(&mut story, 2, 3, [key, 11, 12]);
     assert_eq!(story.query(key), (0, [11, 12, 4, 45, 2]));
@@ -284,6 +327,9 @@ fn a_slot_keeps_its_word_when_its_level_changes_its_name() {
         (256 + 2, (0, [11, 12, 3, 36, 1])),
         (256 + 3, (0, [11, 12, 5, 36, 2])),
         (3, (5, [0, 0, 4, 0, 0])),
+        // Shrinking, a level of two is the top or the bottom; as the interim level it would need k = 0.
+        (512 + 1, (0, [11, 12, 1, 36, 0])),
+        (512 + 2, (0, [11, 12, 3, 36, 1])),
     ];
     for (state, answer) in told {
         story.table[word::STATE] = state;
@@ -350,14 +396,21 @@ fn hash(key: u64, multiplier: u64) -> usize {
     (product / (1 << 32)) as usize
 }
 
-/// The numbers of the levels in use: top, bottom and, while growing, interim.
+/// The numbers of the levels in use: top, bottom and, while growing or shrinking, interim.
 fn levels_in_use(table: &[u64]) -> Range<u64> {
-    0..2 + table[4] / 256
+    0..if table[4] < 256 { 2 } else { 3 }
 }
 
-/// "A level of M buckets is always buckets M − 1 to 2M − 2." Each level has half the buckets of the one before.
+/// "A level of M buckets is always buckets M − 1 to 2M − 2." The bottom has half the buckets of the top. The interim
+/// level has a quarter of them while growing, and twice as many while shrinking.
 fn buckets_of(table: &[u64], level: u64) -> Range<usize> {
-    let size = 1 << (table[4] % 256 - level);
+    let top_size = 1 << (table[4] % 256);
+    let size = match level {
+        0 => top_size,
+        1 => top_size / 2,
+        _ if table[4] < 512 => top_size / 4,
+        _ => top_size * 2,
+    };
     size - 1..2 * size - 1
 }
 
@@ -468,10 +521,10 @@ fn damaged_table(mut garbage: impl FnMut() -> u64) -> (Story, [u64; FEW_KEYS]) {
 }
 
 fn any_state(c: u64, mut garbage: impl FnMut() -> u64) -> u64 {
-    if c > 1 && garbage() % 2 == 0 {
-        256 + 2 + garbage() % (c - 1)
-    } else {
-        1 + garbage() % c
+    match garbage() % 3 {
+        1 if c > 1 => 256 + 2 + garbage() % (c - 1),
+        2 if c > 1 => 512 + 1 + garbage() % (c - 1),
+        _ => 1 + garbage() % c,
     }
 }
 
@@ -502,12 +555,12 @@ fn on_damaged_tables_a_bad_header_and_a_flag_tell_nothing() {
     }
 }
 
-/// A sound table at rest or growing, and the keys that were deleted from it.
+/// A sound table at rest, growing or shrinking, and the keys that were deleted from it.
 fn sound_table(round: u64, mut garbage: impl FnMut() -> u64) -> (Story, Vec<u64>) {
     let c = 2 + round % 3;
     let mut story = match round % 4 {
         0 => table_at_rest(c, &mut garbage),
-        _ => crowded_table(c, round % 2 == 0, &mut garbage),
+        _ => crowded_table(BOTH_WAYS[round as usize / 4 % 2], c, round % 2 == 0, &mut garbage),
     };
     for _ in 0..garbage() % 8 {
         if story.list(Event::Step).0 == SUCCESS {

@@ -1,7 +1,7 @@
 //! A table that events are made on, as the tests tell their stories.
 #![allow(dead_code)] // each test file uses its own part
 
-pub mod growing;
+pub mod resizing;
 
 use ragansils_model::*;
 

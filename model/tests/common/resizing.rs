@@ -1,8 +1,18 @@
-//! Growing tables, with items that have a place and items that have none, and what a step has to answer on them.
+//! Growing and shrinking tables, with items that have a place and items that have none, and what a step has to answer
+//! on them.
 
 use super::*;
 use std::collections::BTreeMap;
 use std::ops::Range;
+
+/// The two ways in which a table is resized.
+#[derive(Clone, Copy, Debug, PartialEq, Eq)]
+pub enum Way {
+    Growth,
+    Shrink,
+}
+
+pub const BOTH_WAYS: [Way; 2] = [Way::Growth, Way::Shrink];
 
 /// c = 2, growing to a top of buckets 3 to 6, with bottom buckets 1 and 2 and interim bucket 0.
 /// Bucket 1 holds 0, 4, 8, 12, and bucket 3, the top place of them all, holds 32, 36, 40, 44. So a multiple
@@ -52,6 +62,21 @@ pub fn map_of(table: &[u64]) -> BTreeMap<u64, [u64; 2]> {
     map
 }
 
+/// What an accepted event, made whole, leaves of a map.
+pub fn map_after(map: &BTreeMap<u64, [u64; 2]>, event: Event) -> BTreeMap<u64, [u64; 2]> {
+    let mut after = map.clone();
+    match event {
+        Event::Insert { key, function, place } | Event::Update { key, function, place } => {
+            after.insert(key, [function, place]);
+        }
+        Event::Delete { key } => {
+            after.remove(&key);
+        }
+        _ => {}
+    }
+    after
+}
+
 /// What `insert_keys` leaves of some keys.
 pub fn map_with(keys: impl IntoIterator<Item = u64>) -> BTreeMap<u64, [u64; 2]> {
     keys.into_iter().map(|key| (key, [key + 100, key + 200])).collect()
@@ -80,35 +105,71 @@ pub fn hundreds_behind_four() -> Story {
     story
 }
 
-/// A table of c = 5 that grows to a top of buckets 31 to 62, with bottom buckets 15 to 30 and interim buckets 7 to
-/// 14, and has any words. At most `free` slots of top and bottom are free; any slots of the interim level are taken.
-pub fn garbage_table(free: u64, interim_empty: bool, mut garbage: impl FnMut() -> u64) -> Story {
+/// A table of c = 5 that has any words. Growing, it has a top of buckets 31 to 62, with bottom buckets 15 to 30 and
+/// interim buckets 7 to 14. Shrinking, it has a top of buckets 15 to 30, with bottom buckets 7 to 14 and interim buckets
+/// 31 to 62. At most `free` slots of top and bottom are free; any slots of the interim level are taken.
+pub fn garbage_table(way: Way, free: u64, interim_empty: bool, mut garbage: impl FnMut() -> u64) -> Story {
+    let (state, top_and_bottom) = match way {
+        Way::Growth => (256 + 5, 15..63),
+        Way::Shrink => (512 + 4, 7..31),
+    };
     let mut table: Vec<u64> = (0..828).map(|_| garbage()).collect();
-    for bucket in 15..63 {
+    for bucket in top_and_bottom.clone() {
         table[9 + 13 * bucket] |= 15;
     }
     for _ in 0..free {
-        let bucket = 15 + garbage() as usize % 48;
+        let bucket = top_and_bottom.start + garbage() as usize % top_and_bottom.len();
         table[9 + 13 * bucket] &= !(1 << (garbage() % 4));
     }
-    table[..6].copy_from_slice(&[1, 5, garbage() | 1, garbage() | 1, 256 + 5, 0]);
+    table[..6].copy_from_slice(&[1, 5, garbage() | 1, garbage() | 1, state, 0]);
     if interim_empty {
-        clear_interim(&mut table, 0..8);
+        let buckets = interim_buckets(&table).len();
+        clear_interim(&mut table, 0..buckets);
     }
     Story { table }
 }
 
-/// A sound table of capacity exponent `c`, 2 or more, that grows to its last level. It was filled at rest with as many
-/// keys as find a place, and while growing with some more. With one place for each key many items are stuck.
-pub fn crowded_table(c: u64, one_place: bool, mut garbage: impl FnMut() -> u64) -> Story {
+/// A sound table of capacity exponent `c`, 2 or more, that grows to its last level or shrinks from it. With one place
+/// for each key many items are stuck.
+pub fn crowded_table(way: Way, c: u64, one_place: bool, mut garbage: impl FnMut() -> u64) -> Story {
     let mul1 = garbage() | 1;
     let mul2 = if one_place { mul1 } else { garbage() | 1 };
+    let multipliers = [mul1, mul2];
+    match way {
+        Way::Growth => crowded_growth(c, multipliers, &mut garbage),
+        Way::Shrink => crowded_shrink(c, multipliers, &mut garbage),
+    }
+}
+
+/// It was filled at rest with as many keys as find a place, and while growing with some more.
+fn crowded_growth(c: u64, [mul1, mul2]: [u64; 2], mut garbage: impl FnMut() -> u64) -> Story {
     let mut story = Story::with(c, c - 1, mul1, mul2);
     // At rest there are 3 slots for each bucket of the last level, and that level has 4 in each bucket.
     try_inserts(&mut story, 6 << c, &mut garbage);
     story.whole(Event::Begin);
     let tries = (2 << c) + garbage() % (4 << c);
     try_inserts(&mut story, tries, &mut garbage);
+    story
+}
+
+/// It was filled at rest with any load, and while shrinking with some more. Steps were made and items deleted, so that
+/// few slots of top and bottom are free: only then are moves needed.
+fn crowded_shrink(c: u64, [mul1, mul2]: [u64; 2], mut garbage: impl FnMut() -> u64) -> Story {
+    let mut story = Story::with(c, c, mul1, mul2);
+    // At rest there are 6 slots for each bucket of the last level, and 3 are left for all items after the shrink.
+    let tries = (1 << c) + garbage() % (5 << c);
+    try_inserts(&mut story, tries, &mut garbage);
+    story.whole(Event::Shrink);
+    let tries = garbage() % (2 << c);
+    try_inserts(&mut story, tries, &mut garbage);
+    for _ in 0..garbage() % (4 << c) {
+        if story.list(Event::Step).0 == SUCCESS {
+            story.whole(Event::Step);
+        }
+    }
+    for key in map_of(&story.table).into_keys().filter(|_| garbage() % 8 == 0) {
+        story.whole(Event::Delete { key });
+    }
     story
 }
 
@@ -123,9 +184,14 @@ pub fn try_inserts(story: &mut Story, tries: u64, mut garbage: impl FnMut() -> u
     }
 }
 
-/// The interim buckets of a growing table, read from its state word alone.
+/// The interim buckets of a growing or shrinking table, read from its state word alone.
 pub fn interim_buckets(table: &[u64]) -> Range<usize> {
-    let size = 1 << (table[4] - 256 - 2);
+    let (phase, k) = (table[4] / 256, table[4] % 256);
+    let size = match phase {
+        1 => 1 << (k - 2),
+        2 => 1 << (k + 1),
+        _ => panic!("there is no interim level in phase {phase}"),
+    };
     size - 1..2 * size - 1
 }
 
