@@ -18,7 +18,7 @@ use crate::program;
 use crate::random::Random;
 use crate::say;
 use crate::scripts;
-use crate::shrink::shrink_case;
+use crate::smallest::smallest_case;
 use crate::sound_tables::check_alone;
 use crate::tally::Tally;
 use crate::words;
@@ -261,9 +261,9 @@ fn corners_run() -> Answer {
 
 fn report_finding(seed: u64, finding: Finding) -> String {
     say!("seed {seed}: {}", finding.what);
-    // Shrunk by the check that can be run again; a failure only the history sees stays as it is.
+    // Made smaller by the check that can be run again; a failure only the history sees stays as it is.
     let fails = |case: &Case| check_case(finding.check, case).is_err();
-    let smallest = shrink_case(finding.case, fails);
+    let smallest = smallest_case(finding.case, fails);
     let what = check_case(finding.check, &smallest).map_or_else(|smaller| smaller.what, |()| finding.what);
     let text = write_case(finding.check, &smallest);
     say!("the smallest case found: {what}\n{text}");
@@ -274,7 +274,7 @@ fn report_finding(seed: u64, finding: Finding) -> String {
 fn report_disagreement(texts: &Texts, seed: u64, program: &Path, disagreement: Disagreement) -> String {
     let name = texts.name;
     say!("seed {seed}: {}", disagreement.what);
-    let smallest = outputs::shrink(disagreement.input, |input| (texts.compare)(program, input).is_err());
+    let smallest = outputs::smallest(disagreement.input, |input| (texts.compare)(program, input).is_err());
     let what = (texts.compare)(program, &smallest).err().unwrap_or(disagreement.what);
     say!("the smallest {name} found: {what}\n{}", String::from_utf8_lossy(&smallest));
     save(&format!("failure-{seed}.{name}"), &smallest, |file| {

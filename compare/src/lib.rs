@@ -20,7 +20,7 @@
 //! - `ledger_lines`, `ledger_text`, `ledger_damage`, `ledger_tally`, `ledgers`: the run of ledgers; `long_ledger`: a long one, with its
 //!   time and memory;
 //! - `corners`: the model's answers to the input of the proved program `corners`;
-//! - `shrink`: smaller failures;
+//! - `smallest`: smaller failures;
 //! - `demands`: what a run must have seen;
 //! - `commands`: what the command line asks for; `program`: what programs share; `runner`: how they start others.
 
@@ -52,7 +52,7 @@ pub mod runner;
 mod script_damage;
 mod script_text;
 mod scripts;
-mod shrink;
+mod smallest;
 mod sound_tables;
 pub mod starts;
 pub mod stuck_items;

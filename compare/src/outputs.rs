@@ -7,9 +7,9 @@ use std::process::Stdio;
 
 use crate::runner::built;
 use crate::script_damage::split_lines;
-use crate::shrink::drop_pieces;
+use crate::smallest::drop_pieces;
 
-/// Inputs below this are shrunk byte by byte.
+/// Of inputs below this single bytes are dropped, too.
 const SHORT_INPUT: usize = 400;
 
 /// An input that two programs answer differently.
@@ -29,7 +29,7 @@ pub fn compare(program: &Path, model: fn(&[u8]) -> Vec<u8>, input: &[u8]) -> Res
 }
 
 /// Drops events and samples, then lines, then bytes, as long as the programs still differ.
-pub fn shrink(input: Vec<u8>, differs: impl Fn(&[u8]) -> bool) -> Vec<u8> {
+pub fn smallest(input: Vec<u8>, differs: impl Fn(&[u8]) -> bool) -> Vec<u8> {
     let fails = |pieces: &[Vec<u8>]| differs(&pieces.concat());
     let events = drop_pieces(split_events(&input), fails).concat();
     let input = drop_pieces(split_lines(&events), fails).concat();

@@ -6,14 +6,14 @@ use crate::case::{Call, Case};
 use crate::chain::Chain;
 
 /// Zeroes and shortens whatever the failure does not need.
-pub fn shrink_case(mut case: Case, fails: impl Fn(&Case) -> bool) -> Case {
+pub fn smallest_case(mut case: Case, fails: impl Fn(&Case) -> bool) -> Case {
     loop {
         let before = case.clone();
-        shrink_call(&mut case, &fails);
-        shrink_length(&mut case, |case| &mut case.list, &fails);
-        shrink_length(&mut case, |case| &mut case.table, &fails);
-        shrink_words(&mut case, |case| &mut case.list, &fails);
-        shrink_words(&mut case, |case| &mut case.table, &fails);
+        lower_arguments(&mut case, &fails);
+        shorten(&mut case, |case| &mut case.list, &fails);
+        shorten(&mut case, |case| &mut case.table, &fails);
+        lower_words(&mut case, |case| &mut case.list, &fails);
+        lower_words(&mut case, |case| &mut case.table, &fails);
         if case == before {
             return case;
         }
@@ -29,7 +29,7 @@ fn accept(case: &mut Case, smaller: Case, fails: &impl Fn(&Case) -> bool) -> boo
     better
 }
 
-/// Numbers to try in the place of one, all of them below it, so that shrinking ends.
+/// Numbers to try in the place of one, all of them below it, so that this ends.
 fn smaller_numbers(number: u64) -> Vec<u64> {
     let without_lowest_bit = number & number.wrapping_sub(1);
     let one_less = if number < 64 { number.saturating_sub(1) } else { 0 };
@@ -37,7 +37,7 @@ fn smaller_numbers(number: u64) -> Vec<u64> {
     candidates.into_iter().filter(|&smaller| smaller < number).collect()
 }
 
-fn shrink_call(case: &mut Case, fails: &impl Fn(&Case) -> bool) {
+fn lower_arguments(case: &mut Case, fails: &impl Fn(&Case) -> bool) {
     for index in 0..arguments(&mut case.call).len() {
         for smaller in smaller_numbers(*arguments(&mut case.call)[index]) {
             let mut candidate = case.clone();
@@ -63,7 +63,7 @@ fn arguments(call: &mut Call) -> Vec<&mut u64> {
     }
 }
 
-fn shrink_length(case: &mut Case, words: fn(&mut Case) -> &mut Vec<u64>, fails: &impl Fn(&Case) -> bool) {
+fn shorten(case: &mut Case, words: fn(&mut Case) -> &mut Vec<u64>, fails: &impl Fn(&Case) -> bool) {
     let mut cut_off = words(case).len();
     while cut_off > 0 {
         let mut candidate = case.clone();
@@ -76,7 +76,7 @@ fn shrink_length(case: &mut Case, words: fn(&mut Case) -> &mut Vec<u64>, fails: 
 }
 
 /// Zeroes runs of words, the longest first, then lowers single words.
-fn shrink_words(case: &mut Case, words: fn(&mut Case) -> &mut Vec<u64>, fails: &impl Fn(&Case) -> bool) {
+fn lower_words(case: &mut Case, words: fn(&mut Case) -> &mut Vec<u64>, fails: &impl Fn(&Case) -> bool) {
     let length = words(case).len();
     let mut run = length;
     while run > 0 {
@@ -130,7 +130,7 @@ mod tests {
             let word = case.table.get(50).copied().unwrap_or(0);
             word >= 7 && case.list.len() > 19
         };
-        let smallest = shrink_case(case, fails);
+        let smallest = smallest_case(case, fails);
         let call = Call::Change(Event::Insert { key: 0, function: 0, place: 0 });
         assert_eq!((smallest.call, smallest.list), (call, vec![0; 20]));
         assert_eq!((smallest.table.len(), smallest.table[50]), (51, 7));
