@@ -24,7 +24,7 @@ pub fn bad_line_kind(lines: &[Vec<u8>], line_number: u64, longest: usize) -> &'s
 }
 
 fn bad_op_kind(op: &str) -> &'static str {
-    let known = ["insert", "update", "delete", "query", "begin", "step", "end", "recover"];
+    let known = ["insert", "update", "delete", "query", "begin", "shrink", "back", "step", "end", "recover"];
     if known.contains(&op) {
         "line out of place"
     } else {
@@ -63,6 +63,8 @@ mod tests {
             ("op=cut\n", "misplaced cut"),
             ("op=cuts\n", "unknown op"),
             ("op=begin\n", "line out of place"),
+            ("op=shrink\n", "line out of place"),
+            ("op=back\n", "line out of place"),
             ("key=1\n", "line out of place"),
             ("sample=1\n", "line out of place"),
             ("sample=12345678901234567890x\n", "too long"),

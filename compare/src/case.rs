@@ -1,8 +1,8 @@
 //! One call over given words, and what it answers in the model.
 
-use ragansils::Lookup;
+use ragansils::{Lookup, Phase};
 use ragansils_model as model;
-use ragansils_model::{Event, Table};
+use ragansils_model::{word, Event, Table};
 
 use crate::chain::Chain;
 
@@ -55,9 +55,15 @@ impl Call {
     }
 }
 
-/// Whether words are those of a table that grows.
-pub fn is_growing(table: &[u64]) -> bool {
-    Table::read(table).map_or(false, |table| table.state.growing)
+/// The phase of a table; none where the words are no table with a good header.
+pub fn phase_of(table: &[u64]) -> Option<Phase> {
+    Table::read(table).ok()?;
+    Phase::of_state(table[word::STATE])
+}
+
+/// Whether words are those of a table that grows or shrinks.
+pub fn is_resizing(table: &[u64]) -> bool {
+    matches!(phase_of(table), Some(Phase::Growing | Phase::Shrinking))
 }
 
 /// The name scripts and counts use.
@@ -67,6 +73,8 @@ pub fn event_name(event: Event) -> &'static str {
         Event::Update { .. } => "update",
         Event::Delete { .. } => "delete",
         Event::Begin => "begin",
+        Event::Shrink => "shrink",
+        Event::Back => "back",
         Event::Step => "step",
         Event::StepFrom { .. } => "step_from",
         Event::End => "end",

@@ -47,7 +47,7 @@ pub fn event_arguments(event: Event) -> Vec<(&'static str, u64)> {
         }
         Event::Delete { key } => vec![("key", key)],
         Event::StepFrom { from } => vec![("from", from)],
-        Event::Begin | Event::Step | Event::End | Event::Recover => vec![],
+        Event::Begin | Event::Shrink | Event::Back | Event::Step | Event::End | Event::Recover => vec![],
     }
 }
 
@@ -88,6 +88,8 @@ pub fn read_call(op: &str, number: impl Fn(&str) -> Result<u64, String>) -> Resu
         "update" => Event::Update { key: number("key")?, function: number("fn")?, place: number("at")? },
         "delete" => Event::Delete { key: number("key")? },
         "begin" => Event::Begin,
+        "shrink" => Event::Shrink,
+        "back" => Event::Back,
         "step" => Event::Step,
         "step_from" => Event::StepFrom { from: number("from")? },
         "end" => Event::End,
@@ -113,6 +115,8 @@ mod tests {
             Call::Change(Event::Update { key: 1, function: 2, place: 3 }),
             Call::Change(Event::Delete { key: 1 }),
             Call::Change(Event::Begin),
+            Call::Change(Event::Shrink),
+            Call::Change(Event::Back),
             Call::Change(Event::Step),
             Call::Change(Event::StepFrom { from: 8 }),
             Call::Change(Event::End),

@@ -3,16 +3,16 @@
 use std::collections::BTreeMap;
 use std::fmt::{self, Display};
 
+use ragansils::Phase;
 use ragansils_model::{query, SUCCESS};
 
-use crate::case::{is_growing, Call, Case};
+use crate::case::{phase_of, Call, Case};
 use crate::chain::Chain;
 
 /// How a chain was answered.
 #[derive(Clone, Copy, Debug, PartialEq, Eq, PartialOrd, Ord)]
 pub enum Kind {
-    WholeAtRest,
-    WholeGrowing,
+    Whole(Phase),
     /// Refused with 5: the first depth that is missing is the one asked for, one between, or 0.
     FirstMissing,
     MiddleMissing,
@@ -23,9 +23,10 @@ pub enum Kind {
 }
 
 /// What a chain can meet on a sound table.
-pub const KINDS_OF_SOUND_TABLES: [Kind; 8] = [
-    Kind::WholeAtRest,
-    Kind::WholeGrowing,
+pub const KINDS_OF_SOUND_TABLES: [Kind; 9] = [
+    Kind::Whole(Phase::AtRest),
+    Kind::Whole(Phase::Growing),
+    Kind::Whole(Phase::Shrinking),
     Kind::FirstMissing,
     Kind::MiddleMissing,
     Kind::LastMissing,
@@ -40,8 +41,7 @@ pub const MORE_KINDS_OF_OTHER_WORDS: [Kind; 2] = [Kind::Refused(1), Kind::Refuse
 impl Display for Kind {
     fn fmt(&self, out: &mut fmt::Formatter) -> fmt::Result {
         match self {
-            Kind::WholeAtRest => write!(out, "whole at rest"),
-            Kind::WholeGrowing => write!(out, "whole while growing"),
+            Kind::Whole(phase) => write!(out, "whole, {phase}"),
             Kind::FirstMissing => write!(out, "first depth missing"),
             Kind::MiddleMissing => write!(out, "middle depth missing"),
             Kind::LastMissing => write!(out, "last depth missing"),
@@ -76,8 +76,7 @@ impl ChainTally {
 
 fn kind(case: &Case, chain: Chain, number: u64) -> Kind {
     match number {
-        SUCCESS if is_growing(&case.table) => Kind::WholeGrowing,
-        SUCCESS => Kind::WholeAtRest,
+        SUCCESS => Kind::Whole(phase_of(&case.table).expect("a table that tells records has a good header")),
         5 => missing_kind(chain, &case.table),
         _ => Kind::Refused(number),
     }
@@ -114,7 +113,7 @@ mod tests {
             let kinds: Vec<Kind> = tally.kinds.into_keys().collect();
             (kinds, tally.longest)
         };
-        assert_eq!(of(1, 0, 0), (vec![Kind::WholeAtRest], 1));
+        assert_eq!(of(1, 0, 0), (vec![Kind::Whole(Phase::AtRest)], 1));
         assert_eq!(of(1, 4, 5), (vec![Kind::FirstMissing], 0));
         assert_eq!(of(1, 3, 5), (vec![Kind::MiddleMissing], 0));
         assert_eq!(of(2, 1, 5), (vec![Kind::LastMissing], 0));
@@ -125,11 +124,11 @@ mod tests {
     #[test]
     fn what_was_not_seen_is_told() {
         let mut growing = table();
-        growing[word::STATE] = State { k: 2, growing: true }.word();
+        growing[word::STATE] = State::at_rest(1).begin(2).unwrap().word();
         let call = Call::Chain(Chain { address: 1, depth: 0 });
         let mut tally = ChainTally::default();
         tally.count(&Case { call, table: growing, list: vec![] }, 0);
         let unseen = tally.unseen(KINDS_OF_SOUND_TABLES);
-        assert_eq!((unseen.len(), unseen.contains(&Kind::WholeGrowing)), (7, false));
+        assert_eq!((unseen.len(), unseen.contains(&Kind::Whole(Phase::Growing))), (8, false));
     }
 }

@@ -38,7 +38,7 @@ compare corners <INPUT
  RATIO is the most that the ledger program's time may be of the model's)";
 
 /// From this size on, a run fails where it has not seen what it must have seen.
-const FULL_SIZE_CALLS: u64 = 100_000;
+const FULL_SIZE_CALLS: u64 = 300_000;
 const FULL_SIZE_TEXTS: u64 = 1_000;
 
 /// One round of a long run.

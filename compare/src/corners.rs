@@ -72,6 +72,8 @@ impl Lent {
             ("update", &[key, function, place]) => self.listed(Event::Update { key, function, place }),
             ("delete", &[key]) => self.listed(Event::Delete { key }),
             ("begin", []) => self.listed(Event::Begin),
+            ("halve", []) => self.listed(Event::Shrink),
+            ("turn", []) => self.listed(Event::Back),
             ("step", []) => self.listed(Event::Step),
             ("end", []) => self.listed(Event::End),
             ("recover", []) => self.listed(Event::Recover),
@@ -116,6 +118,8 @@ impl Lent {
             Event::Update { key, function, place },
             Event::Delete { key },
             Event::Begin,
+            Event::Shrink,
+            Event::Back,
             Event::Step,
             Event::End,
             Event::Recover,
@@ -186,6 +190,15 @@ mod tests {
         let lines = "Table 100\nList 20\ncreate 2 1 1 1\nbegin\nmake 1\nstep\nquery 1\n";
         let told = "Table 100\nList 20\ncreate 2 1 1 1: 0\nbegin: 0 1 4 258\nmake 1: 0\nstep: 11 0 nowhere\nquery 1: 5 0 0 3 0 0\n";
         assert_eq!(answers(lines).as_deref(), Ok(told));
+    }
+
+    #[test]
+    fn a_shrink_is_told_by_words_of_their_own() {
+        let lines = "Table 100\nList 20\ncreate 2 2 1 1\nhalve\nmake 1\nhalve\nturn\nall 1 2 3\n";
+        let told = answers(lines).unwrap();
+        let last: Vec<&str> = told.lines().skip(3).collect();
+        let every = "all 1 2 3: 5 0 0 3 0 0: 0 4 23 1 24 2 25 3 22 1: 5 0: 5 0: 7 0: 7 0: 0 1 4 258: 11 0 nowhere: 0 1 4 1: 0 0";
+        assert_eq!(last, ["halve: 0 1 4 513", "make 1: 0", "halve: 7 0", "turn: 0 1 4 258", every]);
     }
 
     #[test]

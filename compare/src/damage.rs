@@ -1,7 +1,9 @@
 //! Damage to tables: every way we know for a table to be other than sound.
 //! Each kind takes any words at all; where it does not fit it does nothing.
 
-use ragansils_model::{make, word, Event, Level, Slot, State, Table, LEAST_LIST_WORDS, SLOTS_PER_BUCKET};
+use ragansils_model::{
+    make, word, Event, Level, Phase, Slot, State, Table, LEAST_LIST_WORDS, SLOTS_PER_BUCKET,
+};
 
 use crate::chain::{key_of, Chain};
 use crate::history::any_item;
@@ -167,13 +169,15 @@ fn bad_state(random: &mut Random, words: &mut [u64]) {
         Err(_) => return,
     };
     let (k, c) = (table.state.k, table.capacity());
-    words[word::STATE] = match random.below(7) {
+    words[word::STATE] = match random.below(9) {
         0 => 0,
         1 => c + 1,
         2 => 256 + random.below(2),
         3 => 256 + c + 1,
-        4 => k + 512,
-        5 => k + (1 << random.pick(&[9, 16, 32, 63])),
+        4 => 512,
+        5 => 512 + c + random.below(2),
+        6 => k + 768,
+        7 => k + (1 << random.pick(&[10, 16, 32, 63])),
         _ => random.any_word(),
     };
 }
@@ -185,12 +189,21 @@ fn other_good_state(random: &mut Random, words: &mut [u64]) {
         Err(_) => return,
     };
     let c = table.capacity();
-    let growing = c > 1 && random.one_in(2);
-    let k = if growing { 2 + random.below(c - 1) } else { 1 + random.below(c) };
-    words[word::STATE] = State { k, growing }.word();
+    let resizing = (c > 1).then(|| any_resizing(random, c)).filter(|_| !random.one_in(3));
+    let state = resizing.unwrap_or_else(|| State::at_rest(1 + random.below(c)));
+    words[word::STATE] = state.word();
 }
 
-/// Growing with an interim level that is empty, though its token words may not be 0.
+/// A good state of a table that grows or shrinks; there is none with c = 1.
+fn any_resizing(random: &mut Random, c: u64) -> State {
+    let from_0 = random.below(c - 1);
+    random.pick(&[
+        State { k: 2 + from_0, phase: Phase::Growing },
+        State { k: 1 + from_0, phase: Phase::Shrinking },
+    ])
+}
+
+/// Growing or shrinking with an interim level that is empty, though its token words may not be 0.
 fn empty_interim(random: &mut Random, words: &mut [u64]) {
     let table = match Table::read(words) {
         Ok(table) => table,
@@ -200,9 +213,10 @@ fn empty_interim(random: &mut Random, words: &mut [u64]) {
     if c < 2 {
         return;
     }
-    let interim_exponent = random.below(c - 1);
-    words[word::STATE] = State { k: interim_exponent + 2, growing: true }.word();
-    for bucket in Level::with_exponent(interim_exponent).buckets() {
+    let state = any_resizing(random, c);
+    words[word::STATE] = state.word();
+    let interim = state.interim_exponent().map(Level::with_exponent);
+    for bucket in interim.into_iter().flat_map(|level| level.buckets()) {
         words[token_word(bucket)] = if random.one_in(3) { random.any_word() & !15 } else { 0 };
     }
 }

@@ -1,22 +1,28 @@
 //! What a run must have seen. One that is large enough and saw less fails: it showed too little.
 
+use ragansils::Phase;
+
 use crate::chain::DEPTH_LIMIT;
 use crate::chain_tally::{KINDS_OF_SOUND_TABLES, MORE_KINDS_OF_OTHER_WORDS};
-use crate::starts::rare_numbers;
+use crate::phases::{possible_in_other_words, possible_in_scripts, possible_in_sound_tables, PhaseTally};
+use crate::starts::{rare_numbers, while_resizing};
 use crate::stuck_items::Way;
 use crate::tally::Tally;
 
 type Answer = Result<(), String>;
 
 /// Scripts make good tables, lend good lists, make good stores and ask for no chain: no 1, 2, 14, 15 or 16.
-const REFUSALS_OF_SCRIPTS: std::ops::RangeInclusive<u64> = 3..=13;
-const REFUSALS_OF_CALLS: std::ops::RangeInclusive<u64> = 1..=16;
+const REFUSALS_OF_SCRIPTS: [u64; 12] = [3, 4, 5, 6, 7, 8, 9, 10, 11, 12, 13, 17];
+const REFUSALS_OF_CALLS: std::ops::RangeInclusive<u64> = 1..=17;
 
 /// So often at least each kind of start is met, and each number of a step from a start.
 const LEAST_OF_EACH_START: u64 = 3;
 const NUMBERS_OF_STARTS_ON_CUT_TABLES: [u64; 4] = [0, 3, 6, 11];
 const NUMBERS_OF_STARTS_ON_RECOVERED_TABLES: [u64; 3] = [0, 6, 11];
-const NUMBERS_OF_STARTS_ON_OTHER_WORDS: [u64; 7] = [0, 1, 2, 3, 6, 8, 11];
+const NUMBERS_OF_STARTS_ON_OTHER_WORDS: [u64; 5] = [0, 2, 3, 6, 11];
+/// And those that only a table at rest gives, and words that are no table.
+const MORE_NUMBERS_OF_STARTS_ON_OTHER_WORDS: [(Option<Phase>, u64); 2] =
+    [(Some(Phase::AtRest), 8), (None, 1)];
 
 /// So often at least each kind of ledger is met.
 const LEAST_OF_EACH_LEDGER: u64 = 3;
@@ -24,10 +30,15 @@ const LEAST_OF_EACH_LEDGER: u64 = 3;
 /// So often at least a query finds its key in each level.
 const LEAST_OF_EACH_LEVEL: u64 = 30;
 
+/// So often at least each phase meets what it can.
+const LEAST_OF_EACH_IN_A_PHASE: u64 = 3;
+
 /// Of a run over words.
 pub fn demand_calls(tally: &Tally) -> Answer {
     demand_refusals(tally, REFUSALS_OF_CALLS)?;
     demand_levels(tally)?;
+    demand_phases("sound tables", &tally.phases_of_sound_tables, &possible_in_sound_tables())?;
+    demand_phases("other words", &tally.phases_of_other_words, &possible_in_other_words())?;
     demand_chains(tally)?;
     demand_steps(tally)?;
     demand_starts(tally)
@@ -35,6 +46,7 @@ pub fn demand_calls(tally: &Tally) -> Answer {
 
 pub fn demand_scripts(tally: &Tally) -> Answer {
     demand_refusals(tally, REFUSALS_OF_SCRIPTS)?;
+    demand_phases("scripts", &tally.phases_of_scripts, &possible_in_scripts())?;
     demand_levels(tally)
 }
 
@@ -55,7 +67,7 @@ pub fn demand_some(seen: u64, what: &str) -> Answer {
     }
 }
 
-fn demand_refusals(tally: &Tally, possible: std::ops::RangeInclusive<u64>) -> Answer {
+fn demand_refusals(tally: &Tally, possible: impl IntoIterator<Item = u64>) -> Answer {
     let unseen = tally.unseen_refusals(possible);
     if unseen.is_empty() {
         Ok(())
@@ -70,6 +82,15 @@ fn demand_levels(tally: &Tally) -> Answer {
     match rare[..] {
         [] => Ok(()),
         _ => Err(format!("levels in which queries seldom or never found a key: {rare:?}")),
+    }
+}
+
+/// That growing tables met something shows nothing of shrinking ones.
+fn demand_phases(of_what: &str, tally: &PhaseTally, possible: &[(Phase, &'static str)]) -> Answer {
+    let rare = tally.rare(possible, LEAST_OF_EACH_IN_A_PHASE);
+    match rare[..] {
+        [] => Ok(()),
+        _ => Err(format!("seldom or never met by {of_what}: {rare:?}")),
     }
 }
 
@@ -90,9 +111,11 @@ fn demand_chains(tally: &Tally) -> Answer {
 
 /// Steps that take the first item show nothing of those that pass stuck ones.
 fn demand_steps(tally: &Tally) -> Answer {
-    let unseen = tally.steps_of_sound_tables.unseen();
-    if !unseen.is_empty() {
-        return Err(format!("steps of sound tables never seen: {unseen:?}"));
+    for (of_what, steps) in [("growths", &tally.steps_of_growths), ("shrinks", &tally.steps_of_shrinks)] {
+        let unseen = steps.unseen();
+        if !unseen.is_empty() {
+            return Err(format!("steps of {of_what} of sound tables never seen: {unseen:?}"));
+        }
     }
     // Damage spares the stuck items of a table made for a kind often, but not always.
     let is_unseen = |way: &Way| tally.steps_of_other_words.past_stuck_items(*way) == 0;
@@ -109,13 +132,19 @@ fn demand_starts(tally: &Tally) -> Answer {
     if !rare.is_empty() {
         return Err(format!("steps from a start seldom or never seen: {rare:?}"));
     }
-    let by_tables: [(&str, _, &[u64]); 3] = [
-        ("cut tables", &starts.of_cut_tables, &NUMBERS_OF_STARTS_ON_CUT_TABLES),
-        ("recovered tables", &starts.of_recovered_tables, &NUMBERS_OF_STARTS_ON_RECOVERED_TABLES),
-        ("other words", &starts.of_other_words, &NUMBERS_OF_STARTS_ON_OTHER_WORDS),
+    let mut of_other_words = while_resizing(&NUMBERS_OF_STARTS_ON_OTHER_WORDS);
+    of_other_words.extend(MORE_NUMBERS_OF_STARTS_ON_OTHER_WORDS);
+    let by_tables = [
+        ("cut tables", &starts.of_cut_tables, while_resizing(&NUMBERS_OF_STARTS_ON_CUT_TABLES)),
+        (
+            "recovered tables",
+            &starts.of_recovered_tables,
+            while_resizing(&NUMBERS_OF_STARTS_ON_RECOVERED_TABLES),
+        ),
+        ("other words", &starts.of_other_words, of_other_words),
     ];
     for (tables, numbers, possible) in by_tables {
-        let rare = rare_numbers(numbers, possible, LEAST_OF_EACH_START);
+        let rare = rare_numbers(numbers, &possible, LEAST_OF_EACH_START);
         if !rare.is_empty() {
             return Err(format!("numbers of steps from a start seldom or never seen on {tables}: {rare:?}"));
         }

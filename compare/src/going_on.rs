@@ -9,8 +9,7 @@ use crate::plain_map::{self, PlainMap};
 use crate::random::Random;
 use crate::sound_tables::{check_change, Changed, Depth};
 use crate::starts::{count_number, interim_buckets, kind_of, Start, STARTS};
-use crate::stuck_items::KINDS;
-use crate::stuck_tables::history_to;
+use crate::stuck_items::{Kind, KINDS};
 
 /// A step whose item finds its place by a move of another.
 const MOST_STORES: u64 = 10;
@@ -25,9 +24,17 @@ pub struct Sound<'a> {
     pub map: &'a PlainMap,
 }
 
+/// What leads to a table whose next step is of a kind.
+type HistoryTo = fn(&mut Random, Kind) -> (Setting, Vec<Event>);
+
 /// A pass over tables that are made for each kind of step, so many of each, and a step from each kind of start before and after it. The
 /// model makes the tables, so that this costs few calls.
-pub fn try_made_tables(random: &mut Random, both: &mut Both, of_each_kind: u64) -> Result<(), Finding> {
+pub fn try_made_tables(
+    random: &mut Random,
+    both: &mut Both,
+    history_to: HistoryTo,
+    of_each_kind: u64,
+) -> Result<(), Finding> {
     for kind in (0..of_each_kind).flat_map(|_| KINDS) {
         let (setting, events) = history_to(random, kind);
         let table = made_by_model(setting, &events);
@@ -40,7 +47,8 @@ pub fn try_made_tables(random: &mut Random, both: &mut Both, of_each_kind: u64) 
     Ok(())
 }
 
-fn made_by_model(Setting { c, k, mul1, mul2 }: Setting, events: &[Event]) -> Vec<u64> {
+/// The table after events; those that it refuses change nothing.
+pub fn made_by_model(Setting { c, k, mul1, mul2 }: Setting, events: &[Event]) -> Vec<u64> {
     let mut table = vec![0; table_words(c).unwrap_or(0)];
     create(&mut table, c, k, mul1, mul2);
     for &event in events {
@@ -49,7 +57,7 @@ fn made_by_model(Setting { c, k, mul1, mul2 }: Setting, events: &[Event]) -> Vec
     table
 }
 
-/// A step from each kind of start, where the table grows. The table stays; `told` is the bucket that an earlier step told.
+/// A step from each kind of start, where the table is not at rest. The table stays; `told` is the bucket that an earlier step told.
 pub fn try_starts(random: &mut Random, both: &mut Both, sound: Sound, told: u64) -> Result<(), Finding> {
     for (start, from) in starts_of(random, sound.table, told) {
         checked_step(random, both, sound, start, from)?;
@@ -101,7 +109,7 @@ pub fn try_starts_after_a_cut(
     for (_, from) in starts_of(random, &table, told) {
         let case = case_of(random, Event::StepFrom { from }, &table);
         let number = both.run(&case)?.number;
-        count_number(&mut both.tally.starts.of_cut_tables, number);
+        count_number(&mut both.tally.starts.of_cut_tables, &table, number);
     }
     let (_, stores) = Event::Recover.list_stores(&table, &mut list);
     make(&mut table, &list, stores);
@@ -109,7 +117,7 @@ pub fn try_starts_after_a_cut(
     let sound = Sound { table: &table, map: &map };
     for (start, from) in starts_of(random, &table, told) {
         let number = checked_step(random, both, sound, start, from)?.number;
-        count_number(&mut both.tally.starts.of_recovered_tables, number);
+        count_number(&mut both.tally.starts.of_recovered_tables, &table, number);
     }
     Ok(())
 }
@@ -120,7 +128,7 @@ pub struct Passed {
     last_start: u64,
 }
 
-/// One pass over a growing table, from 0 and on from each bucket told, beside the model's steps: they move the same items, and where the
+/// One pass over a table that grows or shrinks, from 0 and on from each bucket told, beside the model's steps: they move the same items, and where the
 /// pass ends no step is left. The table stays.
 pub fn try_pass(random: &mut Random, both: &mut Both, sound: Sound) -> Result<Passed, Finding> {
     let buckets = match interim_buckets(sound.table) {
@@ -161,14 +169,19 @@ fn change_by_model(table: &mut [u64], event: Event) -> u64 {
 #[cfg(test)]
 mod tests {
     use super::*;
+    use crate::starts::{rare_numbers, while_resizing};
     use crate::tally::Tally;
+    use crate::{stuck_shrinks, stuck_tables};
 
     #[test]
     fn made_tables_bring_every_kind_of_start() {
         let mut tally = Tally::default();
-        try_made_tables(&mut Random::new(1), &mut Both::new(&mut tally), 20).unwrap();
+        let (mut random, mut both) = (Random::new(1), Both::new(&mut tally));
+        for history_to in [stuck_tables::history_to, stuck_shrinks::history_to] {
+            try_made_tables(&mut random, &mut both, history_to, 20).unwrap();
+        }
         let starts = &tally.starts;
-        assert_eq!((starts.rare(1), starts.passes), (vec![], 20 * KINDS.len() as u64));
+        assert_eq!((starts.rare(1), starts.passes), (vec![], 2 * 20 * KINDS.len() as u64));
         assert!(starts.moves > 0 && starts.steps_of_passes > starts.passes);
     }
 
@@ -177,20 +190,23 @@ mod tests {
         let mut random = Random::new(1);
         let mut tally = Tally::default();
         let mut both = Both::new(&mut tally);
-        for kind in KINDS {
+        let both_ways: [HistoryTo; 2] = [stuck_tables::history_to, stuck_shrinks::history_to];
+        for (history_to, kind) in
+            both_ways.into_iter().flat_map(|history_to| KINDS.map(|kind| (history_to, kind)))
+        {
             let (setting, events) = history_to(&mut random, kind);
             let table = made_by_model(setting, &events);
             let step = Event::StepFrom { from: 0 };
             try_starts_after_a_cut(&mut random, &mut both, &table, step, 1).unwrap();
         }
         for numbers in [&tally.starts.of_cut_tables, &tally.starts.of_recovered_tables] {
-            assert!([0, 6, 11].iter().all(|number| numbers.contains_key(number)), "{numbers:?}");
+            assert_eq!(rare_numbers(numbers, &while_resizing(&[0, 6, 11]), 1), []);
         }
     }
 
     #[test]
     fn at_rest_there_is_nothing_to_try() {
-        let (setting, _) = history_to(&mut Random::new(1), KINDS[0]);
+        let (setting, _) = stuck_tables::history_to(&mut Random::new(1), KINDS[0]);
         let (table, map) = (made_by_model(setting, &[]), PlainMap::new());
         let mut tally = Tally::default();
         let (mut random, mut both) = (Random::new(1), Both::new(&mut tally));

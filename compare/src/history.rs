@@ -106,25 +106,34 @@ pub fn any_item(random: &mut Random, words: &[u64]) -> Option<Slot> {
     (!items.is_empty()).then(|| random.pick(&items))
 }
 
+/// Once in so many events stands for never.
+const SELDOM: u64 = 1000;
+
 /// What a stretch of a history is bent on.
 #[derive(Clone, Copy)]
 pub struct Mood {
     /// In parts of a hundred; what is left is deletes.
     inserts: u64,
     updates: u64,
-    /// Growth under way takes a step once in so many events. A slow growth
+    /// Growth or a shrink under way takes a step once in so many events. A slow growth
     /// lets the table fill up before the interim level is empty.
     step_one_in: u64,
+    /// A table at rest begins to shrink once in so many events, however full it is.
+    shrink_one_in: u64,
+    /// Where something found no place, growth or a shrink turns back once in so many events.
+    turn_one_in: u64,
 }
 
 impl Mood {
     pub fn filling() -> Mood {
-        Mood { inserts: 90, updates: 5, step_one_in: 2 }
+        Mood { inserts: 90, updates: 5, step_one_in: 2, shrink_one_in: SELDOM, turn_one_in: SELDOM }
     }
 
     pub fn random(random: &mut Random) -> Mood {
         let (inserts, updates) = random.pick(&[(90, 5), (90, 5), (45, 25), (15, 25)]);
-        Mood { inserts, updates, step_one_in: random.pick(&[1, 2, 20]) }
+        let step_one_in = random.pick(&[1, 2, 20]);
+        let (shrink_one_in, turn_one_in) = (random.pick(&[20, 100, SELDOM]), random.pick(&[1, 6, SELDOM]));
+        Mood { inserts, updates, step_one_in, shrink_one_in, turn_one_in }
     }
 }
 
@@ -132,9 +141,10 @@ impl Mood {
 pub fn next_event(random: &mut Random, words: &[u64], keys: &Keys, mood: Mood, last: u64) -> Event {
     if random.one_in(25) {
         // Also where it does not fit, so that it is refused.
-        return random.pick(&[Event::Begin, Event::Step, Event::End, Event::Recover]);
+        let events = [Event::Begin, Event::Shrink, Event::Back, Event::Step, Event::End, Event::Recover];
+        return random.pick(&events);
     }
-    if let Some(event) = growth_event(random, words, mood, last) {
+    if let Some(event) = resizing_event(random, words, mood, last) {
         return event;
     }
     let (key, function, place) = (keys.pick(random), random.any_word(), random.any_word());
@@ -145,8 +155,8 @@ pub fn next_event(random: &mut Random, words: &[u64], keys: &Keys, mood: Mood, l
     }
 }
 
-/// Growth goes on where it is under way, and begins where an insert found no place.
-fn growth_event(random: &mut Random, words: &[u64], mood: Mood, last: u64) -> Option<Event> {
+/// Growth or a shrink goes on where it is under way.
+fn resizing_event(random: &mut Random, words: &[u64], mood: Mood, last: u64) -> Option<Event> {
     let table = Table::read(words).ok()?;
     match table.interim() {
         Some(interim) if table.taken_slots(&[interim]).is_empty() => match random.below(6) {
@@ -155,11 +165,19 @@ fn growth_event(random: &mut Random, words: &[u64], mood: Mood, last: u64) -> Op
             3 => Some(Event::Step),
             _ => None,
         },
-        // After a step without a place other events must make room.
-        Some(_) => (last != 6 && random.one_in(mood.step_one_in)).then_some(Event::Step),
-        None => {
-            let wants_room = last == 6 && table.state.k < table.capacity();
-            (wants_room && !random.one_in(3)).then_some(Event::Begin)
-        }
+        // After a step without a place the table turns back, or other events must make room.
+        Some(_) if last == 6 => random.one_in(mood.turn_one_in).then_some(Event::Back),
+        Some(_) => random.one_in(mood.step_one_in).then_some(Event::Step),
+        None => beginning(random, &table, mood, last),
     }
+}
+
+/// Growth begins where an insert found no place, and a shrink at any time.
+fn beginning(random: &mut Random, table: &Table, mood: Mood, last: u64) -> Option<Event> {
+    let k = table.state.k;
+    let wants_room = last == 6 && k < table.capacity();
+    if wants_room && !random.one_in(3) {
+        return Some(Event::Begin);
+    }
+    (k > 1 && random.one_in(mood.shrink_one_in)).then_some(Event::Shrink)
 }

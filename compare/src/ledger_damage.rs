@@ -44,8 +44,10 @@ const BAD_SAMPLES: [&[u8]; 18] = [
 ];
 
 /// One event each, of lines that are good among events.
-const EVENTS: [&[&[u8]]; 6] = [
+const EVENTS: [&[&[u8]]; 8] = [
     &[b"op=begin\n"],
+    &[b"op=shrink\n"],
+    &[b"op=back\n"],
     &[b"op=recover\n"],
     &[b"op=query\n", b"key=1\n"],
     &[b"op=insert\n", b"key=1\n", b"fn=2\n", b"at=3\n"],

@@ -2,11 +2,12 @@
 
 use std::collections::{BTreeMap, BTreeSet};
 
+use ragansils::Phase;
 use ragansils_model::SUCCESS;
 
+use crate::answered_events::{answered_events, last_phase, numbers_by_name, op_of};
 use crate::ledger_text::MOST_COUNTED;
 use crate::outputs::script_output;
-use crate::scripts::{numbers_by_name, op_of};
 
 pub const HEADER_LINES: usize = 4;
 /// What a recovery, and a query, are answered with in lines.
@@ -42,6 +43,8 @@ pub struct Sampled {
 pub struct ByQueries {
     pub recovery: u64,
     pub recovery_stores: u64,
+    /// That of the table which the script leaves.
+    pub phase: Phase,
     pub samples: Vec<Sampled>,
 }
 
@@ -54,8 +57,9 @@ impl ByQueries {
             script.extend_from_slice(b"op=query\nkey=");
             script.extend_from_slice(&sample["sample=".len()..]);
         }
-        let output: Vec<u64> =
-            numbers_by_name(&script_output(&script)).into_iter().map(|line| line.1).collect();
+        let lines = numbers_by_name(&script_output(&script));
+        let phase = last_phase(&answered_events(events, &lines));
+        let output: Vec<u64> = lines.into_iter().map(|line| line.1).collect();
         // the last line is the number of events
         let queries = output.len() - 1 - QUERY_LINES * samples.len();
         let recovery = &output[queries - RECOVERY_LINES..queries];
@@ -63,6 +67,7 @@ impl ByQueries {
         ByQueries {
             recovery: recovery[0],
             recovery_stores: recovery[1],
+            phase,
             samples: output[queries..output.len() - 1].chunks(QUERY_LINES).map(sampled).collect(),
         }
     }

@@ -3,11 +3,12 @@
 use std::collections::{BTreeMap, BTreeSet};
 use std::fmt::{self, Display};
 
+use ragansils::Phase;
 use ragansils_model::SUCCESS;
 
+use crate::answered_events::{numbers_by_name, op_of};
 use crate::ledger_lines::{first_sample, ByQueries, HEADER_LINES};
 use crate::ledger_text::MOST_COUNTED;
-use crate::scripts::{numbers_by_name, op_of};
 
 /// What a ledger shows. One ledger may show several.
 #[derive(Clone, Copy, Debug, PartialEq, Eq, PartialOrd, Ord)]
@@ -29,6 +30,13 @@ pub enum Kind {
     RefusedRecovery,
     /// A line behind the first sample is bad, and is not read.
     RefusedRecoveryBeforeBadLine,
+    /// The script leaves the table so; it has samples.
+    Growing,
+    Shrinking,
+    /// What recovery mended or refused, in a shrinking table.
+    ShrinkingDoubledKeyMended,
+    ShrinkingUpdateMended,
+    ShrinkingRefusedRecovery,
     RefusedCreation,
     BadHeader,
     BadScript,
@@ -39,7 +47,7 @@ pub enum Kind {
     SampleForNumber,
 }
 
-pub const KINDS: [Kind; 21] = [
+pub const KINDS: [Kind; 26] = [
     Kind::WholeReport,
     Kind::NoSamples,
     Kind::SomeNone,
@@ -53,6 +61,11 @@ pub const KINDS: [Kind; 21] = [
     Kind::UpdateMended,
     Kind::RefusedRecovery,
     Kind::RefusedRecoveryBeforeBadLine,
+    Kind::Growing,
+    Kind::Shrinking,
+    Kind::ShrinkingDoubledKeyMended,
+    Kind::ShrinkingUpdateMended,
+    Kind::ShrinkingRefusedRecovery,
     Kind::RefusedCreation,
     Kind::BadHeader,
     Kind::BadScript,
@@ -79,6 +92,11 @@ impl Display for Kind {
             Kind::UpdateMended => "flagged update mended",
             Kind::RefusedRecovery => "answer=12",
             Kind::RefusedRecoveryBeforeBadLine => "answer=12 before a bad line",
+            Kind::Growing => "growing table",
+            Kind::Shrinking => "shrinking table",
+            Kind::ShrinkingDoubledKeyMended => "doubled key mended in a shrinking table",
+            Kind::ShrinkingUpdateMended => "flagged update mended in a shrinking table",
+            Kind::ShrinkingRefusedRecovery => "answer=12 of a shrinking table",
             Kind::RefusedCreation => "made=13",
             Kind::BadHeader => "bad line in the header",
             Kind::BadScript => "bad line in the script",
@@ -146,16 +164,21 @@ fn kinds_of_refused_recovery(lines: &[Vec<u8>]) -> Vec<Kind> {
         let number = line.strip_prefix(b"sample=").and_then(|rest| rest.strip_suffix(b"\n"));
         number.map_or(false, |digits| digits.iter().all(u8::is_ascii_digit))
     };
-    let mut kinds = vec![Kind::RefusedRecovery];
-    if !lines[first_sample(lines)..].iter().all(is_good) {
-        kinds.push(Kind::RefusedRecoveryBeforeBadLine);
-    }
-    kinds
+    let (events, samples) = lines.split_at(first_sample(lines));
+    let seen = [
+        (Kind::RefusedRecovery, true),
+        (Kind::RefusedRecoveryBeforeBadLine, !samples.iter().all(is_good)),
+        (Kind::ShrinkingRefusedRecovery, ByQueries::of(events).phase == Phase::Shrinking),
+    ];
+    seen.into_iter().filter(|seen| seen.1).map(|seen| seen.0).collect()
 }
 
 fn kinds_of_report(report: &[(String, u64)], by_queries: &ByQueries) -> Vec<Kind> {
     let count = |name: &str| report.iter().find(|line| line.0 == name).map(|line| line.1);
     let named = by_queries.named();
+    let (is_growing, is_shrinking) =
+        (by_queries.phase == Phase::Growing, by_queries.phase == Phase::Shrinking);
+    let has_samples = count("samples") > Some(0);
     let seen = [
         (Kind::WholeReport, true),
         (Kind::NoSamples, count("samples") == Some(0)),
@@ -168,6 +191,10 @@ fn kinds_of_report(report: &[(String, u64)], by_queries: &ByQueries) -> Vec<Kind
         (Kind::LargestFunction, count("fn18446744073709551615").is_some()),
         (Kind::DoubledKeyMended, by_queries.recovery_stores == 1),
         (Kind::UpdateMended, by_queries.recovery_stores > 1),
+        (Kind::Growing, has_samples && is_growing),
+        (Kind::Shrinking, has_samples && is_shrinking),
+        (Kind::ShrinkingDoubledKeyMended, is_shrinking && by_queries.recovery_stores == 1),
+        (Kind::ShrinkingUpdateMended, is_shrinking && by_queries.recovery_stores > 1),
     ];
     seen.into_iter().filter(|seen| seen.1).map(|seen| seen.0).collect()
 }

@@ -5,7 +5,7 @@ use ragansils_model::{
     SUCCESS,
 };
 
-use crate::case::is_growing;
+use crate::case::is_resizing;
 use crate::history::{any_item, Setting};
 use crate::random::Random;
 use crate::script_text::{any_cut, random_script, Script};
@@ -100,8 +100,8 @@ fn any_item_of_full_bucket(random: &mut Random, words: &[u64]) -> Option<Slot> {
 
 /// Just before the step's last store, its item stands twice.
 fn cut_step(random: &mut Random, script: &mut Script) {
-    if !is_growing(&script.table) {
-        script.event(Event::Begin, None);
+    if !is_resizing(&script.table) {
+        script.event(random.pick(&[Event::Begin, Event::Shrink]), None);
     }
     let stores = script.stores_of(Event::Step);
     let after = if random.one_in(3) { any_cut(random) } else { stores.saturating_sub(1) };

@@ -2,6 +2,7 @@
 
 use std::path::Path;
 
+use crate::answered_events::numbers_by_name;
 use crate::bad_lines::{bad_line_kind, LONGEST_SAMPLE_LINE};
 use crate::ledger_damage::damage_ledger;
 use crate::ledger_lines::{first_sample, ByQueries};
@@ -9,7 +10,6 @@ use crate::ledger_text::random_ledger;
 use crate::outputs::{self, difference, ledger_output, Disagreement};
 use crate::random::Random;
 use crate::script_damage::split_lines;
-use crate::scripts::numbers_by_name;
 use crate::tally::Tally;
 
 pub fn run(seed: u64, ledgers: u64, program: &Path, tally: &mut Tally) -> Result<(), Disagreement> {

@@ -7,15 +7,17 @@
 //! - `case`, `case_text`: one call over given words, and its text form;
 //! - `library`: the proved library behind its C interface;
 //! - `told_slots`: where a query tells that its key stands;
-//! - `stuck_items`: which interim item a growth step takes; `starts`: where a step that goes on starts;
-//! - `tally`: what a run has seen; `chain_tally`: of chains;
+//! - `stuck_items`: which interim item a step takes; `starts`: where a step that goes on starts;
+//! - `tally`: what a run has seen; `chain_tally`: of chains; `phases`: in each phase;
 //! - `both`: a case through library and model;
 //! - `plain_map`, `sound_tables`: sound tables against a plain map, with every cut;
 //! - `history`, `damage`: where tables come from; `random_chains`: which chains are put in and asked for;
-//! - `stuck_tables`: tables whose first interim items have no place; `going_on`: steps from every start, and whole passes;
+//! - `stuck_tables`, `stuck_shrinks`: growing and shrinking tables whose first interim items have no place; `going_on`: steps from every
+//!   start, and whole passes;
 //! - `wild`: cases over words that no history made;
 //! - `words`: the run over raw words;
-//! - `outputs`: a program's output beside the model's; `bad_lines`: what is wrong with a line;
+//! - `outputs`: a program's output beside the model's; `bad_lines`: what is wrong with a line; `answered_events`: a script's events, by
+//!   its output;
 //! - `script_text`, `script_damage`, `scripts`: the run of scripts;
 //! - `ledger_lines`, `ledger_text`, `ledger_damage`, `ledger_tally`, `ledgers`: the run of ledgers; `long_ledger`: a long one, with its
 //!   time and memory;
@@ -24,6 +26,7 @@
 //! - `demands`: what a run must have seen;
 //! - `commands`: what the command line asks for; `program`: what programs share; `runner`: how they start others.
 
+mod answered_events;
 mod bad_lines;
 mod both;
 pub mod case;
@@ -44,6 +47,7 @@ mod ledgers;
 pub mod library;
 mod long_ledger;
 mod outputs;
+mod phases;
 pub mod plain_map;
 pub mod program;
 pub mod random;
@@ -56,6 +60,7 @@ mod smallest;
 mod sound_tables;
 pub mod starts;
 pub mod stuck_items;
+pub mod stuck_shrinks;
 pub mod stuck_tables;
 mod tally;
 #[cfg(test)]

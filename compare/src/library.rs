@@ -133,6 +133,8 @@ pub unsafe fn list_event(
         }
         Event::Delete { key } => raw::ragansils_delete(table, words, key, list, list_words, stores),
         Event::Begin => raw::ragansils_begin(table, words, list, list_words, stores),
+        Event::Shrink => raw::ragansils_shrink(table, words, list, list_words, stores),
+        Event::Back => raw::ragansils_back(table, words, list, list_words, stores),
         Event::Step => raw::ragansils_step(table, words, list, list_words, stores),
         Event::StepFrom { from } => {
             let mut answer = [0; 2];

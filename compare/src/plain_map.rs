@@ -28,7 +28,8 @@ pub fn after(map: &PlainMap, event: Event) -> PlainMap {
         Event::Delete { key } => {
             map.remove(&key);
         }
-        Event::Begin | Event::Step | Event::StepFrom { .. } | Event::End | Event::Recover => {}
+        Event::Begin | Event::Shrink | Event::Back | Event::End => {}
+        Event::Step | Event::StepFrom { .. } | Event::Recover => {}
     }
     map
 }
@@ -41,6 +42,8 @@ pub fn answer_fits(map: &PlainMap, event: Event, number: u64) -> bool {
         Event::Insert { .. } => [0, 6].contains(&number),
         Event::Update { key, .. } | Event::Delete { key } => number == if present(key) { 0 } else { 5 },
         Event::Begin => [0, 7, 9].contains(&number),
+        Event::Shrink => [0, 7, 17].contains(&number),
+        Event::Back => [0, 8].contains(&number),
         Event::Step | Event::StepFrom { .. } => [0, 6, 8, 11].contains(&number),
         Event::End => [0, 8, 10].contains(&number),
         Event::Recover => number == 0,

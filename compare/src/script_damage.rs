@@ -150,8 +150,17 @@ fn spoil_op(random: &mut Random, text: &mut Text) {
     let is_op = |&index: &usize| text.lines[index].starts_with(b"op=");
     let ops: Vec<usize> = (0..text.lines.len()).filter(is_op).collect();
     if !ops.is_empty() {
-        let bad: [&[u8]; 6] =
-            [b"op=\n", b"op=shrink\n", b"op=Insert\n", b"op=steps\n", b"op=0\n", b"op==begin\n"];
+        let bad: [&[u8]; 9] = [
+            b"op=\n",
+            b"op=Insert\n",
+            b"op=steps\n",
+            b"op=0\n",
+            b"op==begin\n",
+            b"op=shrin\n",
+            b"op=shrinks\n",
+            b"op=Back\n",
+            b"op=backs\n",
+        ];
         text.lines[random.pick(&ops)] = random.pick(&bad).to_vec();
     }
 }

@@ -6,10 +6,10 @@ use ragansils_model::{
 
 use crate::case::event_name;
 use crate::case_text::event_arguments;
-use crate::history::{next_event, Keys, Mood, Setting};
+use crate::history::{any_item, next_event, Keys, Mood, Setting};
 use crate::random::Random;
 use crate::stuck_items::KINDS;
-use crate::stuck_tables::history_to;
+use crate::{stuck_shrinks, stuck_tables};
 
 /// The most stores an event has is 10; a cut is tried just beyond that, too.
 const CUTS_TO_TRY: u64 = 12;
@@ -19,7 +19,10 @@ pub fn random_script(random: &mut Random) -> Script {
         return refused_creation(random);
     }
     if random.one_in(12) {
-        return steps_past_stuck_items(random);
+        return stuck_growth(random);
+    }
+    if random.one_in(12) {
+        return stuck_shrink(random);
     }
     let grows_large = random.one_in(40);
     let setting = match grows_large {
@@ -53,22 +56,47 @@ fn refused_creation(random: &mut Random) -> Script {
 }
 
 /// Growth goes on as far as it can, past stuck items.
-fn steps_past_stuck_items(random: &mut Random) -> Script {
+fn stuck_growth(random: &mut Random) -> Script {
     let kind = random.pick(&KINDS);
-    let (setting, events) = history_to(random, kind);
-    let mut script = Script::default();
-    script.header(setting);
-    for event in events {
-        script.event(event, None);
+    let (setting, events) = stuck_tables::history_to(random, kind);
+    let mut script = Script::of_events(setting, events);
+    steps_past_stuck_items(random, &mut script);
+    script
+}
+
+/// A shrink goes on as far as it can, past stuck items; then it turns back, and that growth goes on as far as it can.
+fn stuck_shrink(random: &mut Random) -> Script {
+    let kind = random.pick(&KINDS);
+    let (setting, events) = stuck_shrinks::history_to(random, kind);
+    let mut script = Script::of_events(setting, events);
+    steps_past_stuck_items(random, &mut script);
+    if let Some(slot) = any_item(random, &script.table) {
+        // Most buckets are full, and then the flag is left.
+        let key = script.table[slot.key_word()];
+        let update = Event::Update { key, function: random.any_word(), place: random.any_word() };
+        script.event(update, Some(any_cut(random)));
+        recover(random, &mut script);
     }
+    if random.one_in(3) {
+        script.event(Event::Back, Some(random.below(2)));
+        recover(random, &mut script);
+    }
+    script.event(Event::Back, None);
+    steps_past_stuck_items(random, &mut script);
+    if random.one_in(2) {
+        script.event(Event::End, None);
+    }
+    script
+}
+
+fn steps_past_stuck_items(random: &mut Random, script: &mut Script) {
     while script.last_number == SUCCESS {
         if random.one_in(3) {
             script.event(Event::Step, Some(any_cut(random)));
-            recover(random, &mut script);
+            recover(random, script);
         }
         script.event(Event::Step, None);
     }
-    script
 }
 
 /// How a script goes.
@@ -134,6 +162,16 @@ pub struct Script {
 }
 
 impl Script {
+    /// The creation of a table, and events that are not cut.
+    fn of_events(setting: Setting, events: Vec<Event>) -> Script {
+        let mut script = Script::default();
+        script.header(setting);
+        for event in events {
+            script.event(event, None);
+        }
+        script
+    }
+
     pub fn line(&mut self, name: &str, value: impl ToString) {
         self.text.extend_from_slice(format!("{name}={}\n", value.to_string()).as_bytes());
     }

@@ -1,13 +1,14 @@
 //! Sound tables against the plain map: queries, chains, and changes that are cut after
 //! every number of stores and recovered, the recovery cut too.
 
+use ragansils::Phase;
 use ragansils_model::{Event, LEAST_LIST_WORDS, SUCCESS};
 
 use crate::both::{Both, Check, Finding};
-use crate::case::{is_growing, Call, Case, Outcome};
+use crate::case::{is_resizing, phase_of, Call, Case, Outcome};
 use crate::chain::Chain;
 use crate::plain_map::{self, PlainMap};
-use crate::stuck_items::{step_from_by_inserts, Step};
+use crate::stuck_items::{step_by_inserts, step_from_by_inserts, Kind, Step};
 
 /// The list lent to recoveries: longer than need be, and not zero.
 const RECOVERY_LIST: [u64; 22] = [0x0123_4567_89ab_cdef; 22];
@@ -42,9 +43,13 @@ pub fn check_change(
     if !plain_map::answer_fits(before, event, number) {
         return Err(finding(case, format!("the plain map does not allow the answer {number}")));
     }
+    both.tally.phases_of_sound_tables.count_case(case, &outcome);
     match event {
         Event::Step => check_step(both, case, &outcome)?,
         Event::StepFrom { from } => check_step_from(case, from, &outcome).map(drop)?,
+        Event::Back if is_stuck_shrink(&case.table) => {
+            both.tally.phases_of_sound_tables.count_stuck_shrink_left()
+        }
         _ => {}
     }
     let (stores, bucket) = (outcome.stores(), outcome.bucket());
@@ -62,10 +67,18 @@ pub fn check_change(
     Ok(Changed { number, table, map: after, stores, bucket })
 }
 
+fn is_stuck_shrink(table: &[u64]) -> bool {
+    let is_stuck = |step: Step| step.kind == Some(Kind::AllStuck);
+    phase_of(table) == Some(Phase::Shrinking) && step_by_inserts(table).map_or(false, is_stuck)
+}
+
 /// The plain map does not tell which item a step takes; inserts do.
 fn check_step(both: &mut Both, case: &Case, outcome: &Outcome) -> Result<(), Finding> {
     let step = check_step_from(case, 0, outcome)?;
-    both.tally.steps_of_sound_tables.count(&step);
+    match phase_of(&case.table) {
+        Some(Phase::Shrinking) => both.tally.steps_of_shrinks.count(&step),
+        _ => both.tally.steps_of_growths.count(&step),
+    }
     Ok(())
 }
 
@@ -88,6 +101,7 @@ fn check_step_from(case: &Case, from: u64, outcome: &Outcome) -> Result<Step, Fi
 /// Checks one query of a sound table whose map is `map`.
 pub fn check_query(both: &mut Both, case: &Case, key: u64, map: &PlainMap) -> Result<(), Finding> {
     let outcome = both.run(case)?;
+    both.tally.phases_of_sound_tables.count_case(case, &outcome);
     if plain_map::query_fits(map, key, outcome.number, &outcome.answer) {
         return Ok(());
     }
@@ -109,7 +123,7 @@ pub fn check_chain(both: &mut Both, case: &Case, chain: Chain, map: &PlainMap) -
     }
     let depths = if [SUCCESS, 5].contains(&number) { plain_map::depths_asked(map, chain) } else { 0 };
     // A key may stand in two buckets of each level in use.
-    let most_buckets = if is_growing(&case.table) { 6 } else { 4 };
+    let most_buckets = if is_resizing(&case.table) { 6 } else { 4 };
     let buckets = outcome.answer[0];
     if (depths..=most_buckets * depths).contains(&buckets) {
         return Ok(());
@@ -201,6 +215,7 @@ impl Change<'_, '_> {
         let call = Call::Change(Event::Recover);
         let case = Case { call, table: table.to_vec(), list: RECOVERY_LIST.to_vec() };
         let outcome = self.both.run(&case)?;
+        self.both.tally.phases_of_sound_tables.count_case(&case, &outcome);
         match outcome.number {
             0 => Ok(outcome),
             number => Err(self.finding(format!("cut after {kept} stores: recovery refuses with {number}"))),
@@ -212,7 +227,7 @@ impl Change<'_, '_> {
 mod tests {
     use super::*;
     use crate::random::Random;
-    use crate::stuck_items::{step_by_inserts, KINDS};
+    use crate::stuck_items::KINDS;
     use crate::stuck_tables::history_to;
     use crate::tally::Tally;
     use crate::test_table::{table_after, table_of};

@@ -3,8 +3,10 @@
 use std::collections::BTreeMap;
 use std::fmt::{self, Display};
 
+use ragansils::Phase;
 use ragansils_model::{Table, SUCCESS};
 
+use crate::case::phase_of;
 use crate::random::Random;
 use crate::stuck_items::{step_by_inserts, step_from_by_inserts};
 
@@ -23,6 +25,9 @@ pub enum Start {
     /// The largest word.
     Last,
 }
+
+/// The phases in which there is an interim level.
+const RESIZING: [Phase; 2] = [Phase::Growing, Phase::Shrinking];
 
 pub const STARTS: [Start; 6] =
     [Start::First, Start::Told, Start::Within, Start::Size, Start::Past, Start::Last];
@@ -46,7 +51,7 @@ impl Start {
     }
 }
 
-/// The buckets of the interim level; none where the words are no growing table.
+/// The buckets of the interim level; none where the words are no table that grows or shrinks.
 pub fn interim_buckets(words: &[u64]) -> Option<u64> {
     let interim = Table::read(words).ok()?.interim()?;
     Some(interim.size as u64)
@@ -79,15 +84,16 @@ pub enum Met {
     Nothing,
 }
 
-/// A step from a start, on a growing table that is sound.
+/// A step from a start, on a sound table that grows or shrinks.
 #[derive(Clone, Copy, Debug, PartialEq, Eq, PartialOrd, Ord)]
 pub struct Kind {
+    pub phase: Phase,
     pub start: Start,
     pub before: Before,
     pub met: Met,
 }
 
-/// Where the words keep inserts from telling it, and where the table does not grow, there is no kind.
+/// Where the words keep inserts from telling it, and where the table is at rest, there is no kind.
 pub fn kind_of(words: &[u64], start: Start, from: u64) -> Option<Kind> {
     let step = step_from_by_inserts(words, from)?;
     let met = match step.number {
@@ -105,7 +111,7 @@ pub fn kind_of(words: &[u64], start: Start, from: u64) -> Option<Kind> {
         Some(item) if is_before(item.bucket) => Before::OnlyStuck,
         _ => Before::Nothing,
     };
-    Some(Kind { start, before, met })
+    Some(Kind { phase: phase_of(words)?, start, before, met })
 }
 
 /// All that a run should meet on sound tables. A bucket that was told may have items with a place before it only where another change has
@@ -113,17 +119,18 @@ pub fn kind_of(words: &[u64], start: Start, from: u64) -> Option<Kind> {
 pub fn kinds_of_sound_tables() -> Vec<Kind> {
     let before = [Before::Nothing, Before::OnlyStuck, Before::SomeWithPlace];
     let met = [Met::Item, Met::OnlyStuck, Met::Nothing];
-    let kinds_of = |start| match start {
-        Start::First => kinds(start, &before[..1], &met),
-        Start::Told => kinds(start, &before[..2], &met),
-        Start::Within => kinds(start, &before, &met),
-        Start::Size | Start::Past | Start::Last => kinds(start, &before, &met[2..]),
+    let kinds_of = |phase, start| match start {
+        Start::First => kinds(phase, start, &before[..1], &met),
+        Start::Told => kinds(phase, start, &before[..2], &met),
+        Start::Within => kinds(phase, start, &before, &met),
+        Start::Size | Start::Past | Start::Last => kinds(phase, start, &before, &met[2..]),
     };
-    STARTS.into_iter().flat_map(kinds_of).collect()
+    let of_phase = |phase| STARTS.into_iter().flat_map(move |start| kinds_of(phase, start));
+    RESIZING.into_iter().flat_map(of_phase).collect()
 }
 
-fn kinds(start: Start, before: &[Before], met: &[Met]) -> Vec<Kind> {
-    let with = |&before| met.iter().map(move |&met| Kind { start, before, met });
+fn kinds(phase: Phase, start: Start, before: &[Before], met: &[Met]) -> Vec<Kind> {
+    let with = |&before| met.iter().map(move |&met| Kind { phase, start, before, met });
     before.iter().flat_map(with).collect()
 }
 
@@ -147,12 +154,12 @@ impl Display for Kind {
             Met::OnlyStuck => "all stuck",
             Met::Nothing => "no item",
         };
-        write!(out, "{start} past {before}: {met}")
+        write!(out, "{start} past {before}, {}: {met}", self.phase)
     }
 }
 
-/// How often a step from a start was answered with each number.
-pub type Numbers = BTreeMap<u64, u64>;
+/// How often a step from a start was answered with each number, in each phase; words that are no table have none.
+pub type Numbers = BTreeMap<(Option<Phase>, u64), u64>;
 
 /// What a run has seen of steps from a start.
 #[derive(Default)]
@@ -183,12 +190,22 @@ impl StartTally {
     }
 }
 
-pub fn count_number(numbers: &mut Numbers, number: u64) {
-    *numbers.entry(number).or_default() += 1;
+pub fn count_number(numbers: &mut Numbers, words: &[u64], number: u64) {
+    *numbers.entry((phase_of(words), number)).or_default() += 1;
 }
 
-/// Of some numbers, those that were met less often than this.
-pub fn rare_numbers(numbers: &Numbers, possible: &[u64], least: u64) -> Vec<u64> {
+/// Some numbers, both while growing and while shrinking.
+pub fn while_resizing(numbers: &[u64]) -> Vec<(Option<Phase>, u64)> {
+    let of_phase = |phase| numbers.iter().map(move |&number| (Some(phase), number));
+    RESIZING.into_iter().flat_map(of_phase).collect()
+}
+
+/// Of some numbers and their phases, those that were met less often than this.
+pub fn rare_numbers(
+    numbers: &Numbers,
+    possible: &[(Option<Phase>, u64)],
+    least: u64,
+) -> Vec<(Option<Phase>, u64)> {
     let seen = |number| numbers.get(number).copied().unwrap_or(0);
     possible.iter().filter(|number| seen(number) < least).copied().collect()
 }
@@ -232,27 +249,36 @@ mod tests {
     #[test]
     fn a_start_has_its_kind() {
         let mut table = growing();
-        let moves = |start, before| Some(Kind { start, before, met: Met::Item });
+        let phase = Phase::Growing;
+        let moves = |start, before| Some(Kind { phase, start, before, met: Met::Item });
         assert_eq!(kind_of(&table, Start::First, 0), moves(Start::First, Before::Nothing));
         assert_eq!(kind_of(&table, Start::Within, 3), moves(Start::Within, Before::SomeWithPlace));
-        let past = |before| Some(Kind { start: Start::Size, before, met: Met::Nothing });
+        let past = |before| Some(Kind { phase, start: Start::Size, before, met: Met::Nothing });
         assert_eq!(kind_of(&table, Start::Size, 4), past(Before::SomeWithPlace));
         (0..16).for_each(|_| change(&mut table, Event::Step));
         assert_eq!(kind_of(&table, Start::Size, 4), past(Before::Nothing));
         change(&mut table, Event::End);
         assert_eq!(kind_of(&table, Start::Size, 4), None);
+        change(&mut table, Event::Shrink);
+        let shrinks =
+            Kind { phase: Phase::Shrinking, start: Start::First, before: Before::Nothing, met: Met::Item };
+        assert_eq!(kind_of(&table, Start::First, 0), Some(shrinks));
     }
 
     #[test]
     fn what_was_seldom_seen_is_told() {
         let mut tally = StartTally::default();
-        let kind = Kind { start: Start::Told, before: Before::OnlyStuck, met: Met::Nothing };
+        let (start, before, met) = (Start::Told, Before::OnlyStuck, Met::Nothing);
+        let kind = Kind { phase: Phase::Shrinking, start, before, met };
         tally.count(Some(kind));
         tally.count(None);
-        assert_eq!((tally.rare(1).len(), tally.rare(1).contains(&kind)), (26, false));
-        assert_eq!(tally.rare(2).len(), 27);
+        assert_eq!((tally.rare(1).len(), tally.rare(1).contains(&kind)), (2 * 27 - 1, false));
+        assert_eq!(tally.rare(2).len(), 2 * 27);
         let mut numbers = Numbers::default();
-        [6, 11, 11].into_iter().for_each(|number| count_number(&mut numbers, number));
-        assert_eq!(rare_numbers(&numbers, &[0, 6, 11], 2), [0, 6]);
+        let table = growing();
+        [6, 11, 11].into_iter().for_each(|number| count_number(&mut numbers, &table, number));
+        let rare = rare_numbers(&numbers, &while_resizing(&[0, 6, 11]), 2);
+        let (growing, shrinking) = (Some(Phase::Growing), Some(Phase::Shrinking));
+        assert_eq!(rare, [(growing, 0), (growing, 6), (shrinking, 0), (shrinking, 6), (shrinking, 11)]);
     }
 }

@@ -1,11 +1,11 @@
-//! Interim items that are stuck: those that have no place. A growth step takes the first that has one, by request b) of document 02.
+//! Interim items that are stuck: those that have no place. A step takes the first that has one, by request b) of document 02.
 
 use std::collections::BTreeMap;
 use std::fmt::{self, Display};
 
 use ragansils_model::{Event, Slot, Table, LEAST_LIST_WORDS, SLOTS_PER_BUCKET, SUCCESS};
 
-/// What a growth step meets in an interim level that is not empty.
+/// What a step meets in an interim level that is not empty.
 #[derive(Clone, Copy, Debug, PartialEq, Eq, PartialOrd, Ord)]
 pub enum Kind {
     Takes {
@@ -152,7 +152,7 @@ fn insert_of(words: &[u64], table: &Table, item: Slot) -> (u64, Vec<u64>) {
     (number, list)
 }
 
-/// What a run has seen of growth steps.
+/// What a run has seen of steps.
 #[derive(Default)]
 pub struct StepTally {
     pub kinds: BTreeMap<Kind, u64>,
@@ -177,7 +177,8 @@ impl StepTally {
     }
 }
 
-fn passed(stuck: &[Slot], taken: Slot) -> Passed {
+/// How the stuck items before the one taken lie.
+pub fn passed(stuck: &[Slot], taken: Slot) -> Passed {
     let stuck_in = |bucket| stuck.iter().filter(|item| item.bucket == bucket).count();
     // Each whole bucket has one last slot.
     let ends_whole_bucket =

@@ -3,11 +3,14 @@
 use std::collections::BTreeMap;
 use std::fmt::Display;
 
+use ragansils::Phase;
+
 use crate::case::{Case, Outcome};
 use crate::chain_tally::ChainTally;
 use crate::ledger_tally::LedgerTally;
+use crate::phases::PhaseTally;
 use crate::say;
-use crate::starts::StartTally;
+use crate::starts::{Numbers, StartTally};
 use crate::stuck_items::StepTally;
 use crate::told_slots::LevelTally;
 
@@ -24,8 +27,14 @@ pub struct Tally {
     pub levels: LevelTally,
     pub chains_of_sound_tables: ChainTally,
     pub chains_of_other_words: ChainTally,
-    pub steps_of_sound_tables: StepTally,
+    /// Those of sound tables.
+    pub steps_of_growths: StepTally,
+    pub steps_of_shrinks: StepTally,
     pub steps_of_other_words: StepTally,
+    /// Of the tables that cuts leave, too.
+    pub phases_of_sound_tables: PhaseTally,
+    pub phases_of_other_words: PhaseTally,
+    pub phases_of_scripts: PhaseTally,
     pub starts: StartTally,
     pub ledgers: LedgerTally,
     pub total_calls: u64,
@@ -76,7 +85,11 @@ impl Tally {
         print_counts("recoveries by kind", &self.recoveries);
         print_counts("bad lines by kind", &self.bad_lines);
         print_counts("keys found by queries, by level", &self.levels.found);
-        print_counts("steps of sound tables", &self.steps_of_sound_tables.kinds);
+        print_phases("met by sound tables", &self.phases_of_sound_tables);
+        print_phases("met by other words", &self.phases_of_other_words);
+        print_phases("met by scripts", &self.phases_of_scripts);
+        print_counts("steps of growths", &self.steps_of_growths.kinds);
+        print_counts("steps of shrinks", &self.steps_of_shrinks.kinds);
         print_counts("steps of other words", &self.steps_of_other_words.kinds);
         self.print_starts();
         self.print_chains();
@@ -86,9 +99,9 @@ impl Tally {
     fn print_starts(&self) {
         let starts = &self.starts;
         print_counts("steps from a start, of sound tables", &starts.kinds);
-        print_counts("their numbers on cut tables", &starts.of_cut_tables);
-        print_counts("on recovered tables", &starts.of_recovered_tables);
-        print_counts("on other words", &starts.of_other_words);
+        print_counts("their numbers on cut tables", &by_phase(&starts.of_cut_tables));
+        print_counts("on recovered tables", &by_phase(&starts.of_recovered_tables));
+        print_counts("on other words", &by_phase(&starts.of_other_words));
         if starts.passes > 0 {
             say!(
                 "passes that go on from the bucket told: {}, of {} steps; moves by steps from a later start: {}",
@@ -109,6 +122,20 @@ impl Tally {
             );
         }
     }
+}
+
+/// One line for each phase.
+fn print_phases(title: &str, tally: &PhaseTally) {
+    for phase in Phase::ALL {
+        let of_phase = tally.met.iter().filter(|((met_in, _), _)| *met_in == phase);
+        let counts: Counts = of_phase.map(|((_, what), &count)| (what.clone(), count)).collect();
+        print_counts(&format!("{title}, {phase}"), &counts);
+    }
+}
+
+fn by_phase(numbers: &Numbers) -> Counts {
+    let name = |phase: &Option<Phase>| phase.map_or("no table".to_string(), |phase| phase.to_string());
+    numbers.iter().map(|((phase, number), &count)| (format!("{number} {}", name(phase)), count)).collect()
 }
 
 fn recovery_kind(number: u64, stores: u64) -> &'static str {

@@ -11,7 +11,7 @@ const HEADER_WORDS: usize = 9;
 const BUCKET_WORDS: usize = 13;
 const SLOT_WORDS: usize = 3;
 const SLOTS: usize = 4;
-/// "state: k + 256·phase"; a table grows in phase 1.
+/// "state: k + 256·phase"; a table grows in phase 1 and shrinks in phase 2.
 const PHASE_UNIT: u64 = 256;
 
 /// The level in which a query found its key; none with a refusal. Or says what is wrong with where it tells the key to stand.
@@ -57,17 +57,27 @@ fn bucket_and_offset(word: usize) -> Option<(usize, usize)> {
     Some((behind_header / BUCKET_WORDS, behind_header % BUCKET_WORDS))
 }
 
-/// "A level of M buckets is always buckets M - 1 to 2M - 2. The top has 2^k buckets, the bottom half that; while growing, an interim level
-/// has a quarter."
+/// "A level of M buckets is always buckets M - 1 to 2M - 2."
 fn is_in_level(table: &[u64], word: u64, level: Level) -> bool {
-    let (k, phase) = (table[STATE] % PHASE_UNIT, table[STATE] / PHASE_UNIT);
-    let in_use = if phase == 1 { 3 } else { 2 };
-    if level.number() >= in_use {
-        return false;
-    }
-    let buckets = 1 << (k - level.number());
+    let buckets = match buckets_of(table[STATE], level) {
+        Some(buckets) => buckets,
+        None => return false,
+    };
     let bucket = bucket_and_offset(word as usize).map(|(bucket, _)| bucket);
     bucket.map_or(false, |bucket| (buckets - 1..2 * buckets - 1).contains(&bucket))
+}
+
+/// "The top has 2^k buckets, the bottom half that; while growing, an interim level has a quarter." In a shrink "the old top becomes the
+/// interim level, the old bottom the top", so that it has twice as many as the top. None where the level is not in use.
+fn buckets_of(state: u64, level: Level) -> Option<usize> {
+    let (top, phase) = (1 << (state % PHASE_UNIT), state / PHASE_UNIT);
+    match (level, phase) {
+        (Level::Top, _) => Some(top),
+        (Level::Bottom, _) => Some(top / 2),
+        (Level::Interim, 1) => Some(top / 4),
+        (Level::Interim, 2) => Some(2 * top),
+        (Level::Interim, _) => None,
+    }
 }
 
 /// In which levels queries found their keys.
@@ -92,7 +102,8 @@ impl LevelTally {
 #[cfg(test)]
 mod tests {
     use super::*;
-    use crate::test_table::{change, table_of};
+    use crate::history::{Setting, MARKED_1};
+    use crate::test_table::{change, table_after, table_of};
     use ragansils_model::Event;
 
     /// Keys 1, 3, 5 and 7 in bucket 2, which is of the top; 9 and 11 in bucket 0, the bottom.
@@ -112,6 +123,22 @@ mod tests {
         change(&mut table, Event::Begin);
         assert_eq!(told(&table, 3, 39, 1), Ok(Some(Level::Bottom)));
         assert_eq!(told(&table, 11, 13, 2), Ok(Some(Level::Interim)));
+        change(&mut table, Event::Back);
+        assert_eq!(told(&table, 3, 39, 0), Ok(Some(Level::Top)));
+        assert_eq!(told(&table, 11, 13, 1), Ok(Some(Level::Bottom)));
+    }
+
+    /// The interim level of a shrink is the largest: buckets 3 to 6, of which the last has words 87 to 99.
+    #[test]
+    fn a_slot_of_a_shrinking_table_is_told() {
+        let setting = Setting { c: 2, k: 2, mul1: MARKED_1, mul2: MARKED_1 };
+        let insert = Event::Insert { key: 3, function: 103, place: 203 };
+        let table = table_after(setting, [insert, Event::Shrink]);
+        assert_eq!(told(&table, 3, 88, 2), Ok(Some(Level::Interim)));
+        assert!(told(&table, 3, 88, 0).is_err() && told(&table, 3, 88, 1).is_err());
+        let at_rest = table_after(setting, [insert]);
+        assert_eq!(told(&at_rest, 3, 88, 0), Ok(Some(Level::Top)));
+        assert!(told(&at_rest, 3, 88, 2).is_err());
     }
 
     #[test]

@@ -22,14 +22,18 @@ pub fn wild_calls(random: &mut Random, both: &mut Both) -> Result<(), Finding> {
         Call::Change(Event::Update { key, function, place }),
         Call::Change(Event::Delete { key }),
         Call::Change(Event::Begin),
+        Call::Change(Event::Shrink),
+        Call::Change(Event::Back),
         Call::Change(Event::Step),
         Call::Change(Event::End),
         Call::Change(Event::Recover),
     ]);
-    both.run(&Case { call, table, list: any_list(random) })?;
+    let case = Case { call, table, list: any_list(random) };
+    let outcome = both.run(&case)?;
+    both.tally.phases_of_other_words.count_case(&case, &outcome);
     let step = wild_step(random);
     let number = both.run(&step)?.number;
-    count_number(&mut both.tally.starts.of_other_words, number);
+    count_number(&mut both.tally.starts.of_other_words, &step.table, number);
     let chain = wild_chain(random);
     let number = both.run(&chain)?.number;
     both.tally.chains_of_other_words.count(&chain, number);
@@ -104,7 +108,7 @@ fn wild_table(random: &mut Random) -> Vec<u64> {
     let right = table_words(c).unwrap_or(0);
     let length = if random.one_in(4) { nearby_length(random, right) } else { right };
     let mut table = random.words(length);
-    let state = 1 + random.below(c) + 256 * random.below(2);
+    let state = 1 + random.below(c) + 256 * random.below(3);
     let header = [1, c, random.word() | 1, random.word() | 1, state, 0];
     for (table_word, good) in table.iter_mut().zip(header) {
         if !random.one_in(20) {

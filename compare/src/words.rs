@@ -1,21 +1,23 @@
 //! The run over raw words: histories of sound tables with every cut, damaged
 //! tables, and wild arguments.
 
+use ragansils::Phase;
 use ragansils_model::{table_words, Event, Table, LEAST_LIST_WORDS, SUCCESS};
 
 use crate::both::{Both, Finding};
-use crate::case::{is_growing, Call, Case};
+use crate::case::{is_resizing, phase_of, Call, Case};
 use crate::chain::{key_of, Chain};
 use crate::damage;
-use crate::going_on::{try_made_tables, try_pass, try_starts, try_starts_after_a_cut, Sound};
+use crate::going_on::{made_by_model, try_made_tables, try_pass, try_starts, try_starts_after_a_cut, Sound};
 use crate::history::{next_event, Keys, Mood, Setting};
-use crate::plain_map::PlainMap;
+use crate::plain_map::{self, PlainMap};
 use crate::random::Random;
 use crate::random_chains::{chain_near, chains_of_history, lent_words, longest_chain};
 use crate::sound_tables::{check_chain, check_change, check_query, Changed, Depth};
 use crate::starts::{any_start, count_number};
-use crate::stuck_items::{step_by_inserts, Kind};
-use crate::stuck_tables::{history_to, kinds_before};
+use crate::stuck_items::{step_by_inserts, Kind, KINDS};
+use crate::stuck_shrinks;
+use crate::stuck_tables::{self, kinds_before};
 use crate::wild::{any_list, wild_calls};
 
 /// At this capacity a single cut costs as much as a small history.
@@ -29,10 +31,20 @@ const EVENTS_OF_LONGEST_CHAIN: u64 = 20;
 
 /// A run begins with so many tables made for each kind of step: few histories would not meet every kind of start.
 const FIRST_TABLES_OF_EACH_KIND: u64 = 10;
+/// The same in a shrink, which has more steps.
+const FIRST_SHRINKS_OF_EACH_KIND: u64 = 4;
 
-/// One event in so many is followed by steps from every start, or by a pass, of tables that grow.
+/// One event in so many is followed by steps from every start, or by a pass, of tables that grow or shrink.
 const STARTS_ONE_IN: u64 = 8;
 const PASS_ONE_IN: u64 = 20;
+
+/// One history in so many, the first among them, comes with shrinks: one for each kind of step, and as many that have room.
+const SHRINKS_ONE_IN: u64 = 8;
+/// The most events of a table that shrinks to its least size.
+const EVENTS_OF_WHOLE_SHRINKS: u64 = 60;
+
+/// So many keys are put in while a stuck shrink is under way, and as many once it has turned back.
+const INSERTS_OF_STUCK_SHRINKS: u64 = 6;
 
 /// So often room is made for stuck items.
 const ROOM_MADE: u64 = 3;
@@ -42,7 +54,8 @@ const EVENTS_OF_STUCK_ITEMS: u64 = 5;
 pub fn run(seed: u64, calls: u64, both: &mut Both) -> Result<(), Finding> {
     let mut random = Random::new(seed);
     let enough = both.tally.total_calls + calls;
-    try_made_tables(&mut random, both, FIRST_TABLES_OF_EACH_KIND)?;
+    try_made_tables(&mut random, both, stuck_tables::history_to, FIRST_TABLES_OF_EACH_KIND)?;
+    try_made_tables(&mut random, both, stuck_shrinks::history_to, FIRST_SHRINKS_OF_EACH_KIND)?;
     for number in 0.. {
         if both.tally.total_calls >= enough {
             break;
@@ -52,6 +65,12 @@ pub fn run(seed: u64, calls: u64, both: &mut Both) -> Result<(), Finding> {
         }
         for kind in kinds_before(number) {
             history_of_stuck_items(&mut random, both, kind, enough)?;
+        }
+        if number % SHRINKS_ONE_IN == 0 {
+            for kind in KINDS {
+                history_of_stuck_shrink(&mut random, both, kind, enough)?;
+                history_of_whole_shrinks(&mut random, both)?;
+            }
         }
         let setting = Setting::random(&mut random);
         let chains = chains_of_history(&mut random, setting);
@@ -72,11 +91,13 @@ fn history_of_longest_chain(random: &mut Random, both: &mut Both, enough_calls: 
     let mut history = History::start(random, setting, vec![chain], both)?;
     history.put_chain(both, chain)?;
     history.change(both, Event::Begin, Depth::WholeOnly)?;
-    history.finish_growth(both)?;
+    history.finish_resizing(both)?;
     // So often that it is lent enough words at least once.
     for _ in 0..10 {
         history.ask_for(both, chain)?;
     }
+    history.change(both, Event::Shrink, Depth::WholeOnly)?;
+    history.finish_resizing(both)?;
     history.ask_for_broken(both, chain)?;
     history.play(both, EVENTS_OF_LONGEST_CHAIN, enough_calls)
 }
@@ -88,7 +109,7 @@ fn history_of_stuck_items(
     kind: Kind,
     enough_calls: u64,
 ) -> Result<(), Finding> {
-    let (setting, events) = history_to(random, kind);
+    let (setting, events) = stuck_tables::history_to(random, kind);
     let chains = chains_of_history(random, setting);
     let mut history = History::start(random, setting, chains, both)?;
     for event in events {
@@ -102,6 +123,64 @@ fn history_of_stuck_items(
         history.step_past_stuck_items(both)?;
     }
     history.play(both, EVENTS_OF_STUCK_ITEMS, enough_calls)
+}
+
+/// The table shrinks as far as it can, past its stuck items, is turned back and grows as far as it can. The model fills it before, so that
+/// this costs few calls.
+fn history_of_stuck_shrink(
+    random: &mut Random,
+    both: &mut Both,
+    kind: Kind,
+    enough_calls: u64,
+) -> Result<(), Finding> {
+    let (setting, events) = stuck_shrinks::history_to(random, kind);
+    let chains = chains_of_history(random, setting);
+    let at_rest = events.iter().take_while(|event| **event != Event::Shrink).count();
+    let table = made_by_model(setting, &events[..at_rest]);
+    let mut history = History::from_table(random, setting, chains, table);
+    for &event in &events[at_rest..] {
+        history.change(both, event, Depth::WholeOnly)?;
+    }
+    history.go_on(both)?;
+    history.change(both, Event::Step, Depth::EveryCut)?;
+    history.insert_and_update(both)?;
+    history.step_past_stuck_items(both)?;
+    history.change(both, Event::Back, Depth::EveryCut)?;
+    history.go_on(both)?;
+    history.insert_and_update(both)?;
+    history.step_past_stuck_items(both)?;
+    history.finish_resizing(both)?;
+    history.play(both, EVENTS_OF_STUCK_ITEMS, enough_calls)
+}
+
+/// A small table with few items shrinks to its least size, with other events between.
+fn history_of_whole_shrinks(random: &mut Random, both: &mut Both) -> Result<(), Finding> {
+    let c = 2 + random.below(2);
+    let setting = Setting { k: c, ..Setting::of_capacity(random, c) };
+    let chains = chains_of_history(random, setting);
+    let mut history = History::start(random, setting, chains, both)?;
+    for _ in 0..setting.most_items() / 4 {
+        let key = history.keys.pick(&mut history.random);
+        let (function, place) = (history.random.any_word(), history.random.any_word());
+        history.change(both, Event::Insert { key, function, place }, Depth::WholeOnly)?;
+    }
+    // It is as large as it can be.
+    history.change(both, Event::Begin, Depth::WholeOnly)?;
+    for _ in 0..EVENTS_OF_WHOLE_SHRINKS {
+        let event = history.next_of_whole_shrink();
+        history.change(both, event, Depth::EveryCut)?;
+        match (history.last_number, history.random.below(6)) {
+            (17, _) => break,
+            (11, _) => history.try_starts(both)?,
+            (_, 0) => history.one_event(both)?,
+            (_, 1) => history.change(both, Event::Begin, Depth::EveryCut)?,
+            (_, 2) => history.change(both, Event::Shrink, Depth::EveryCut)?,
+            (_, 3 | 4) => history.update_some_item(both)?,
+            _ => {}
+        }
+        history.some_queries(both)?;
+    }
+    Ok(())
 }
 
 /// A sound table in the middle of its life, with the plain map beside it.
@@ -130,21 +209,17 @@ impl History {
         let garbage = random.words(table_words(c).unwrap_or(0));
         let case = Case { call: Call::Create { c, k, mul1, mul2 }, table: garbage, list: vec![] };
         let table = both.run(&case)?.table;
+        Ok(History::from_table(random, setting, chains, table))
+    }
+
+    /// On from a sound table.
+    fn from_table(random: &mut Random, setting: Setting, chains: Vec<Chain>, table: Vec<u64>) -> History {
         let mut keys = Keys::random(random, setting);
         keys.add(chains.iter().flat_map(|chain| chain.keys()));
         let mut random = Random::new(random.word());
         let mood = Mood::random(&mut random);
-        Ok(History {
-            random,
-            setting,
-            keys,
-            chains,
-            mood,
-            table,
-            map: PlainMap::new(),
-            last_number: 0,
-            told: 0,
-        })
+        let map = plain_map::of_table(&table).unwrap_or_default();
+        History { random, setting, keys, chains, mood, table, map, last_number: 0, told: 0 }
     }
 
     fn play(&mut self, both: &mut Both, events: u64, enough_calls: u64) -> Result<(), Finding> {
@@ -181,7 +256,37 @@ impl History {
         next_event(&mut self.random, &self.table, &self.keys, self.mood, self.last_number)
     }
 
-    /// Mostly from the bucket told, as a growth goes on.
+    /// At rest some that are refused, too.
+    fn next_of_whole_shrink(&mut self) -> Event {
+        match (phase_of(&self.table), self.last_number) {
+            (Some(Phase::AtRest), _) => {
+                let events =
+                    [Event::Shrink, Event::Shrink, Event::Shrink, Event::Back, Event::Step, Event::End];
+                self.random.pick(&events)
+            }
+            (_, 11) => Event::End,
+            (_, 6) => Event::Back,
+            _ => Event::Step,
+        }
+    }
+
+    /// Some inserts, which need a move where there is little room, and updates.
+    fn insert_and_update(&mut self, both: &mut Both) -> Result<(), Finding> {
+        for _ in 0..INSERTS_OF_STUCK_SHRINKS {
+            let (key, function, place) = (self.random.word(), self.random.any_word(), self.random.any_word());
+            self.change(both, Event::Insert { key, function, place }, Depth::WholeOnly)?;
+        }
+        self.update_some_item(both)?;
+        self.update_some_item(both)
+    }
+
+    fn update_some_item(&mut self, both: &mut Both) -> Result<(), Finding> {
+        let key = self.keys.pick_likely(&mut self.random, &self.table);
+        let (function, place) = (self.random.any_word(), self.random.any_word());
+        self.change(both, Event::Update { key, function, place }, Depth::EveryCut)
+    }
+
+    /// Mostly from the bucket told, as growth and shrinks go on.
     fn next_step_from(&mut self) -> Event {
         let from = if self.random.one_in(4) { any_start(&mut self.random, &self.table) } else { self.told };
         Event::StepFrom { from }
@@ -216,7 +321,7 @@ impl History {
         Ok(())
     }
 
-    /// Where the table grows: now and then from every start, and on from each bucket told.
+    /// Where the table is not at rest: now and then from every start, and on from each bucket told.
     fn some_starts(&mut self, both: &mut Both) -> Result<(), Finding> {
         if self.random.one_in(STARTS_ONE_IN) {
             self.try_starts(both)?;
@@ -292,7 +397,10 @@ impl History {
             let insert = Event::Insert { key, function, place };
             self.change(both, insert, Depth::WholeOnly)?;
             if self.last_number == 6 {
-                self.finish_growth(both)?;
+                if phase_of(&self.table) == Some(Phase::Shrinking) {
+                    self.change(both, Event::Back, Depth::WholeOnly)?;
+                }
+                self.finish_resizing(both)?;
                 self.change(both, Event::Begin, Depth::WholeOnly)?;
                 self.change(both, insert, Depth::WholeOnly)?;
             }
@@ -306,14 +414,18 @@ impl History {
         self.ask_for(both, chain)
     }
 
-    /// Steps to the end of a growth, as far as there is room; chains are asked for on the way.
-    fn finish_growth(&mut self, both: &mut Both) -> Result<(), Finding> {
-        while is_growing(&self.table) {
+    /// Steps to the end of a growth or a shrink, as far as there is room; a stuck shrink turns back. Chains are asked for on the way.
+    fn finish_resizing(&mut self, both: &mut Both) -> Result<(), Finding> {
+        while is_resizing(&self.table) {
             self.change(both, Event::Step, Depth::WholeOnly)?;
-            if self.last_number == 11 {
-                self.change(both, Event::End, Depth::WholeOnly)?;
-            } else if self.last_number != 0 {
-                break;
+            let next = match (self.last_number, phase_of(&self.table)) {
+                (SUCCESS, _) => None,
+                (11, _) => Some(Event::End),
+                (_, Some(Phase::Shrinking)) => Some(Event::Back),
+                _ => break,
+            };
+            if let Some(event) = next {
+                self.change(both, event, Depth::WholeOnly)?;
             }
             if self.random.one_in(6) {
                 let chain = self.random.pick(&self.chains);
@@ -368,11 +480,12 @@ impl History {
             let case = Case { call, table: table.clone(), list };
             let outcome = both.run(&case)?;
             both.tally.chains_of_other_words.count(&case, outcome.number);
+            both.tally.phases_of_other_words.count_case(&case, &outcome);
             if call == Call::Change(Event::Step) && [SUCCESS, 6].contains(&outcome.number) {
                 step_by_inserts(&table).iter().for_each(|step| both.tally.steps_of_other_words.count(step));
             }
             if matches!(call, Call::Change(Event::StepFrom { .. })) {
-                count_number(&mut both.tally.starts.of_other_words, outcome.number);
+                count_number(&mut both.tally.starts.of_other_words, &table, outcome.number);
             }
             let listed = matches!(call, Call::Change(_)) && outcome.number == 0;
             if listed && self.random.one_in(4) {
@@ -399,6 +512,8 @@ impl History {
             Event::Update { key: key(), function, place },
             Event::Delete { key: key() },
             Event::Begin,
+            Event::Shrink,
+            Event::Back,
             Event::Step,
             Event::StepFrom { from },
             Event::StepFrom { from: also_from },
