@@ -107,7 +107,10 @@ impl Filled<'_> {
 
     /// Brings the level tables into the middle of a growth.
     pub fn grow_half_way(&mut self) -> Result<(), String> {
-        self.peers.iter_mut().filter_map(|peer| peer.words()).try_for_each(|words| half_way(words))
+        self.peers
+            .iter_mut()
+            .filter_map(|peer| peer.words())
+            .try_for_each(|words| half_way(words, Event::Begin))
     }
 
     fn name(&self, operation: Operation) -> String {

@@ -84,10 +84,10 @@ fn probes(counts: &Counts) -> String {
             format!("{when}: {:.2} and {:.2}", probes.positive, probes.negative)
         })
     };
-    let [half, high, growing] = ["load 0.5", "load 0.8", "growing"].map(one);
+    let [half, high, growing, shrinking] = ["load 0.5", "load 0.8", "growing", "shrinking"].map(one);
     format!(
-        "On average, positive and negative, {half}; {high}; while growing six may be asked, {growing} \
-         (most: {:.2} and {:.2})",
+        "On average, positive and negative, {half}; {high}; while growing and shrinking six may be asked, {growing}; \
+         {shrinking} (most: {:.2} and {:.2})",
         most.0, most.1
     )
 }

@@ -6,13 +6,15 @@ use crate::fillings::Fillings;
 use crate::growths::{growths, Growth};
 use crate::keys::Kind;
 use crate::plan::CountPlan;
-use crate::probes::{probes, Probes};
+use crate::probes::{probes, shrinking, Probes};
+use crate::shrinks::{Shrinks, SHRINK_LOADS};
 
 #[derive(Default)]
 pub struct Counts {
     pub fillings: Vec<Fillings>,
     pub growths: Vec<(Kind, Vec<Growth>)>,
     pub probes: Vec<Probes>,
+    pub shrinks: Vec<Shrinks>,
 }
 
 impl Counts {
@@ -35,7 +37,30 @@ impl Counts {
                 counts.probes.extend(probes(&mut random, c, kind, plan.queries)?);
             }
         }
+        // Last, so that the counts above are those of before there were shrinks.
+        counts.count_shrinks(&mut random, plan, &say)?;
         Ok(counts)
+    }
+
+    fn count_shrinks(
+        &mut self,
+        random: &mut Random,
+        plan: &CountPlan,
+        say: impl Fn(&str),
+    ) -> Result<(), String> {
+        for kind in [Kind::Random, Kind::Collector] {
+            say(&format!("shrinks, {}", kind.name()));
+            for (&k, load) in plan.shrunk.iter().flat_map(|k| SHRINK_LOADS.map(|load| (k, load))) {
+                self.shrinks.push(Shrinks::count(random, kind, k, load, plan.shrinks)?);
+            }
+        }
+        for &c in plan.capacities {
+            self.probes.push(shrinking(random, c, Kind::Random, plan.queries)?);
+        }
+        for &c in plan.collector_capacities {
+            self.probes.push(shrinking(random, c, Kind::Collector, plan.queries)?);
+        }
+        Ok(())
     }
 
     /// The fillings with random keys, by k.

@@ -12,7 +12,7 @@ use crate::stores::Stores;
 /// A table's top has 2^k buckets for this k before its first growth.
 const FIRST_K: u64 = 4;
 /// Stores of a step that moved another item.
-const MOVING_STEP: usize = 10;
+pub const MOVING_STEP: usize = 10;
 
 /// One growth, begun where an insert was refused.
 pub struct Growth {
@@ -82,7 +82,7 @@ fn grow(table: &mut LevelTable<Proved>, k: u64, items: u64) -> Result<Growth, St
 }
 
 /// Makes a change and counts it, or answers the number with which it was refused.
-fn change(table: &mut LevelTable<Proved>, event: Event, stores: &mut Stores) -> Result<(), u64> {
+pub fn change(table: &mut LevelTable<Proved>, event: Event, stores: &mut Stores) -> Result<(), u64> {
     match table.side.change(&mut table.words, event) {
         SUCCESS => stores.count(&table.side),
         number => return Err(number),

@@ -4,16 +4,16 @@
 //!
 //! From the bottom up:
 //! - `middle`: what is said of many numbers; `markdown`: how tables are written;
-//! - `keys`, `level`, `growing`: the keys, the tables that take them, and tables in a growth;
+//! - `keys`, `level`, `half_way`: the keys, the tables that take them, and tables in a growth or a shrink;
 //! - `plan`: how much is counted;
-//! - `stores`: the stores of calls; `fillings`, `growths`, `probes`: what is counted;
+//! - `stores`: the stores of calls; `fillings`, `growths`, `shrinks`, `probes`: what is counted;
 //! - `counts`: all of it; `article`, `sections`: what is written of it.
 
 mod article;
 mod counts;
 mod fillings;
-mod growing;
 mod growths;
+mod half_way;
 mod keys;
 mod level;
 pub mod markdown;
@@ -21,14 +21,16 @@ mod middle;
 pub mod plan;
 mod probes;
 mod sections;
+mod shrinks;
 mod stores;
 
 pub use counts::Counts;
 pub use fillings::{Bin, Fillings, BINS};
-pub use growing::{half_way, last_growth};
 pub use growths::Growth;
+pub use half_way::{half_way, last_growth};
 pub use keys::{draw, sampled_addresses, shuffle, Keys, Kind};
 pub use level::{full_size, items_at, record_of, slots_of, LevelTable, Record};
 pub use middle::Middle;
 pub use probes::Probes;
+pub use shrinks::{Shrinks, SHRINK_LOADS};
 pub use stores::Stores;

@@ -5,12 +5,18 @@ pub const LOADS: [f64; 2] = [0.5, HIGH_LOAD];
 /// The load at which tables are recovered and grow, too.
 pub const HIGH_LOAD: f64 = 0.8;
 
+/// The load at which tables shrink where queries are looked at: about that of the article's shrinks, which is 0.3.
+pub const SHRINKING_LOAD: f64 = 0.4;
+
 pub struct CountPlan {
     /// The k of tables that are filled until the first refusal 6, and how many of each.
     pub filled: &'static [u64],
     pub fillings: usize,
     /// The capacity up to which tables grow again and again.
     pub grown_again: u64,
+    /// The k of tables that shrink at each load, and how many of each.
+    pub shrunk: &'static [u64],
+    pub shrinks: u64,
     /// The capacities of tables whose queries are counted; host/bench measures everything at these.
     pub capacities: &'static [u64],
     /// Those at which the keys of a collector are tried too.
@@ -23,6 +29,8 @@ pub const FULL: CountPlan = CountPlan {
     filled: &[4, 6, 8, 10, 12, 14, 16, 18],
     fillings: 20,
     grown_again: 15,
+    shrunk: &[4, 6, 8, 10, 12, 14, 16],
+    shrinks: 100,
     capacities: &[8, 14, 18, 20],
     collector_capacities: &[14, 18],
     queries: 40_000,
@@ -32,6 +40,8 @@ pub const QUICK: CountPlan = CountPlan {
     filled: &[4, 8, 12],
     fillings: 3,
     grown_again: 10,
+    shrunk: &[4, 8, 11],
+    shrinks: 20,
     capacities: &[8, 14],
     collector_capacities: &[14],
     queries: 10_000,

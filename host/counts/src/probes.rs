@@ -2,12 +2,13 @@
 
 use ragansils::Creation;
 use ragansils_compare::random::Random;
+use ragansils_model::Event;
 use ragansils_twin::{Proved, Side};
 
-use crate::growing::{half_way, last_growth};
+use crate::half_way::{half_way, last_growth};
 use crate::keys::{Keys, Kind};
 use crate::level::{full_size, items_at, LevelTable};
-use crate::plan::{HIGH_LOAD, LOADS};
+use crate::plan::{HIGH_LOAD, LOADS, SHRINKING_LOAD};
 
 /// Buckets that a query looks at on average.
 pub struct Probes {
@@ -39,8 +40,17 @@ fn growing(random: &mut Random, c: u64, kind: Kind, queries: usize) -> Result<Pr
     let creation = last_growth(full_size(random, c));
     let mut filled = Filled::empty(random, creation, kind, queries);
     filled.fill(HIGH_LOAD)?;
-    half_way(&mut filled.table.words)?;
+    half_way(&mut filled.table.words, Event::Begin)?;
     filled.probes(random, "growing")
+}
+
+/// The same in the middle of a shrink.
+pub fn shrinking(random: &mut Random, c: u64, kind: Kind, queries: usize) -> Result<Probes, String> {
+    let creation = full_size(random, c);
+    let mut filled = Filled::empty(random, creation, kind, queries);
+    filled.fill(SHRINKING_LOAD)?;
+    half_way(&mut filled.table.words, Event::Shrink)?;
+    filled.probes(random, "shrinking")
 }
 
 /// A table that holds the first so many of some keys.
@@ -114,6 +124,14 @@ mod tests {
             assert!(1.0 <= probes.positive && probes.positive < probes.negative && probes.negative <= most);
         }
         assert!(all[0].positive < all[1].positive && all[1].negative < all[2].negative);
+    }
+
+    #[test]
+    fn at_most_six_buckets_while_shrinking() {
+        let probes = shrinking(&mut Random::new(1), 6, Kind::Random, 500).unwrap();
+        assert_eq!(probes.when, "c = 6, shrinking, random keys");
+        assert!(1.0 <= probes.positive && probes.positive < probes.negative && probes.negative <= 6.0);
+        assert!(probes.negative > 4.0);
     }
 
     #[test]

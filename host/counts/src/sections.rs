@@ -6,13 +6,21 @@ use crate::fillings::Bin;
 use crate::growths::Growth;
 use crate::keys::Kind;
 use crate::markdown::{heads, table};
+use crate::shrinks::Shrinks;
 use crate::stores::Stores;
 
 impl Counts {
     /// All sections.
     pub fn sections(&self) -> String {
-        [article::claims(self), filling_table(self), probe_table(self), growth_table(self), store_table(self)]
-            .join("\n")
+        [
+            article::claims(self),
+            filling_table(self),
+            probe_table(self),
+            growth_table(self),
+            shrink_table(self),
+            store_table(self),
+        ]
+        .join("\n")
     }
 }
 
@@ -72,15 +80,55 @@ fn growth_table(counts: &Counts) -> String {
     table("### Growths, each begun at the first refusal 6", &heads(&names), rows)
 }
 
+fn shrink_table(counts: &Counts) -> String {
+    let rows = counts.shrinks.iter().map(|shrinks| {
+        vec![
+            shrinks.kind.name().to_string(),
+            shrinks.k.to_string(),
+            shrinks.load.to_string(),
+            shrinks.tables().to_string(),
+            shrinks.items.to_string(),
+            format!("{:.1}", shrinks.moved()),
+            format!("**{:.3}**", shrinks.moved() / shrinks.items as f64),
+            format!("{:.2} %", 100.0 * shrinks.moving_share()),
+            format!("{:.2}", shrinks.stores_for_each_bucket()),
+            format!("{:.3}", shrinks.load_after()),
+            format!("**{} of {}**", shrinks.stuck, shrinks.tables()),
+            format!("{} of {}", shrinks.grown_again, shrinks.stuck),
+        ]
+    });
+    let names = [
+        "keys",
+        "k",
+        "load",
+        "tables",
+        "items",
+        "moved",
+        "share",
+        "steps that moved another",
+        "stores for each of N",
+        "load after",
+        "stuck",
+        "turned back to the end",
+    ];
+    let title = "### Shrinks\n\nFrom N = 2^k top buckets. A shrink that is stuck turns back, and grows as far as it can. What is moved \
+        and stored is the average over all, up to where they ended or were stuck; the load after is that of those that ended.";
+    table(title, &heads(&names), rows)
+}
+
 fn store_table(counts: &Counts) -> String {
     let filling = |part: fn(Bin) -> Stores| counts.fillings.iter().map(|one| part(one.at_all_loads())).sum();
     let growth = |part: fn(&Growth) -> Stores| counts.all_growths().map(part).sum();
-    let changes: [(&str, Stores); 5] = [
+    let shrink = |part: fn(&Shrinks) -> Stores| counts.shrinks.iter().map(part).sum();
+    let changes: [(&str, Stores); 8] = [
         ("insert", filling(|bin| bin.inserts)),
         ("update", filling(|bin| bin.updates)),
         ("delete", filling(|bin| bin.deletes)),
         ("growth, its beginning or end", growth(|growth| growth.bounds)),
         ("growth, a step", growth(|growth| growth.steps)),
+        ("shrink, its beginning or end", shrink(|shrinks| shrinks.bounds)),
+        ("shrink, a step", shrink(|shrinks| shrinks.steps)),
+        ("turning back", shrink(|shrinks| shrinks.turns)),
     ];
     let rows = changes.map(|(change, stores)| {
         let each: Vec<String> = stores.met().map(|(stores, calls)| format!("{stores}: {calls}")).collect();
@@ -92,8 +140,8 @@ fn store_table(counts: &Counts) -> String {
         ]
     });
     let title =
-        "### Stores of a change\n\nCounted in the lists of the fillings and growths above. After each \
-        insert of a filling, an update and a delete of some item that was in were listed, and not made.";
+        "### Stores of a change\n\nCounted in the lists of the fillings, growths and shrinks above. After each \
+        insert of a filling, an update and a delete of some item that was in were listed, and not made; and turning back after each beginning of a shrink.";
     table(title, &heads(&["change", "calls", "calls by their stores", "stores on average"]), rows)
 }
 
@@ -106,6 +154,8 @@ mod tests {
         filled: &[3, 4],
         fillings: 2,
         grown_again: 6,
+        shrunk: &[6],
+        shrinks: 4,
         capacities: &[5],
         collector_capacities: &[5],
         queries: 100,
@@ -130,6 +180,7 @@ mod tests {
             "Filled until the first refusal 6",
             "Buckets that a query looks at",
             "Growths, each begun at the first refusal 6",
+            "Shrinks",
             "Stores of a change",
         ];
         assert_eq!(titles, expected);

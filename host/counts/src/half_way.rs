@@ -1,4 +1,4 @@
-//! Tables before their last growth, and in the middle of it.
+//! Tables before their last growth, and in the middle of a growth or a shrink.
 
 use ragansils::Creation;
 use ragansils_model::{Event, Table, SUCCESS};
@@ -9,17 +9,17 @@ pub fn last_growth(creation: Creation) -> Creation {
     Creation { first_top: creation.capacity - 1, ..creation }
 }
 
-/// Brings a level table into the middle of a growth: begun, and half of the interim items moved. A step is
+/// Brings a level table into the middle of a growth or a shrink: begun by its event, and half of the interim items moved. A step is
 /// the same as a delete of its item and an insert of it, which needs no search through the interim level.
-pub fn half_way(words: &mut [u64]) -> Result<(), String> {
+pub fn half_way(words: &mut [u64], begin: Event) -> Result<(), String> {
     let mut library = Proved::default();
     let mut change = |words: &mut [u64], event| match library.change(words, event) {
         SUCCESS => Ok(()),
-        number => Err(format!("the growth was refused with {number}")),
+        number => Err(format!("{event:?} was refused with {number}")),
     };
-    change(words, Event::Begin)?;
+    change(words, begin)?;
     let table = Table::read(words).map_err(|refusal| format!("{refusal:?}"))?;
-    let interim = table.interim().ok_or("growing, but no interim level")?;
+    let interim = table.interim().ok_or("begun, but no interim level")?;
     let items = table.taken_slots(&[interim]);
     let records: Vec<[u64; 3]> = items.iter().take(items.len() / 2).map(|&slot| table.record(slot)).collect();
     for [key, function, place] in records {
@@ -42,10 +42,23 @@ mod tests {
         table.fill(&(1..=150).collect::<Vec<u64>>()).unwrap();
         let in_bottom = table.items_in_bottom();
         assert!(in_bottom > 1);
-        half_way(&mut table.words).unwrap();
-        let growing = Table::read(&table.words).unwrap();
-        let left = growing.taken_slots(&[growing.interim().unwrap()]).len();
-        assert_eq!(left, in_bottom - in_bottom / 2);
-        assert_eq!(growing.taken_slots(&growing.levels_in_use()).len(), 150);
+        half_way(&mut table.words, Event::Begin).unwrap();
+        assert_eq!(interim_and_all(&table.words), (in_bottom - in_bottom / 2, 150));
+    }
+
+    #[test]
+    fn half_of_the_top_is_left_in_the_interim() {
+        let mut table = LevelTable::new(Proved::default(), full_size(&mut Random::new(1), 6));
+        table.fill(&(1..=150).collect::<Vec<u64>>()).unwrap();
+        let in_top = 150 - table.items_in_bottom();
+        half_way(&mut table.words, Event::Shrink).unwrap();
+        assert_eq!(interim_and_all(&table.words), (in_top - in_top / 2, 150));
+    }
+
+    /// The items of the interim level, and all items.
+    fn interim_and_all(words: &[u64]) -> (usize, usize) {
+        let table = Table::read(words).unwrap();
+        let interim = table.taken_slots(&[table.interim().unwrap()]).len();
+        (interim, table.taken_slots(&table.levels_in_use()).len())
     }
 }
