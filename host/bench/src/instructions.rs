@@ -59,6 +59,16 @@ pub fn count_usual(program: &Path, operation: Operation, side: &str, folder: &Pa
     count(program, operation, side, USUAL_C, folder)
 }
 
+/// The growths and shrinks whose instructions are counted: to and from capacities of tables that valgrind fills in some seconds.
+const DRIVEN: [u64; 4] = [8, 10, 12, 14];
+
+/// What this program's command for a whole growth or shrink counts for an item that moves, by the library and by the twin.
+pub fn count_driven(command: &str, folder: &Path) -> Result<Vec<(u64, [Count; 2])>, String> {
+    let program = this_program()?;
+    let count = |side, c: u64| count_run(&program, &[command, side, &c.to_string()], folder);
+    DRIVEN.into_iter().map(|c| Ok((c, [count(LIBRARY, c)?, count(TWIN, c)?]))).collect()
+}
+
 pub fn this_program() -> Result<PathBuf, String> {
     std::env::current_exe().map_err(|error| format!("no path to this program: {error}"))
 }

@@ -3,8 +3,9 @@
 //! From the bottom up:
 //! - `peers`: what is measured;
 //! - `clock`, `rounds`: how it is timed, and what is said of the times;
-//! - `limits`: what something may cost;
-//! - `operations`, `recovery`, `growth` with its drivers and limits, `chains`: what is timed; `instructions`: what valgrind counts of it;
+//! - `limits`: what something may cost; `by_size`: limits of growths and shrinks;
+//! - `drivers`: the ways through a growth or a shrink;
+//! - `operations`, `recovery`, `growth` and `shrink` with their limits, `chains`: what is timed; `instructions`: what valgrind counts of it;
 //! - `builds`: what is measured before a change of the library and after it; `import`, `queries`: this, with their limits;
 //! - `plan`, `run`: how much, and all of it;
 //! - `svg`, `chart`, `plots`, `report`: what is written of it.
@@ -12,9 +13,11 @@
 //! The keys, the level tables and all counts that need no clock are host/counts'.
 
 mod builds;
+mod by_size;
 mod chains;
 mod chart;
 mod clock;
+mod drivers;
 mod growth;
 mod import;
 mod instructions;
@@ -28,6 +31,7 @@ mod recovery;
 mod report;
 mod rounds;
 mod run;
+mod shrink;
 mod svg;
 
 use std::path::Path;
@@ -43,7 +47,7 @@ use crate::rounds::Measured;
 use crate::run::{Results, Run};
 
 const USAGE: &str =
-    "usage: ragansils-bench quick|full SEED OUT-FOLDER LMDB-FOLDER   or   ragansils-bench chains|growth SEED OUT-FOLDER   or   \
+    "usage: ragansils-bench quick|full SEED OUT-FOLDER LMDB-FOLDER   or   ragansils-bench chains|growth|shrink SEED OUT-FOLDER   or   \
     ragansils-bench import|query SEED OUT-FOLDER BUILD-WITH-THE-LIBRARY-BEFORE";
 
 fn main() -> ExitCode {
@@ -53,7 +57,7 @@ fn main() -> ExitCode {
 fn command(arguments: &[String]) -> Result<(), String> {
     let words: Vec<&str> = arguments.iter().map(String::as_str).collect();
     match words[..] {
-        // These four by the program itself, under valgrind.
+        // These five by the program itself, under valgrind.
         ["counted", operation, side, c] => {
             say!("{}", instructions::run_counted(operation, side, number(c)?)?);
             Ok(())
@@ -64,6 +68,10 @@ fn command(arguments: &[String]) -> Result<(), String> {
         }
         ["counted-growth", side, c] => {
             say!("{}", growth::run_counted(side, number(c)?)?);
+            Ok(())
+        }
+        ["counted-shrink", side, c] => {
+            say!("{}", shrink::run_counted(side, number(c)?)?);
             Ok(())
         }
         ["counted-import", side, c] => {
@@ -81,6 +89,7 @@ fn command(arguments: &[String]) -> Result<(), String> {
         }
         ["chains", seed, out] => chains_alone(number(seed)?, Path::new(out)),
         ["growth", seed, out] => growth_alone(number(seed)?, Path::new(out)),
+        ["shrink", seed, out] => shrink_alone(number(seed)?, Path::new(out)),
         ["import", seed, out, before] => import_alone(number(seed)?, Path::new(out), Path::new(before)),
         ["query", seed, out, before] => query_alone(number(seed)?, Path::new(out), Path::new(before)),
         ["quick", seed, out, lmdb] => bench(&plan::QUICK, number(seed)?, Path::new(out), Path::new(lmdb)),
@@ -108,6 +117,14 @@ fn growth_alone(seed: u64, out: &Path) -> Result<(), String> {
     write(out, "growth-rounds.txt", &report::rounds_of(growths.times.iter()))?;
     program::say(section);
     growths.check()
+}
+
+/// Writes the section, and then says where a shrink costs more than it may.
+fn shrink_alone(seed: u64, out: &Path) -> Result<(), String> {
+    let begun = Instant::now();
+    let shrinks = shrink::measure(&plan::FULL, seed, out, |part| note(begun, part))?;
+    write_section("shrink", out, report::shrinks(&shrinks, seed), shrinks.times.iter())?;
+    shrinks.check()
 }
 
 /// Writes the section, and then says where an insert or an import costs more than it may.
@@ -155,6 +172,7 @@ fn bench(plan: &plan::Plan, seed: u64, out: &Path, lmdb: &Path) -> Result<(), St
     }
     write(out, "figures.md", &report::figures(&run.results, seed))?;
     write_growths(&run.results.growths, seed, out)?;
+    write(out, "shrink.md", &report::shrinks(&run.results.shrinks, seed))?;
     write(out, "rounds.txt", &report::every_round(&run.results))?;
     say!("{}", report::targets(&run.results));
     Ok(())

@@ -4,7 +4,8 @@ use ragansils_counts::{Bin, BINS};
 use ragansils_model::table_words;
 
 use crate::chart::{lines, rows, Axis, Line, Row};
-use crate::growth::{Growths, FROM_FIRST};
+use crate::drivers::FROM_FIRST;
+use crate::growth::Growths;
 use crate::peers::{CUCKOO, LIBRARY, TWIN};
 use crate::rounds::Measured;
 use crate::run::Results;

@@ -4,10 +4,12 @@ mod builds;
 mod growth;
 mod import;
 mod queries;
+mod shrink;
 
 pub use growth::growths;
 pub use import::imports;
 pub use queries::queries;
+pub use shrink::shrinks;
 
 use ragansils_counts::markdown::{heads, table};
 use ragansils_counts::Middle;
@@ -35,7 +37,7 @@ fn intro(seed: u64) -> String {
     )
 }
 
-/// All sections but that of growths.
+/// All sections but those of growths and shrinks.
 pub fn figures(results: &Results, seed: u64) -> String {
     [
         intro(seed),
@@ -61,6 +63,7 @@ pub fn every_round(results: &Results) -> String {
         &results.recovery,
         &results.more_recovery,
         &results.growths.times,
+        &results.shrinks.times,
     ];
     let chains = results.chains.iter().map(|chains| &chains.times);
     rounds_of(parts.iter().copied().flatten().chain(chains))

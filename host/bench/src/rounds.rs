@@ -114,6 +114,28 @@ impl<const N: usize> Rounds<N> {
     }
 }
 
+impl Rounds<1> {
+    /// One round of what comes to an end or does not: each so many times, one after the other. `drive` is told whose turn it is, and
+    /// gives nanoseconds, and whether it came to its end.
+    pub fn whole_ways(
+        &mut self,
+        number: usize,
+        repeats: u64,
+        mut drive: impl FnMut(usize) -> Result<(f64, bool), String>,
+    ) -> Result<(), String> {
+        self.turns(number, |at| {
+            let mut sum = 0.0;
+            let mut ended = 0;
+            for _ in 0..repeats {
+                let (time, has_ended) = drive(at)?;
+                sum += time;
+                ended += u64::from(has_ended);
+            }
+            Ok(([sum / repeats as f64], ended))
+        })
+    }
+}
+
 #[cfg(test)]
 mod tests {
     use super::*;

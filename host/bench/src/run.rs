@@ -16,6 +16,7 @@ use crate::peers;
 use crate::plan::Plan;
 use crate::recovery::{self, Kinds, SOUND};
 use crate::rounds::Measured;
+use crate::shrink::{self, Shrinks};
 
 #[derive(Default)]
 pub struct Results {
@@ -27,6 +28,7 @@ pub struct Results {
     pub recovery: Vec<Measured>,
     pub more_recovery: Vec<Measured>,
     pub growths: Growths,
+    pub shrinks: Shrinks,
     pub counts: Counts,
     pub instructions: Vec<Counted>,
     pub chains: Vec<Chains>,
@@ -61,6 +63,7 @@ impl Run<'_> {
         self.say("chains");
         self.results.chains = chains::measure(seed, callgrind_folder)?;
         self.results.growths = growth::measure(self.plan, seed, callgrind_folder, |part| self.say(part))?;
+        self.results.shrinks = shrink::measure(self.plan, seed, callgrind_folder, |part| self.say(part))?;
         for &c in self.plan.counts.capacities {
             self.at_rest(c, Kind::Random)?;
             self.growing(c, Kind::Random)?;

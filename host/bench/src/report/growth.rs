@@ -2,31 +2,35 @@
 
 use ragansils_counts::markdown::{heads, table};
 
-use crate::growth::{factors, Growths, FROM_FIRST};
+use crate::by_size::factors;
+use crate::drivers::FROM_FIRST;
+use crate::growth::Growths;
+use crate::instructions::Count;
 use crate::peers::{CUCKOO, LIBRARY, TWIN};
 use crate::rounds::Measured;
 
 use super::{bounds, intro, limit_table, others, ratio, three_digits, time};
 
 /// Milliseconds.
-const UNIT: f64 = 1e6;
+pub const UNIT: f64 = 1e6;
 
 /// The section of whole growths.
 pub fn growths(growths: &Growths, seed: u64) -> String {
     let limits = limit_table("### Limits of a growth", growths.limits());
-    [intro(seed), limits, time_table(growths), peer_table(growths), instruction_table(growths)].join("\n")
+    let instructions = instruction_table("growth", 1, &growths.instructions);
+    [intro(seed), limits, time_table(growths), peer_table(growths), instructions].join("\n")
 }
 
 /// The library beside the twin, and beside itself: at half the size, and in the old way.
 fn time_table(growths: &Growths) -> String {
     let factors = factors(&growths.times);
     let factor_at =
-        |k: u64| factors.iter().find(|(at, _)| *at == k).map(|(_, factor)| format!("{factor:.2}"));
+        |c: u64| factors.iter().find(|(at, _)| *at == c).map(|(_, factor)| format!("{factor:.2}"));
     let rows = growths.times.iter().filter_map(|measured| {
         let k = measured.c - 1;
         let middle = measured.ratio_to_twin()?;
         let [library, twin, old_way] = [LIBRARY, TWIN, FROM_FIRST].map(|peer| time(measured, peer, UNIT));
-        let factor = factor_at(k).unwrap_or_default();
+        let factor = factor_at(measured.c).unwrap_or_default();
         let n = (1u64 << k).to_string();
         Some(vec![k.to_string(), n, library, factor, twin, ratio(middle), bounds(middle), old_way])
     });
@@ -63,10 +67,11 @@ fn peer_table(growths: &Growths) -> String {
     table(&title, &names, rows)
 }
 
-fn instruction_table(growths: &Growths) -> String {
-    let rows = growths.instructions.iter().map(|(c, [library, twin])| {
+/// Of a growth or a shrink to or from some capacities; k is less than the capacity by so much.
+pub fn instruction_table(what: &str, less: u64, instructions: &[(u64, [Count; 2])]) -> String {
+    let rows = instructions.iter().map(|(c, [library, twin])| {
         vec![
-            (c - 1).to_string(),
+            (c - less).to_string(),
             three_digits(library.instructions),
             three_digits(twin.instructions),
             format!("**{:.2}**", library.instructions / twin.instructions),
@@ -74,8 +79,10 @@ fn instruction_table(growths: &Growths) -> String {
             format!("{:.2}", twin.mispredicted),
         ]
     });
-    let title = "### Instructions of a growth, for an item moved\n\nOf the whole growth, divided by the number of its items. Counted by \
-        callgrind, with its model of a branch predictor.";
+    let title = format!(
+        "### Instructions of a {what}, for an item moved\n\nOf the whole {what}, divided by the number of its items. Counted by \
+         callgrind, with its model of a branch predictor."
+    );
     let names = ["k", "library", "twin", "ratio", "mispredicted, library", "mispredicted, twin"];
-    table(title, &heads(&names), rows)
+    table(&title, &heads(&names), rows)
 }
