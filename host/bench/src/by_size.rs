@@ -6,8 +6,6 @@ use crate::rounds::Measured;
 
 /// The capacity at which it is held beside others.
 pub const LIMITED_C: u64 = 20;
-/// The library's time there, as a multiple of the twin's.
-pub const MOST_TO_TWIN: f64 = 1.3;
 /// From 2N top buckets it takes less than so many times that from N, from N = 2^k on with this k.
 const MOST_FACTOR: f64 = 2.6;
 const LEAST_K: u64 = 10;

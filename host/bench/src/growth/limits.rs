@@ -1,13 +1,14 @@
 //! What a whole growth may cost, and whether it costs more.
 
-use crate::by_size::{beside, worst_factor, LIMITED_C, MOST_TO_TWIN};
+use crate::by_size::{beside, worst_factor, LIMITED_C};
 use crate::limits::{self, Limit};
 use crate::peers::{CUCKOO, TWIN};
 
 use super::Growths;
 
-/// The library's time at the largest capacity, as a multiple of libcuckoo's.
+/// The library's time at the largest capacity, as a multiple of libcuckoo's and of the twin's.
 const MOST_TO_CUCKOO: f64 = 1.5;
+const MOST_TO_TWIN: f64 = 1.3;
 
 impl Growths {
     pub fn limits(&self) -> Vec<Limit> {

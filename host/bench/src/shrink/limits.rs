@@ -1,10 +1,13 @@
 //! What a whole shrink may cost, and whether it costs more.
 
-use crate::by_size::{beside, worst_factor, LIMITED_C, MOST_TO_TWIN};
+use crate::by_size::{beside, worst_factor, LIMITED_C};
 use crate::limits::{self, Limit};
 use crate::peers::TWIN;
 
 use super::Shrinks;
+
+/// The library's time at the largest capacity, as a multiple of the twin's. A growth is held to less.
+const MOST_TO_TWIN: f64 = 1.5;
 
 impl Shrinks {
     pub fn limits(&self) -> Vec<Limit> {
@@ -38,9 +41,9 @@ mod tests {
     #[test]
     fn each_limit_is_told_where_it_is_missed() {
         assert_eq!(shrinks([50.0, 130.0, 130.0]).check(), Ok(()));
-        let slow = shrinks([50.0, 100.0, 131.0]).check().unwrap_err();
+        let slow = shrinks([50.0, 100.0, 151.0]).check().unwrap_err();
         assert!(
-            slow.contains("of the twin's shrink by the same driver, from c = 20: 1.310, at most 1.3"),
+            slow.contains("of the twin's shrink by the same driver, from c = 20: 1.510, at most 1.5"),
             "{slow}"
         );
         let steep = shrinks([50.0, 131.0, 100.0]).check().unwrap_err();
