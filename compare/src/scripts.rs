@@ -41,10 +41,13 @@ fn count(script: &[u8], output: &[u8], tally: &mut Tally) {
     tally.scripts += 1;
     let (script_lines, output) = (split_lines(script), numbers_by_name(output));
     let mut phase = Phase::AtRest;
-    for event in answered_events(&script_lines, &output) {
-        count_event(phase, &event, tally);
+    let events = answered_events(&script_lines, &output);
+    for event in &events {
+        count_event(phase, event, tally);
         phase = event.phase_after(phase);
     }
+    let has = |op| events.iter().any(|event| event.op == op);
+    tally.scripts_with_shrink_and_back += u64::from(has("shrink") && has("back"));
     for (name, number) in &output {
         match name.as_str() {
             "made" => tally.count_refusal(*number),

@@ -41,6 +41,8 @@ pub struct Tally {
     pub cuts: u64,
     pub recovery_cuts: u64,
     pub scripts: u64,
+    /// Those that were answered to both.
+    pub scripts_with_shrink_and_back: u64,
 }
 
 impl Tally {
@@ -78,6 +80,7 @@ impl Tally {
 
     pub fn print(&self) {
         say!("calls: {}; scripts: {}; ledgers: {}", self.total_calls, self.scripts, self.ledgers.ledgers);
+        say!("scripts with a shrink and a turning back: {}", self.scripts_with_shrink_and_back);
         print_counts("calls and script events by name", &self.calls);
         print_counts("store lists", &self.lists);
         print_counts("refusals", &self.refusals);

@@ -57,36 +57,6 @@ fn main() -> ExitCode {
 fn command(arguments: &[String]) -> Result<(), String> {
     let words: Vec<&str> = arguments.iter().map(String::as_str).collect();
     match words[..] {
-        // These five by the program itself, under valgrind.
-        ["counted", operation, side, c] => {
-            say!("{}", instructions::run_counted(operation, side, number(c)?)?);
-            Ok(())
-        }
-        ["counted-frames", way, depths] => {
-            say!("{}", chains::run_counted(way, number(depths)?)?);
-            Ok(())
-        }
-        ["counted-growth", side, c] => {
-            say!("{}", growth::run_counted(side, number(c)?)?);
-            Ok(())
-        }
-        ["counted-shrink", side, c] => {
-            say!("{}", shrink::run_counted(side, number(c)?)?);
-            Ok(())
-        }
-        ["counted-import", side, c] => {
-            say!("{}", import::run_counted(side, number(c)?)?);
-            Ok(())
-        }
-        // By another build, or by the program itself.
-        ["import-round", c, seed] => {
-            say!("{}", import::run_round(number(c)?, number(seed)?)?);
-            Ok(())
-        }
-        ["query-round", when, c, seed] => {
-            say!("{}", queries::run_round(when, number(c)?, number(seed)?)?);
-            Ok(())
-        }
         ["chains", seed, out] => chains_alone(number(seed)?, Path::new(out)),
         ["growth", seed, out] => growth_alone(number(seed)?, Path::new(out)),
         ["shrink", seed, out] => shrink_alone(number(seed)?, Path::new(out)),
@@ -94,6 +64,29 @@ fn command(arguments: &[String]) -> Result<(), String> {
         ["query", seed, out, before] => query_alone(number(seed)?, Path::new(out), Path::new(before)),
         ["quick", seed, out, lmdb] => bench(&plan::QUICK, number(seed)?, Path::new(out), Path::new(lmdb)),
         ["full", seed, out, lmdb] => bench(&plan::FULL, number(seed)?, Path::new(out), Path::new(lmdb)),
+        _ => by_itself(&words).map(|answer| say!("{answer}")),
+    }
+}
+
+/// What the program runs of itself, and what one build of it runs of another.
+fn by_itself(words: &[&str]) -> Result<String, String> {
+    match *words {
+        // These five under valgrind.
+        ["counted", operation, side, c] => {
+            instructions::run_counted(operation, side, number(c)?).map(|calls| calls.to_string())
+        }
+        ["counted-frames", way, depths] => {
+            chains::run_counted(way, number(depths)?).map(|calls| calls.to_string())
+        }
+        ["counted-growth", side, c] => growth::run_counted(side, number(c)?).map(|items| items.to_string()),
+        ["counted-shrink", side, c] => shrink::run_counted(side, number(c)?).map(|items| items.to_string()),
+        ["counted-import", side, c] => import::run_counted(side, number(c)?).map(|calls| calls.to_string()),
+        ["import-round", c, seed] => {
+            import::run_round(number(c)?, number(seed)?).map(|times| times.to_string())
+        }
+        ["query-round", when, c, seed] => {
+            queries::run_round(when, number(c)?, number(seed)?).map(|times| times.to_string())
+        }
         _ => Err(USAGE.to_string()),
     }
 }

@@ -23,28 +23,27 @@ pub fn growths(growths: &Growths, seed: u64) -> String {
 
 /// The library beside the twin, and beside itself: at half the size, and in the old way.
 fn time_table(growths: &Growths) -> String {
-    let factors = factors(&growths.times);
-    let factor_at =
-        |c: u64| factors.iter().find(|(at, _)| *at == c).map(|(_, factor)| format!("{factor:.2}"));
     let rows = growths.times.iter().filter_map(|measured| {
-        let k = measured.c - 1;
-        let middle = measured.ratio_to_twin()?;
-        let [library, twin, old_way] = [LIBRARY, TWIN, FROM_FIRST].map(|peer| time(measured, peer, UNIT));
-        let factor = factor_at(measured.c).unwrap_or_default();
-        let n = (1u64 << k).to_string();
-        Some(vec![k.to_string(), n, library, factor, twin, ratio(middle), bounds(middle), old_way])
+        let mut row = by_size_and_twin(&growths.times, measured, measured.c - 1)?;
+        row.push(time(measured, FROM_FIRST, UNIT));
+        Some(row)
     });
-    let names = [
-        "k",
-        "N = 2^k",
-        "library, ms",
-        "times that from N/2",
-        "twin, ms",
-        "library / twin",
-        "middle half",
-        "library from bucket 0 each time, ms",
-    ];
+    let names = [&BY_SIZE_AND_TWIN[..], &["library from bucket 0 each time, ms"]].concat();
     table("### One whole growth, begun at load 0.8", &heads(&names), rows)
+}
+
+/// What the tables of growths and of shrinks begin with.
+pub const BY_SIZE_AND_TWIN: [&str; 7] =
+    ["k", "N = 2^k", "library, ms", "times that from N/2", "twin, ms", "library / twin", "middle half"];
+
+/// The cells under it, where the table has 2^k top buckets before.
+pub fn by_size_and_twin(all: &[Measured], measured: &Measured, k: u64) -> Option<Vec<String>> {
+    let factor = factors(all).into_iter().find(|(c, _)| *c == measured.c);
+    let factor = factor.map_or(String::new(), |(_, factor)| format!("{factor:.2}"));
+    let middle = measured.ratio_to_twin()?;
+    let [library, twin] = [LIBRARY, TWIN].map(|peer| time(measured, peer, UNIT));
+    let n = (1u64 << k).to_string();
+    Some(vec![k.to_string(), n, library, factor, twin, ratio(middle), bounds(middle)])
 }
 
 fn peer_table(growths: &Growths) -> String {
