@@ -8,7 +8,7 @@ use crate::case::event_name;
 use crate::case_text::event_arguments;
 use crate::history::{any_item, next_event, Keys, Mood, Setting};
 use crate::random::Random;
-use crate::stuck_items::KINDS;
+use crate::stuck_items::{Kind, KINDS};
 use crate::{stuck_shrinks, stuck_tables};
 
 /// The most stores an event has is 10; a cut is tried just beyond that, too.
@@ -66,7 +66,9 @@ fn stuck_growth(random: &mut Random) -> Script {
 
 /// A shrink goes on as far as it can, past stuck items; then it turns back, and that growth goes on as far as it can.
 fn stuck_shrink(random: &mut Random) -> Script {
-    let kind = random.pick(&KINDS);
+    // Tables for steps past many buckets take long to find; the run over words has them.
+    let kinds: Vec<Kind> = KINDS.into_iter().filter(|kind| !kind.passes_many_buckets()).collect();
+    let kind = random.pick(&kinds);
     let (setting, events) = stuck_shrinks::history_to(random, kind);
     let mut script = Script::of_events(setting, events);
     steps_past_stuck_items(random, &mut script);
