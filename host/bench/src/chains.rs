@@ -24,10 +24,12 @@ const ROUNDS: usize = 301;
 /// What a chain may cost, as a multiple of its queries.
 pub const LIMIT: f64 = 1.05;
 
+type Way = fn(&Frames) -> u64;
+
 pub const CHAIN: &str = "chain";
 pub const QUERIES: &str = "queries";
 /// Each answers a sum of all records and numbers of buckets, in which both must agree.
-const WAYS: [(&str, fn(&Frames) -> u64); 2] = [(CHAIN, Frames::by_chains), (QUERIES, Frames::by_queries)];
+const WAYS: [(&str, Way); 2] = [(CHAIN, Frames::by_chains), (QUERIES, Frames::by_queries)];
 
 /// What was measured of chains of one length.
 pub struct Chains {
