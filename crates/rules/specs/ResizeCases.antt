@@ -1,6 +1,6 @@
 -- Document 02, request f): cases of shrinking and turning back as one table under one statement, computed from the rules. Each row holds what the
 -- rules compute and what the request's sentences ask for. Tables and rows are those of `Examples`, made as a caller makes them. Both multipliers
--- are 4294967297, but for row 40: a key K has one place in a level of M buckets, the bucket K modulo M. With c = 2 bucket 0 is the level of one
+-- are 4294967297, but for rows 39, 40 and 43: a key K has one place in a level of M buckets, the bucket K modulo M. With c = 2 bucket 0 is the level of one
 -- bucket, with token word 9; buckets 1 and 2 are that of two, with token words 22 and 35; buckets 3 to 6 that of four: 48, 61, 74 and 87.
 -- Assumes nothing.
 use Prim.Native.Nat.{ℕ, zero, suc}
