@@ -161,11 +161,15 @@ lent = replicate 20 0
 abbrev pub lentEach : List Call → List Event
 lentEach qs = map (λ (q : Call). whole q lent) qs
 
+-- before them a back that is lent no word: 2, and nothing turns
+abbrev pub refusedBack : Event
+refusedBack = whole back []
+
 -- "40N + 2 for one whole shrink from N top buckets": with N = 4 one shrink, fifteen steps of five stores, one of ten and an end are 87 stores, and
--- the deletes between them are none of its own. 20N + 2 are 82
+-- the deletes between them are none of its own; nor is a refused back a turning back. 20N + 2 are 82
 unfoldable pub spends : Table → List Row
 spends t =
-    row 49 (words (spent t (lentEach (shrink ∷ (calls ++ (end ∷ [])))) ∷ [])) (words (87 ∷ []))
+    row 49 (words (spent t (whole shrink lent ∷ refusedBack ∷ lentEach (calls ++ (end ∷ []))) ∷ [])) (words (87 ∷ []))
     ∷ []
 
 -- what the tables take as done was answered with 0
@@ -206,7 +210,8 @@ resizeCases r = refl
 -- what row 49 counts, in facts: one whole shrink of a table with k = 2
 pub costly :
     let t = filled (λ (key : ℕ). recordOf 10 20) in
-    (headerOf t .state .k ≡ 2) × (spent t (whole shrink lent ∷ lentEach (calls ++ (end ∷ []))) ≡ 87)
-    × Accepted (changeResult t lent shrink .0) × Accepted (changeResult (afterAll (after t (whole shrink lent)) (lentEach calls)) lent end .0)
+    (headerOf t .state .k ≡ 2) × (spent t (whole shrink lent ∷ refusedBack ∷ lentEach (calls ++ (end ∷ []))) ≡ 87)
+    × Accepted (changeResult t lent shrink .0)
+    × Accepted (changeResult (afterAll (after t (whole shrink lent)) (refusedBack ∷ lentEach calls)) lent end .0)
 unfolding opened
 costly = (refl, refl, tt, tt)
