@@ -175,16 +175,19 @@ pub record OfNoKind (t : Table) : Type 0 where
   pub undoubled : (x y : Slot) → DoubledTable t x y → ⊥
   pub unflagged : (x : Slot) → FlaggedTable t x → ⊥
 
--- "length, form, c, multipliers or state", by the words themselves: "At rest 1 ≤ k ≤ c, while growing 2 ≤ k ≤ c. Other states are
--- bad.", with k + 256·phase in word 4; request f): "States with phase 2 need 1 ≤ k < c."
+-- "At rest 1 ≤ k ≤ c, while growing 2 ≤ k ≤ c. Other states are bad.", by the word w that holds k + 256·phase; request f): "States with phase 2
+-- need 1 ≤ k < c."
+abbrev pub GoodStateWord : ℕ → ℕ → Type 0
+GoodStateWord c w = ((1 ≤ w) × (w ≤ c)) ⊎ (((258 ≤ w) × (w ≤ 256 + c)) ⊎ ((513 ≤ w) × (w < 512 + c)))
+
+-- "length, form, c, multipliers or state", by the words themselves
 pub record HeaderWords (t : Table) : Type 0 where
   pub long : length t ≡ 9 + 13 * (2 ^ (word t 1 + 1) - 1)
   pub form : word t 0 ≡ 1
   pub capacity : (1 ≤ word t 1) × (word t 1 ≤ 20)
   pub odd1 : word t 2 % 2 ≡ 1
   pub odd2 : word t 3 % 2 ≡ 1
-  pub state : ((1 ≤ word t 4) × (word t 4 ≤ word t 1)) ⊎ (((258 ≤ word t 4) × (word t 4 ≤ 256 + word t 1))
-      ⊎ ((513 ≤ word t 4) × (word t 4 < 512 + word t 1)))
+  pub state : GoodStateWord (word t 1) (word t 4)
 
 abbrev pub badHeader : Table → Type 0 × Refusal
 badHeader t = ((HeaderWords t → ⊥), BadHeader)

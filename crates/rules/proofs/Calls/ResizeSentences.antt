@@ -16,7 +16,7 @@ use Rattle.rules.specs.Stores.{Store, begunOf, shrunkOf, made}
 use Rattle.rules.specs.Calls.{refused, listed, Call, query, insert, update, delete, begin, shrink, back, stepFrom, end, recover, outcome}
 use Rattle.rules.specs.Results.{changeResult}
 use Rattle.rules.specs.Histories.{whole, after, Accepted}
-use Rattle.rules.specs.Demands.{AtRest, Resizing, Growing, Shrinking, MayChange, FirstRefuses, Written, withState}
+use Rattle.rules.specs.Demands.{AtRest, Resizing, Growing, Shrinking, GoodStateWord, MayChange, FirstRefuses, Written, withState}
 use Rattle.rules.specs.Demands.{None, InterimItem, InterimFrom, NoneHasPlace}
 use Rattle.rules.specs.ResizeSentences.{ShrinkStores, LevelHas, LevelsAreThree, LevelsShrink, SevenExactly, SeventeenExactly, BackStores}
 use Rattle.rules.specs.ResizeSentences.{LevelsTurn, TurnedTwice, EightExactly, OwnStoresCount}
@@ -67,14 +67,14 @@ eightExactly t n q (inl e) = rw e (first-exactly t n (AtRest t) NotResizing [] _
 eightExactly t n q (inr (inl e)) =
     rw e (first-exactly t n (AtRest t) NotResizing (ofEnd t) _ (omega arith) ((λ k. omega arith), tt) (refusalsInOrder t n end))
 eightExactly t n q (inr (inr (b, e))) =
-    rw e (first-exactly t n (AtRest t) NotResizing (ofStep t b) _ (omega arith) ((λ k. omega arith), ((λ k. omega arith), tt)) (refusalsInOrder t n (stepFrom b)))
+    rw e (first-exactly t n (AtRest t) NotResizing (ofStep t b) _ (omega arith) ((λ k. omega arith), ((λ k. omega arith), tt))
+    (refusalsInOrder t n (stepFrom b)))
 
 pub seventeenExactly : SeventeenExactly
 unfolding headerOf stateOf
 seventeenExactly t n = (to, from)
   where
-    least : ((1 ≤ word t 4) × (word t 4 ≤ word t 1)) ⊎ (((258 ≤ word t 4) × (word t 4 ≤ 256 + word t 1)) ⊎ ((513 ≤ word t 4) × (word t 4 < 512 + word t 1)))
-        → word t 4 / 256 ≡ 0 → word t 4 % 256 < 2 → word t 4 ≡ 1
+    least : GoodStateWord (word t 1) (word t 4) → word t 4 / 256 ≡ 0 → word t 4 % 256 < 2 → word t 4 ≡ 1
     least (inl r) rest small = omega arith
     least (inr (inl r)) rest small = omega arith
     least (inr (inr r)) rest small = omega arith
@@ -131,7 +131,8 @@ backStores t n k may = (
         let same : word t 4 % 256 - 1 + 256 * 2 ≡ 512 + (k - 1) = omega arith in
         w ∙ ap (λ (v : ℕ). (4, v) ∷ []) same
 
-    go : (w : ℕ) → (AtRest t → ⊥) → ((xs : List Store) → Written t (headerOf t) back xs → xs ≡ (4, w) ∷ []) → outcome t n back ≡ listed ((4, w) ∷ [])
+    go : (w : ℕ) → Resizing t → ((xs : List Store) → Written t (headerOf t) back xs → xs ≡ (4, w) ∷ [])
+        → outcome t n back ≡ listed ((4, w) ∷ [])
     go w moves written = find (past-three t n ((AtRest t, NotResizing) ∷ []) (outcome t n back) may (refusalsInOrder t n back))
       where
         find : FirstRefuses ((AtRest t, NotResizing) ∷ []) (outcome t n back) → outcome t n back ≡ listed ((4, w) ∷ [])
@@ -212,8 +213,8 @@ module _ (t : Table) (l : List ℕ) (q : Call) (s : State) where
 -- an accepted shrink came from rest, with k at least 2
 shrink-from : (t : Table) (n : ℕ) (xs : List Store) → outcome t n shrink ≡ listed xs → (headerOf t .state .phase ≡ 0) × (2 ≤ headerOf t .state .k)
 shrink-from t n xs e =
-    go (behind-three t n ((Resizing t, AlreadyResizing) ∷ ofShrink t) (outcome t n shrink) (λ r q. never-listed (sym q ∙ e)) (refusalsInOrder t n shrink) .1)
-    (ℕ-discrete (headerOf t .state .phase) 0)
+    go (behind-three t n ((Resizing t, AlreadyResizing) ∷ ofShrink t) (outcome t n shrink) (λ r q. never-listed (sym q ∙ e))
+    (refusalsInOrder t n shrink) .1) (ℕ-discrete (headerOf t .state .phase) 0)
   where
     go : FirstRefuses ((Resizing t, AlreadyResizing) ∷ ofShrink t) (outcome t n shrink) → Dec (AtRest t)
         → (headerOf t .state .phase ≡ 0) × (2 ≤ headerOf t .state .k)
@@ -293,7 +294,7 @@ module _ (t : Table) (n m v : ℕ) (may : MayChange t n) (room : 20 ≤ m) (fits
   other : (i : ℕ) → (i ≡ 4 → ⊥) → word (set t 4 v) i ≡ word t i
   other i d = getD-set-other t 4 i v 0 d
 
-  restated-may : ((1 ≤ v) × (v ≤ word t 1)) ⊎ (((258 ≤ v) × (v ≤ 256 + word t 1)) ⊎ ((513 ≤ v) × (v < 512 + word t 1))) → MayChange (set t 4 v) m
+  restated-may : GoodStateWord (word t 1) v → MayChange (set t 4 v) m
   restated-may good =
       let c = other 1 (λ e. omega arith) in
       record {
@@ -345,8 +346,7 @@ turnedTwice t l m accepted room = go (may .header .state) (ℕ-discrete (word t 
     moves (inl (f, q)) rest = never-listed (sym q ∙ e)
     moves (inr (f, k)) rest = f rest
 
-    go : ((1 ≤ word t 4) × (word t 4 ≤ word t 1)) ⊎ (((258 ≤ word t 4) × (word t 4 ≤ 256 + word t 1)) ⊎ ((513 ≤ word t 4) × (word t 4 < 512 + word t 1)))
-        → Dec (word t 4 / 256 ≡ 0)
+    go : GoodStateWord (word t 1) (word t 4) → Dec (word t 4 / 256 ≡ 0)
         → Accepted (changeResult (after t (whole back l)) m back .0) × (after (after t (whole back l)) (whole back m) ≡ t)
     go state (yes rest) = absurd (moves (behind .1) rest)
     go (inl r) (no d) = absurd (d (omega (arith, may .header .capacity)))

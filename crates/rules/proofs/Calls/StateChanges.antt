@@ -21,7 +21,7 @@ use Rattle.rules.specs.declared.State.{State}
 use Rattle.rules.specs.declared.Level.{Level}
 use Rattle.rules.specs.declared.Slot.{Slot}
 use Rattle.rules.specs.declared.Refusal.the-variants.{InterimTaken}
-use Rattle.rules.proofs.Words.States.{state-fits, grown-interim, shrunk-interim, resizing-phases}
+use Rattle.rules.proofs.Words.States.{state-fits, grown-interim, shrunk-interim, GrowsOrShrinks, resizing-phases}
 use Rattle.rules.proofs.Words.Headers.{header-fits}
 use Rattle.rules.proofs.Words.Levels.{OfThree, level-cases, top-used, bottom-used, interim-used, exponent-fits, level-of-bucket}
 use Rattle.rules.proofs.Words.Unused.{exponent-tells, ranged-bucket, unused-exponent}
@@ -196,9 +196,7 @@ backAnswers t m n given = (
       (shrunk-gives t m n given (inr p) (low p)),
 )
   where
-    phases : (headerOf t .state .phase ≡ 0 → ⊥)
-        → ((headerOf t .state .phase ≡ 1) × (2 ≤ headerOf t .state .k) × (headerOf t .state .k ≤ headerOf t .c))
-        ⊎ ((headerOf t .state .phase ≡ 2) × (1 ≤ headerOf t .state .k) × (headerOf t .state .k < headerOf t .c))
+    phases : Resizing t → GrowsOrShrinks (headerOf t .c) (headerOf t .state)
     phases resizing = resizing-phases (headerOf t .c) (headerOf t .state) (given .sound .orderly .header .state) (resizing-interim t resizing)
 
     room : Shrinking t → headerOf t .state .k < headerOf t .c
@@ -216,6 +214,6 @@ endAnswers t m n given = (
   where
     go : Resizing t → (b : Bool) → empty (interimItems t (headerOf t)) ≡ b
         → ((x : Slot) × InterimItem t x × (cond b (listed (stateStores (endedOf (headerOf t .state)))) (refused InterimTaken) ≡ refused InterimTaken))
-        ⊎ (NoInterim t × Gives t (cond b (listed (stateStores (endedOf (headerOf t .state)))) (refused InterimTaken)) m (record { k = headerOf t .state .k; phase = 0 }))
+        ⊎ (NoInterim t × Gives t (cond b (listed (stateStores (endedOf (headerOf t .state)))) (refused InterimTaken)) m (endedOf (headerOf t .state)))
     go resizing true e = let none = interim-empty t .0 e in inr (none, end-gives t m n given resizing none)
     go resizing false e = let x = interim-left t e in inl (x .0, x .1, refl)

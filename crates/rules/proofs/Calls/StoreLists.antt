@@ -1,22 +1,23 @@
 -- An accepted call lists the stores of document 01's table, word by word and in its order, on every table that it accepts.
 -- Assumes nothing.
-use Prim.Native.Nat.{ℕ, _≤_, _<_}
+use Prim.Native.Nat.{ℕ}
 use mathlib.Core.Path.{_≡_, refl}
 use mathlib.Core.Bool.{true, not}
 use mathlib.Core.List.{List, [], _++_, List·Memᴰ·head as here}
-use mathlib.Core.Logic.{_⊎_, inl, inr}
+use mathlib.Core.Logic.{inl, inr}
 use mathlib.Core.Option.{Option, none, some}
 use native.Mathlib.Omega.{arith}
 use borrow.Author.Tests.{not-true, eq-eqb, ne-eqb}
-use Rattle.rules.specs.Words.{Table, GoodState, atRest, shrinking, headerOf, loggedOf, stateWord, placeOf, tokenWord, keyWord, functionWord, placeWord, keyIn, recordIn, tokenOf}
+use Rattle.rules.specs.Words.{Table, GoodState, atRest, shrinking, headerOf, loggedOf, stateWord, placeOf, tokenWord, keyWord, functionWord}
+use Rattle.rules.specs.Words.{placeWord, keyIn, recordIn, tokenOf}
 use Rattle.rules.specs.Places.{lookup}
 use Rattle.rules.specs.Placing.{freeSlot, placing, somewhere}
 use Rattle.rules.specs.Stores.{Store, putStores, clearStores, moveStores, placingStores, redoStores, updateWith, updateStores, turnedOf}
 use Rattle.rules.specs.Stores.{stateStores, stepStores}
 use Rattle.rules.specs.Soundness.{finding}
-use Rattle.rules.specs.Calls.{refused, listed, placedBy, insertIn, updateIn, deleteIn, queryIn, beginTests, beginOf, shrinkTests, shrinkOf, backTests, backOf}
-use Rattle.rules.specs.Calls.{stepItem, stepIn, stepTests, stepOf, endTests, endOf, recoverOf, query, insert, update, delete, begin, shrink, back}
-use Rattle.rules.specs.Calls.{stepFrom, end, recover, testsOf, outcome}
+use Rattle.rules.specs.Calls.{refused, listed, placedBy, insertIn, updateIn, deleteIn, queryIn, beginTests, beginOf, shrinkTests, shrinkOf, backTests}
+use Rattle.rules.specs.Calls.{backOf, stepItem, stepIn, stepTests, stepOf, endTests, endOf, recoverOf, query, insert, update, delete, begin, shrink}
+use Rattle.rules.specs.Calls.{back, stepFrom, end, recover, testsOf, outcome}
 use Rattle.rules.specs.Demands.{FirstHolder, InterimFrom, FirstWithPlace, PlacingWritten, UpdateWritten, RecoveryWritten, Written, StoresAsWritten}
 use Rattle.rules.specs.declared.Header.{Header}
 use Rattle.rules.specs.declared.Slot.{Slot}
@@ -29,7 +30,7 @@ use Rattle.rules.specs.declared.Finding.{Finding}
 use Rattle.rules.specs.declared.Finding.the-variants.{Sound, Doubled, Flagged, Neither}
 use Rattle.rules.specs.declared.Refusal.{Refusal}
 use Rattle.rules.specs.declared.Refusal.the-variants.{NotResizing}
-use Rattle.rules.proofs.Words.States.{resizing-phases}
+use Rattle.rules.proofs.Words.States.{GrowsOrShrinks, resizing-phases}
 use Rattle.rules.proofs.Calls.Checked.{checked-listed, checked-passed, accepted-header}
 use Rattle.rules.proofs.Tables.Interims.{step-item}
 use Rattle.rules.proofs.Basics.Lists.{never}
@@ -88,13 +89,14 @@ module _ (t : Table) (h : Header) (xs : List Store) where
   -- turned by the phase
   back-written : GoodState (h .c) (h .state) → backOf h ≡ listed xs → Written t h back xs
   unfolding backOf backTests atRest turnedOf shrinking stateStores stateWord
-  back-written good e = go (resizing-phases (h .c) (h .state) good (not-true _ (checked-passed _ xs (backTests h) e (not (atRest (h .state)), NotResizing) (here refl))))
+  back-written good e =
+      go (resizing-phases (h .c) (h .state) good
+      (not-true _ (checked-passed _ xs (backTests h) e (not (atRest (h .state)), NotResizing) (here refl))))
     where
       stores : xs ≡ stateStores (turnedOf (h .state))
       stores = listed-one (checked-listed _ xs (backTests h) e)
 
-      go : ((h .state .phase ≡ 1) × (2 ≤ h .state .k) × (h .state .k ≤ h .c)) ⊎ ((h .state .phase ≡ 2) × (1 ≤ h .state .k) × (h .state .k < h .c))
-          → Written t h back xs
+      go : GrowsOrShrinks (h .c) (h .state) → Written t h back xs
       go (inl (p, l, m)) = inr (p, rw (ne-eqb (h .state .phase) 2 (λ q. omega arith)) at stores)
       go (inr (p, l, m)) = inl (p, rw (eq-eqb (h .state .phase) 2 p) at stores)
 

@@ -1,24 +1,21 @@
 -- A good header, by the words themselves: words 0 to 4 and the table's length say what the decoded header says.
 -- Assumes nothing.
-use Prim.Native.Nat.{ℕ, _+_, _≤_, _<_}
-use mathlib.Core.Logic.{_⊎_, inl, inr, _↔_}
+use Prim.Native.Nat.{ℕ, _≤_}
+use mathlib.Core.Logic.{inl, inr, _↔_}
 use native.Mathlib.Omega.{arith}
 use lib.ListN.{length}
 use Rattle.rules.specs.Words.{Table, word, wordsFor, stateOf, GoodState, headerOf, GoodHeader}
-use Rattle.rules.specs.Demands.{HeaderWords}
+use Rattle.rules.specs.Demands.{GoodStateWord, HeaderWords}
 
 -- "state: k + 256·phase"
 module _ (c w : ℕ) (small : c ≤ 20) where
-  abbrev StateWord : Type 0
-  StateWord = ((1 ≤ w) × (w ≤ c)) ⊎ (((258 ≤ w) × (w ≤ 256 + c)) ⊎ ((513 ≤ w) × (w < 512 + c)))
-
-  state-words : GoodState c (stateOf w) → StateWord
+  state-words : GoodState c (stateOf w) → GoodStateWord c w
   unfolding stateOf
   state-words (inl (p, l, m)) = inl (omega arith)
   state-words (inr (inl (p, l, m))) = inr (inl (omega arith))
   state-words (inr (inr (p, l, m))) = inr (inr (omega arith))
 
-  words-state : StateWord → GoodState c (stateOf w)
+  words-state : GoodStateWord c w → GoodState c (stateOf w)
   unfolding stateOf
   words-state (inl r) = inl (omega arith, omega arith, omega arith)
   words-state (inr (inl r)) = inr (inl (omega arith, omega arith, omega arith))

@@ -1,5 +1,6 @@
 -- Good states: "At rest 1 ≤ k ≤ c, while growing 2 ≤ k ≤ c. Other states are bad." "States with phase 2 need 1 ≤ k < c." The test and the
--- fact are one, and a good state has room for its levels. Here alone the laws know which phases there are.
+-- fact are one, and a good state has room for its levels. But for the words of the header, the laws take a good state apart by its phase here
+-- alone.
 -- Assumes nothing.
 use Prim.Native.Nat.{ℕ, _+_, _-_, _≤_, _<_}
 use mathlib.Core.Path.{_≡_, refl, sym, ap, _∙_}
@@ -24,7 +25,8 @@ among false false false e = never e refl
 
 pub good-state : (c : ℕ) (s : State) → stateGood c s ≡ true → GoodState c s
 unfolding stateGood
-good-state c s e = ⊎-elim (λ p. inl (rest p)) (⊎-elim (λ p. inr (inl (growing p))) (λ p. inr (inr (shrinks p)))) (among (all rests) (all grows) (all falls) e)
+good-state c s e =
+    ⊎-elim (λ p. inl (rest p)) (⊎-elim (λ p. inr (inl (growing p))) (λ p. inr (inr (shrinks p)))) (among (all rests) (all grows) (all falls) e)
   where
     rests : List Bool
     rests = eqb (s .phase) 0 ∷ leb 1 (s .k) ∷ leb (s .k) c ∷ []
@@ -68,8 +70,10 @@ interim-fits c s (inr (inl (p, l, m))) q = rw (grown-interim s p) (omega arith, 
 interim-fits c s (inr (inr (p, l, m))) q = rw (shrunk-interim s p) (omega arith, λ e. omega arith, λ e. omega arith)
 
 -- a good state that is not at rest grows or shrinks
-pub resizing-phases : (c : ℕ) (s : State) → GoodState c s → atRest s ≡ false
-    → ((s .phase ≡ 1) × (2 ≤ s .k) × (s .k ≤ c)) ⊎ ((s .phase ≡ 2) × (1 ≤ s .k) × (s .k < c))
+abbrev pub GrowsOrShrinks : ℕ → State → Type 0
+GrowsOrShrinks c s = ((s .phase ≡ 1) × (2 ≤ s .k) × (s .k ≤ c)) ⊎ ((s .phase ≡ 2) × (1 ≤ s .k) × (s .k < c))
+
+pub resizing-phases : (c : ℕ) (s : State) → GoodState c s → atRest s ≡ false → GrowsOrShrinks c s
 unfolding atRest
 resizing-phases c s (inl (p, l, m)) q = absurd (eqb-false _ _ q p)
 resizing-phases c s (inr either) q = either
