@@ -59,7 +59,8 @@ module _ (h : Header) where
   unfolding beginOf beginTests
   begin-full e f = rw (e, eq-eqb _ _ f)
 
-  pub begin-listed : {s : State} → atRest (h .state) ≡ true → (h .state .k ≡ h .c → ⊥) → s ≡ begunOf (h .state) → listed (stateStores s) ≡ beginOf h
+  pub begin-listed : {s : State} → atRest (h .state) ≡ true → (h .state .k ≡ h .c → ⊥) → s ≡ begunOf (h .state)
+      → listed (stateStores s) ≡ beginOf h
   unfolding beginOf beginTests
   begin-listed e f g = rw (e, ne-eqb _ _ f, g)
 

@@ -36,18 +36,30 @@ afterSteps (suc n) t = afterSteps n (madeAll t step)
 
 -- ---- the tables
 
--- at rest, c = k = 2: keys 0 and 4 stand in bucket 3, key 1 in bucket 4
+-- empty, at rest, c = k = 2
+abbrev pub new : Table
+new = createResult (replicate 100 7) 2 2 4294967297 4294967297 .1
+
+-- with three items: keys 0 and 4 stand in bucket 3, key 1 in bucket 4
+abbrev pub three : List ℕ
+three = 0 ∷ 4 ∷ 1 ∷ []
+
 unfoldable pub resting : (ℕ → Record) → Table
-resting r = inserted r (createResult (replicate 100 7) 2 2 4294967297 4294967297 .1) (0 ∷ 4 ∷ 1 ∷ [])
+resting r = inserted r new three
 
 -- keys 0, 4, 8 and 12 fill bucket 3, keys 16, 20, 24 and 28 bucket 1, and key 2 stands in bucket 5; shrunk, and four steps later bucket 0 is full
+abbrev pub nine : List ℕ
+nine = 0 ∷ 4 ∷ 8 ∷ 12 ∷ 16 ∷ 20 ∷ 24 ∷ 28 ∷ 2 ∷ []
+
 unfoldable pub crowded : (ℕ → Record) → Table
-crowded r = inserted r (createResult (replicate 100 7) 2 2 4294967297 4294967297 .1) (0 ∷ 4 ∷ 8 ∷ 12 ∷ 16 ∷ 20 ∷ 24 ∷ 28 ∷ 2 ∷ [])
+crowded r = inserted r new nine
 
 -- sixteen items fill the four buckets of the top
+abbrev pub sixteen : List ℕ
+sixteen = 0 ∷ 4 ∷ 8 ∷ 12 ∷ 1 ∷ 5 ∷ 9 ∷ 13 ∷ 2 ∷ 6 ∷ 10 ∷ 14 ∷ 3 ∷ 7 ∷ 11 ∷ 15 ∷ []
+
 unfoldable pub filled : (ℕ → Record) → Table
-filled r = inserted r (createResult (replicate 100 7) 2 2 4294967297 4294967297 .1)
-    (0 ∷ 4 ∷ 8 ∷ 12 ∷ 1 ∷ 5 ∷ 9 ∷ 13 ∷ 2 ∷ 6 ∷ 10 ∷ 14 ∷ 3 ∷ 7 ∷ 11 ∷ 15 ∷ [])
+filled r = inserted r new sixteen
 
 -- ---- the table of rows
 
@@ -175,10 +187,9 @@ spends t =
 -- what the tables take as done was answered with 0
 unfoldable pub ready : (ℕ → Record) → List Row
 ready r =
-    let new = createResult (replicate 100 7) 2 2 4294967297 4294967297 .1 in
-    row 50 (words (answered r new (0 ∷ 4 ∷ 1 ∷ []))) (words (replicate 3 0))
-    ∷ row 50 (words (answered r new (0 ∷ 4 ∷ 8 ∷ 12 ∷ 16 ∷ 20 ∷ 24 ∷ 28 ∷ 2 ∷ []))) (words (replicate 9 0))
-    ∷ row 50 (words (answered r new (0 ∷ 4 ∷ 8 ∷ 12 ∷ 1 ∷ 5 ∷ 9 ∷ 13 ∷ 2 ∷ 6 ∷ 10 ∷ 14 ∷ 3 ∷ 7 ∷ 11 ∷ 15 ∷ []))) (words (replicate 16 0))
+    row 50 (words (answered r new three)) (words (replicate 3 0))
+    ∷ row 50 (words (answered r new nine)) (words (replicate 9 0))
+    ∷ row 50 (words (answered r new sixteen)) (words (replicate 16 0))
     ∷ []
 
 unfoldable pub cases : (ℕ → Record) → List Row

@@ -8,8 +8,8 @@ use mathlib.Core.Path.{_≡_, refl}
 use mathlib.Core.List.{List, [], _∷_, map, flatMap}
 use lib.ListN.{set}
 use Rattle.words.specs.Product.{productOf, hashOf}
-use Rattle.rules.specs.Words.{Table, wordsFor, stateOf, stateWord, atRest, shrinking, headerOf, flagOf, stateGood, odd, capacityTests, headerTests, topOf}
-use Rattle.rules.specs.Words.{bottomOf, interimOf, levelsInUse, bucketsOf, slotAt, slotsIn, placeOf, placeAt, slotsOf, tokenWord, keyWord}
+use Rattle.rules.specs.Words.{Table, wordsFor, stateOf, stateWord, atRest, shrinking, headerOf, flagOf, stateGood, odd, capacityTests, headerTests}
+use Rattle.rules.specs.Words.{topOf, bottomOf, interimOf, levelsInUse, bucketsOf, slotAt, slotsIn, placeOf, placeAt, slotsOf, tokenWord, keyWord}
 use Rattle.rules.specs.Words.{functionWord, placeWord, spotOf, keyIn, recordIn, tokenOf, tokenNumber, isTaken, show, hide, takenOf, taken}
 use Rattle.rules.specs.Places.{hashesOf, firstPlace, secondPlace, samePlace, placesIn, probes, placesOf, holds, hitIn, lookup}
 use Rattle.rules.specs.Placing.{takenIn, freeSlot, fewer, emptier, roomIn, placing}

@@ -7,7 +7,8 @@ use mathlib.Core.Path.{_≡_, refl}
 use mathlib.Core.List.{List, [], _∷_, _++_, map, flatMap}
 use lib.ListN.{length, replicate}
 use Rattle.words.specs.Product.{productOf, hashOf}
-use Rattle.rules.specs.Words.{wordsFor, stateOf, stateWord, atRest, shrinking as phase2, headerOf, flagOf, stateGood, odd, capacityTests, headerTests, topOf, bottomOf}
+use Rattle.rules.specs.Words.{wordsFor, stateOf, stateWord, atRest, shrinking as phase2, headerOf, flagOf, stateGood, odd, capacityTests, headerTests}
+use Rattle.rules.specs.Words.{topOf, bottomOf}
 use Rattle.rules.specs.Words.{interimOf, levelsInUse, slotAt, slotsIn, placeAt, placeOf, tokenWord, keyWord, spotOf, functionWord, placeWord, keyIn, recordIn}
 use Rattle.rules.specs.Words.{tokenOf, tokenNumber, isTaken, show, taken, bucketsOf, allBuckets, exponentInUse, unusedBuckets, slotsOf, slotsInUse}
 use Rattle.rules.specs.Words.{meant, meantOf, hide, takenOf}
@@ -158,7 +159,7 @@ unfolding productOf hashOf flatMap wordsFor stateOf stateWord atRest phase2 head
     placeWord keyIn recordIn tokenOf tokenNumber isTaken show hide takenOf meant taken meantOf hashesOf firstPlace secondPlace samePlace placesIn
     probes holds hitIn lookup takenIn freeSlot fewer emptier roomIn placing putStores clearStores placingStores updateStores turnedOf stateStores
     stepStores written takenSlots tokensTidy unusedEmpty placesOf inPlace orderlyTests sameKey twins sameRecord target finding headerGood listLong
-    flagClear changingTests queryTests recoverTests beginTests beginOf shrinkTests shrinkOf backTests backOf interimSlots interimItems interimBucket itemsFrom hasPlace stepItem stepTests
-    stepOf endTests endOf outcome changeResult queryResult createTests created createResult makeTests makeResult decimalOf lineOf digitsIn decimalText
-    readingOf endingOf answerTo tableAfter turnOf finishOf answersTo textOf outputTo
+    flagClear changingTests queryTests recoverTests beginTests beginOf shrinkTests shrinkOf backTests backOf interimSlots interimItems interimBucket
+    itemsFrom hasPlace stepItem stepTests stepOf endTests endOf outcome changeResult queryResult createTests created createResult makeTests makeResult
+    decimalOf lineOf digitsIn decimalText readingOf endingOf answerTo tableAfter turnOf finishOf answersTo textOf outputTo
 cases-computed = refl

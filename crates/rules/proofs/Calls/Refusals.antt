@@ -19,10 +19,12 @@ use Rattle.rules.specs.Stores.{Store, placingStores, begunOf, shrunkOf, 
 use Rattle.rules.specs.Soundness.{finding}
 use Rattle.rules.specs.Answers.{numberOf}
 use Rattle.rules.specs.Calls.{headerGood, listLong, flagClear, checked, changingTests, queryTests, recoverTests, Outcome, refused, listed}
-use Rattle.rules.specs.Calls.{placedBy, insertIn, updateIn, deleteIn, queryIn, beginTests, beginOf, shrinkTests, shrinkOf, backTests, backOf, itemsFrom, stepItem, stepIn, stepTests, stepOf}
+use Rattle.rules.specs.Calls.{placedBy, insertIn, updateIn, deleteIn, queryIn, beginTests, beginOf, shrinkTests, shrinkOf}
+use Rattle.rules.specs.Calls.{backTests, backOf, itemsFrom, stepItem, stepIn, stepTests, stepOf}
 use Rattle.rules.specs.Calls.{endTests, endOf, recoverOf, Call, query, insert, update, delete, begin, shrink, back, stepFrom, end, recover, outcome}
 use Rattle.rules.specs.NoPlace.{NoPlaceFor}
-use Rattle.rules.specs.Demands.{AtRest, Resizing, Held, InterimItem, None, InterimFrom, NoneHasPlace, OfNoKind, changingRefusals, refusals, FirstRefuses}
+use Rattle.rules.specs.Demands.{AtRest, Resizing, Held, InterimItem, None, InterimFrom, NoneHasPlace, OfNoKind, changingRefusals, refusals}
+use Rattle.rules.specs.Demands.{FirstRefuses}
 use Rattle.rules.specs.Demands.{RefusalsInOrder, HeaderWords, MayChange, badHeader, flagNotZero}
 use Rattle.rules.specs.declared.Slot.{Slot}
 use Rattle.rules.specs.declared.Record.{Record}
@@ -147,12 +149,14 @@ module _ (t : Table) where
 
   begin-refuses : ByFirst ((Resizing t, AlreadyResizing) ∷ (headerOf t .state .k ≡ headerOf t .c, AtCapacity) ∷ []) (beginOf (headerOf t))
   unfolding beginOf beginTests
-  begin-refuses = unless _ AlreadyResizing _ _ (AtRest t) rest-tells (when _ AtCapacity _ _ _ (tells-eq _ _) (accepted (stateStores (begunOf (headerOf t .state)))))
+  begin-refuses = unless _ AlreadyResizing _ _ (AtRest t) rest-tells
+      (when _ AtCapacity _ _ _ (tells-eq _ _) (accepted (stateStores (begunOf (headerOf t .state)))))
 
   shrink-refuses : ByFirst ((Resizing t, AlreadyResizing) ∷ (headerOf t .state .k < 2, TooSmall) ∷ []) (shrinkOf (headerOf t))
   unfolding shrinkOf shrinkTests
   shrink-refuses = unless _ AlreadyResizing _ _ (AtRest t) rest-tells
-      (by-test _ TooSmall _ _ (headerOf t .state .k < 2) (λ e l. omega (arith, leb-true 2 (headerOf t .state .k) e)) (leb-false 2 (headerOf t .state .k)) (accepted (stateStores (shrunkOf (headerOf t .state)))))
+      (by-test _ TooSmall _ _ (headerOf t .state .k < 2) (λ e l. omega (arith, leb-true 2 (headerOf t .state .k) e))
+      (leb-false 2 (headerOf t .state .k)) (accepted (stateStores (shrunkOf (headerOf t .state)))))
 
   back-refuses : ByFirst ((AtRest t, NotResizing) ∷ []) (backOf (headerOf t))
   unfolding backOf backTests
@@ -250,7 +254,8 @@ module _ (t : Table) (n : ℕ) where
     past-three may (inr (h, inr (l, inr (f, k)))) = k
 
     -- and what is refused by none of these comes after them
-    pub behind-three : ((r : Refusal) → o ≡ refused r → 3 < numberOf r) → FirstRefuses (changingRefusals t n ++ fs) o → MayChange t n × FirstRefuses fs o
+    pub behind-three : ((r : Refusal) → o ≡ refused r → 3 < numberOf r) → FirstRefuses (changingRefusals t n ++ fs) o
+        → MayChange t n × FirstRefuses fs o
     behind-three late (inl (bad, q)) = absurd (omega (arith, late _ q))
     behind-three late (inr (h, inl (short, q))) = absurd (omega (arith, late _ q))
     behind-three late (inr (h, inr (l, inl (set, q)))) = absurd (omega (arith, late _ q))

@@ -179,8 +179,8 @@ Paid t own u = (own + 10 * count u ≤ 10 * count t) × Resizing u
 drains-paid : (t u : Table) → Resizing t → Drains t u → Paid t 0 u
 drains-paid t u resizing s = (omega (arith, drains-count t u s), still-resizing t u (s .header) resizing)
 
-accepted-paid : (t : Table) (n : ℕ) → Resizing t → (q : Call) → (q ≡ end → ⊥) → (q ≡ back → ⊥) → (xs : List Store) → outcome t n q ≡ listed xs
-    → Paid t (ownStores q (length xs)) (made t xs)
+accepted-paid : (t : Table) (n : ℕ) → Resizing t → (q : Call) → (q ≡ end → ⊥) → (q ≡ back → ⊥) → (xs : List Store)
+    → outcome t n q ≡ listed xs → Paid t (ownStores q (length xs)) (made t xs)
 accepted-paid t n resizing (query key) other onward xs e = rw (storesAsWritten t n (query key) xs e) (omega arith, resizing)
 accepted-paid t n resizing (insert key r) other onward xs e = drains-paid t (made t xs) resizing (insert-drains t n resizing key r xs e)
 accepted-paid t n resizing (update key r) other onward xs e = drains-paid t (made t xs) resizing (update-kept t n resizing key r xs e)
@@ -190,7 +190,8 @@ accepted-paid t n resizing shrink other onward xs e = absurd (shrink-refused t n
 accepted-paid t n resizing back other onward xs e = absurd (onward refl)
 accepted-paid t n resizing (stepFrom b) other onward xs e =
     let s = step-taken t n resizing b xs e in
-    (omega (arith, storeNumbers t n (stepFrom b) xs e .1, steps-count t (made t xs) (s .0) (s .1)), still-resizing t (made t xs) (s .1 .drains .header) resizing)
+    let fewer = steps-count t (made t xs) (s .0) (s .1) in
+    (omega (arith, storeNumbers t n (stepFrom b) xs e .1, fewer), still-resizing t (made t xs) (s .1 .drains .header) resizing)
 accepted-paid t n resizing end other onward xs e = absurd (other refl)
 accepted-paid t n resizing recover other onward xs e = drains-paid t (made t xs) resizing (recover-drains t n resizing xs e)
 

@@ -115,7 +115,8 @@ module _ (t : Table) (b : ℕ) where
         record { item = item; start = omega (arith, interim-size t, c .0, leb-true b _ (r .1)) },
     λ u.
         let c = bucket-counted t x (u .item) in
-        in-select (λ (y : Slot). leb b (interimBucket (headerOf t .state) y)) (interim-item t x .1 (u .item)) (le-leb b _ (omega (arith, interim-size t, c .0, u .start))),
+        in-select (λ (y : Slot). leb b (interimBucket (headerOf t .state) y)) (interim-item t x .1 (u .item))
+        (le-leb b _ (omega (arith, interim-size t, c .0, u .start))),
   )
 
   from-ascends : Ascending Before (itemsFrom t (headerOf t) b)
