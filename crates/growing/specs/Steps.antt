@@ -1,4 +1,4 @@
--- What a growth step does behind the first tests: the answer and list of an outcome, with the placing and the bucket of the item found.
+-- What a step does behind the first tests: the answer and list of an outcome, with the placing and the bucket of the item found.
 -- Assumes nothing.
 use Prim.Native.Nat.{ℕ}
 use mathlib.Core.Path.{_≡_}

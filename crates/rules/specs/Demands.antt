@@ -526,9 +526,8 @@ GrowthBound = SpendsAtMost 20 begin
 abbrev pub ShrinkBound : Type 0
 ShrinkBound = SpendsAtMost 40 shrink
 
--- "A query looks at no more than four buckets, six while growing, and reports the number truly looked at"; request f): "six buckets in
--- either phase". The number is the position, in
--- the list of distinct probed buckets, of the bucket where it stopped, or that list's length
+-- "A query looks at no more than four buckets, six while growing, and reports the number truly looked at"; request f): "six buckets in either
+-- phase". The number is the position, in the list of distinct probed buckets, of the bucket where it stopped, or that list's length
 pub record StoppedAt (t : Table) (key : ℕ) (r : Record) (x : Spot) (n : ℕ) : Type 0 where
   pub slot : Slot
   pub stop : FirstHolder t key slot
