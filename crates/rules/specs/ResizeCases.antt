@@ -1,7 +1,7 @@
 -- Document 02, request f): cases of shrinking and turning back as one table under one statement, computed from the rules. Each row holds what the
 -- rules compute and what the request's sentences ask for. Tables and rows are those of `Examples`, made as a caller makes them. Both multipliers
--- are 4294967297, but for rows 39, 40 and 43: a key K has one place in a level of M buckets, the bucket K modulo M. With c = 2 bucket 0 is the level of one
--- bucket, with token word 9; buckets 1 and 2 are that of two, with token words 22 and 35; buckets 3 to 6 that of four: 48, 61, 74 and 87.
+-- are 4294967297, but for rows 39, 40, 43 and 51 to 53: a key K has one place in a level of M buckets, the bucket K modulo M. Bucket 0 is the level
+-- of one bucket, with token word 9; buckets 1 and 2 are that of two, with token words 22 and 35; buckets 3 to 6 that of four: 48, 61, 74 and 87.
 -- Assumes nothing.
 use Prim.Native.Nat.{ℕ, zero, suc}
 use mathlib.Core.Path.{_≡_, refl}
@@ -138,9 +138,11 @@ turns r u v w =
     ∷ row 27 (asks (madeAll w end) 4) (tells 0 (r 4 .function ∷ r 4 .place ∷ 1 ∷ 26 ∷ 0 ∷ []))
     ∷ refusing u v w
 
--- t is at rest, c = k = 3, and has two places for key 1 in a level of two buckets or more; u, the same, has c = 3 and k = 2, and is empty
-unfoldable pub looks : Table → Table → List Row
-looks t u =
+-- t and u are empty and at rest, with c = 3. t has k = 3, and two places for key 1 in a level of two buckets or more: the first is bucket 4 in the
+-- level of four, and bucket 8, with token word 113, in that of eight. u has k = 2, and one place for each key
+unfoldable pub looks : (ℕ → Record) → Table → Table → List Row
+looks r t u =
+    let stood = madeAll (madeAll t (insert 1 (r 1))) shrink in
     -- "six buckets in either phase", four at rest
     row 39 (asks t 1) (tells 5 (0 ∷ 0 ∷ 4 ∷ 0 ∷ 0 ∷ []))
     ∷ row 40 (asks (madeAll t shrink) 1) (tells 5 (0 ∷ 0 ∷ 6 ∷ 0 ∷ 0 ∷ []))
@@ -149,6 +151,10 @@ looks t u =
     ∷ row 42 (sees (set (madeAll u shrink) 100 1) recover) (refuses 12)
     -- the first of these levels is not in use with k = 2
     ∷ row 43 (sees (set (madeAll t shrink) 9 1) recover) (refuses 12)
+    -- "first place, then second if different", and "(tie: first place)": the old top is looked at fifth, and what goes to the new top goes there first
+    ∷ row 51 (asks stood 1) (tells 0 (r 1 .function ∷ r 1 .place ∷ 5 ∷ 114 ∷ 2 ∷ []))
+    ∷ row 52 (sees stood step) (lists ((62, 1) ∷ (63, r 1 .function) ∷ (64, r 1 .place) ∷ (61, 1) ∷ (113, 0) ∷ []))
+    ∷ row 53 (sees (madeAll t shrink) (insert 1 (r 1))) (lists ((62, 1) ∷ (63, r 1 .function) ∷ (64, r 1 .place) ∷ (61, 1) ∷ []))
     ∷ []
 
 -- t is `crowded r`, shrunk and four steps on
@@ -197,7 +203,7 @@ cases r =
     let t = resting r in
     let u = madeAll t shrink in
     shrinks r t u ++ (turns r u (madeAll u back) (afterSteps 3 u)
-    ++ (looks (createResult (replicate 204 7) 3 3 4294967297 8589934593 .1) (createResult (replicate 204 7) 3 2 4294967297 4294967297 .1)
+    ++ (looks r (createResult (replicate 204 7) 3 3 4294967297 8589934593 .1) (createResult (replicate 204 7) 3 2 4294967297 4294967297 .1)
     ++ (leaves r (afterSteps 4 (madeAll (crowded r) shrink)) ++ (spends (filled r) ++ ready r))))
 
 -- where this is unfolded every rule computes
