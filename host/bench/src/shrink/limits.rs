@@ -6,7 +6,7 @@ use crate::peers::TWIN;
 
 use super::Shrinks;
 
-/// The library's time at the largest capacity, as a multiple of the twin's. A growth is held to less.
+/// The library's time at the largest capacity, as a multiple of the twin's. A growth may take less.
 const MOST_TO_TWIN: f64 = 1.5;
 
 impl Shrinks {
