@@ -32,8 +32,8 @@ struct collector {
     bool persistent;
     uint64_t stores_made;
     uint64_t end_after; /* so many stores; 0 never */
-    uint64_t from;      /* the interim bucket from which a growth goes on; a hint, which only saves time */
-    bool stuck;         /* no item that a growth has left to move has a place, and nothing was deleted since */
+    uint64_t from;      /* the interim bucket from which a growth or a shrink goes on; a hint, which only saves time */
+    bool stuck;         /* no item that is left to move has a place, and nothing was deleted or turned back since */
 };
 
 /* ---- making stores ---- */
@@ -111,7 +111,7 @@ static uint64_t delete(struct collector *collector, uint64_t key)
     return make(collector, number, list, stores);
 }
 
-/* begin, end and recover are lent the same. After each of them a growth looks from the first bucket on. */
+/* begin, back, end and recover are lent the same. After each of them steps look from the first bucket on. */
 typedef uint64_t whole_table_call(const uint64_t *, size_t, uint64_t *, size_t, uint64_t *);
 
 static uint64_t change_whole(struct collector *collector, whole_table_call *call)
@@ -132,14 +132,14 @@ static uint64_t step_from(struct collector *collector, uint64_t from)
 }
 
 /*
- * One small part of a growth that is under way. The state is in the table, so that a growth goes on after a restart. The bucket is not: it
+ * One small part of a growth or a shrink that is under way. The state is in the table, so that it goes on after a restart. The bucket is not: it
  * keeps the next step from looking through all buckets that are empty already. Where nothing from there on can move, the first bucket comes
  * again, since a delete may have made room for an item that was passed.
  *
  * Refusal 6 says that no item left to move has a place now: the table stays as it is, and every other call goes on working. Such a step has
  * tried all these items, and only a delete can make room for one; so until then it is not tried again.
  */
-static uint64_t grow_on(struct collector *collector)
+static uint64_t resize_on(struct collector *collector)
 {
     if (collector->stuck)
         return RAGANSILS_NO_PLACE;
@@ -164,10 +164,21 @@ static void must(const char *what, uint64_t number)
     exit(1);
 }
 
-/* Room for one more: a growth goes on, or one begins. */
+/* This collector begins no shrink, but another program may have left one in the file: word 4 is k + 256 * phase, and phase 2 is shrinking. */
+static bool is_shrinking(const struct collector *collector)
+{
+    return collector->table[4] / 256 == 2;
+}
+
+/* Room for one more: a shrink turns back, since going on with it only fills the smaller levels; a growth goes on, or one begins. */
 static void make_room(struct collector *collector, struct counts *counts)
 {
-    uint64_t number = grow_on(collector);
+    if (is_shrinking(collector)) {
+        collector->stuck = false;
+        must("turning back", change_whole(collector, ragansils_back));
+        return;
+    }
+    uint64_t number = resize_on(collector);
     if (number == RAGANSILS_NOT_RESIZING) {
         number = change_whole(collector, ragansils_begin);
         counts->growths++;
@@ -190,8 +201,8 @@ static void learn(struct collector *collector, struct counts *counts, uint64_t k
     }
     must("insert", number);
     counts->inserted++;
-    /* An insert pays for one part of a growth: left to wait, the interim items would find the new top full. */
-    number = grow_on(collector);
+    /* An insert pays for one part of what is under way: left to wait, the interim items would find the new top full. */
+    number = resize_on(collector);
     if (number != RAGANSILS_NOT_RESIZING && number != RAGANSILS_NO_PLACE)
         must("growth", number);
 }
