@@ -191,6 +191,8 @@ uint64_t ragansils_shrink(const uint64_t *table, size_t words, uint64_t *list, s
  * Turns back: a table that shrinks grows, and one that grows shrinks, over the same three levels: 1 store. The map stays. Of a shrink the
  * interim level becomes the top again, with the slots that its steps have freed there, and the bottom the interim level; of a growth it is
  * the other way round. Steps and end then go on as ever. Turning back twice gives the state before. Refusals 1 to 3, 8.
+ *
+ * Which way a table goes, after a restart too, stands in its word 4: k + 256 * phase, with phase 0 at rest, 1 growing and 2 shrinking.
  */
 uint64_t ragansils_back(const uint64_t *table, size_t words, uint64_t *list, size_t list_words, uint64_t *stores);
 
