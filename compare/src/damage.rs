@@ -177,7 +177,7 @@ fn bad_state(random: &mut Random, words: &mut [u64]) {
         4 => 512,
         5 => 512 + c + random.below(2),
         6 => k + 768,
-        7 => k + (1 << random.pick(&[10, 16, 32, 63])),
+        7 => table.state.word() + (1 << random.pick(&[10, 16, 32, 63])),
         _ => random.any_word(),
     };
 }
