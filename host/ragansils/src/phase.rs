@@ -74,3 +74,18 @@ impl State {
         }
     }
 }
+
+#[cfg(test)]
+mod tests {
+    use super::*;
+
+    /// A wrong one would only cost time, in reading ahead, so that nothing else shows it.
+    #[test]
+    fn the_interim_level_is_a_quarter_of_the_top_or_twice_as_large() {
+        let exponents = [5, 256 + 5, 512 + 5, 256 + 1].map(|state| {
+            let state = State::of(&[1, 9, 1, 1, state]);
+            state.and_then(|state| state.interim_exponent())
+        });
+        assert_eq!(exponents, [None, Some(3), Some(6), None]);
+    }
+}

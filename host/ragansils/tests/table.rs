@@ -1,6 +1,6 @@
 //! A table over lent words: its stores, its refusals, how it grows and shrinks.
 
-use std::panic::{catch_unwind, AssertUnwindSafe};
+use std::panic::{catch_unwind, resume_unwind, AssertUnwindSafe};
 
 use ragansils::{
     calls, Creation, Key, OrdinaryMemory, Part, Phase, Record, Refusal, Step, Store, StoreList, Table,
@@ -128,7 +128,7 @@ fn cut(words: &mut [u64], kept: u64, change: impl FnOnce(&mut Table<&mut [u64], 
         made += 1;
         if made == kept {
             // No message, unlike panic!: this one is meant.
-            std::panic::resume_unwind(Box::new("cut"));
+            resume_unwind(Box::new("cut"));
         }
     };
     let run = || change(&mut Table::open(words, &mut hook as Hook).unwrap());
@@ -271,6 +271,31 @@ fn a_part_of_the_other_kind_turns_back() {
     // The table that was at the beginning, but for where its items stand.
     assert_eq!(map_of(table.words()), map_of(&filled_with([1, 3, 5, 7, 9, 11])));
     assert_eq!(table.words()[STATE], 1);
+}
+
+/// The platform's act panics in the middle of an update, and the table lives on.
+#[test]
+fn phase_and_parts_wait_for_the_recovery_of_a_cut_update() {
+    let growing = after(filled_with([1, 3, 5, 7, 9]), calls::begin, None);
+    let shrinking = after(growing.clone(), calls::back, None);
+    for (words, phase) in [(growing, Phase::Growing), (shrinking, Phase::Shrinking)] {
+        let mut stores = 0;
+        let cut_after_five = |_: &u64| {
+            stores += 1;
+            if stores == 5 {
+                // No message, unlike panic!: this one is meant.
+                resume_unwind(Box::new("cut"));
+            }
+        };
+        let mut table = Table::open(words, cut_after_five).unwrap();
+        assert!(catch_unwind(AssertUnwindSafe(|| table.update(3.into(), NEW))).is_err());
+        let cut = table.words().to_vec();
+        assert_eq!(table.phase(), Err(Refusal::FlagSet));
+        let parts = [table.grow_on(), table.shrink_on(), table.back().map(|_| Part::Turned)];
+        assert_eq!((parts, table.words()), ([Err(Refusal::FlagSet); 3], cut.as_slice()));
+        table.recover().unwrap();
+        assert_eq!(table.phase(), Ok(phase));
+    }
 }
 
 #[test]

@@ -443,6 +443,7 @@ fn what_changes_the_interim_level_begins_at_the_first_bucket() {
         );
     }
     assert_eq!((blocked.table.end(), blocked.table.interim_hint), (Err(Refusal::InterimTaken), hint));
+    assert_eq!((blocked.table.shrink_on(), blocked.table.interim_hint), (Ok(Part::Turned), 0));
 }
 
 #[test]
