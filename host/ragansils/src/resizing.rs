@@ -35,7 +35,7 @@ impl<W: AsRef<[u64]> + AsMut<[u64]>, P: Platform> Table<W, P> {
     ///
     /// A part that moves an item looks for one from the bucket on where the last part found one. The words do not hold that bucket, and
     /// each opening begins at the first. So the time of a whole growth from N top buckets rises with N: on an AMD EPYC, begun at load 0.8, it
-    /// took 0.029 ms for N = 1,024, 0.56 ms for 16,384, 7.6 ms for 131,072 and 31 ms for 524,288. Where nothing from there on can move, the
+    /// took 0.027 ms for N = 1,024, 0.53 ms for 16,384, 5.9 ms for 131,072 and 26 ms for 524,288. Where nothing from there on can move, the
     /// part looks once more from the first bucket on: a delete may have made room for an item that was passed.
     ///
     /// Refusals: `AtCapacity` where the table cannot grow any more; `NoPlace` where items are left in the interim level and none of them
