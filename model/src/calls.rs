@@ -1,6 +1,7 @@
 //! The fourteen calls over raw words. A changing call only reads the table and
 //! lists its stores; `make` makes them.
 
+use crate::form::Form;
 use crate::layout::{key_of, table_words, word, Level, Slot, LEAST_LIST_WORDS};
 use crate::layout::{ADDRESS_LIMIT, LARGEST_DEPTH, WORDS_PER_CHAIN_RECORD};
 use crate::placing::{find_placing, Placing};
@@ -14,14 +15,15 @@ type Store = (usize, u64);
 type Plan = Result<Vec<Store>, Refusal>;
 
 /// Zeroes all words and writes the header of an empty table at rest.
-pub fn create(table: &mut [u64], c: u64, k: u64, mul1: u64, mul2: u64) -> u64 {
+pub fn create(table: &mut [u64], form: u64, c: u64, k: u64, mul1: u64, mul2: u64) -> u64 {
+    let form_good = Form::from_word(form).is_some();
     let length_good = table_words(c) == Some(table.len());
     let multipliers_good = mul1 % 2 == 1 && mul2 % 2 == 1;
-    if !length_good || !(1..=c).contains(&k) || !multipliers_good {
+    if !form_good || !length_good || !(1..=c).contains(&k) || !multipliers_good {
         return Refusal::BadCreation.number();
     }
     table.fill(0);
-    table[word::FORM] = 1;
+    table[word::FORM] = form;
     table[word::CAPACITY] = c;
     table[word::MULTIPLIER_1] = mul1;
     table[word::MULTIPLIER_2] = mul2;
@@ -260,18 +262,21 @@ fn placing_stores(table: &Table, record: [u64; 3]) -> Plan {
         Placing::Move { from, to } => {
             let mut stores = item_stores(table, to, table.record(from));
             stores.push(token_cleared(table, from));
-            // The two slots are in different buckets, so the old bucket's last
-            // token is the one it has now.
+            // The two slots are in different buckets. So showing the new item over the word that stands there now gives
+            // the same as over the word just listed: only this slot's own bits differ, and showing sets them all.
             stores.extend(item_stores(table, from, record));
             stores
         }
     })
 }
 
-/// A record's three words, then the token that makes it valid.
+/// A record's three words, then the token that makes it valid. Its tag comes from its key, also where the item was moved
+/// and stood under another tag.
 fn item_stores(table: &Table, slot: Slot, record: [u64; 3]) -> Vec<Store> {
+    let [key, ..] = record;
     let mut stores = record_stores(slot, record);
-    stores.push((slot.token_word(), table.token(slot.bucket) | slot.token_bit()));
+    let token = table.token_as_read(slot.bucket).showing(slot, table.tag_of(key));
+    stores.push((slot.token_word(), token.word()));
     stores
 }
 
@@ -280,14 +285,15 @@ fn record_stores(slot: Slot, [key, function, place]: [u64; 3]) -> Vec<Store> {
 }
 
 fn token_cleared(table: &Table, slot: Slot) -> Store {
-    (slot.token_word(), table.token(slot.bucket) & !slot.token_bit())
+    (slot.token_word(), table.token_as_read(slot.bucket).hiding(slot).word())
 }
 
 /// The new record goes to a free slot of the same bucket; one token store changes over.
 fn update_beside(table: &Table, old: Slot, free: Slot, record: [u64; 3]) -> Vec<Store> {
+    let [key, ..] = record;
     let mut stores = record_stores(free, record);
-    let token = (table.token(old.bucket) | free.token_bit()) & !old.token_bit();
-    stores.push((old.token_word(), token));
+    let token = table.token_as_read(old.bucket).showing(free, table.tag_of(key)).hiding(old);
+    stores.push((old.token_word(), token.word()));
     stores
 }
 

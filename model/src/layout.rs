@@ -86,7 +86,7 @@ impl LevelName {
     }
 }
 
-/// One slot of one bucket.
+/// One slot of one bucket. `token` tells which bits of the token word are its own.
 #[derive(Clone, Copy, Debug, PartialEq, Eq)]
 pub struct Slot {
     pub bucket: usize,
@@ -100,10 +100,6 @@ impl Slot {
 
     pub fn token_word(self) -> usize {
         token_word(self.bucket)
-    }
-
-    pub fn token_bit(self) -> u64 {
-        1 << self.number
     }
 
     pub fn key_word(self) -> usize {

@@ -1,11 +1,15 @@
 //! An independent model of the level hashing table of document 01, the paper that fixes the table and its calls,
-//! with five requests of document 02: a), the inlined callers of an address, b), the growth step that passes
-//! over items without a place, d), the sample ledger, e), where the answer stood, and f), shrinking and turning back;
-//! and with a request of its own that comes after b), the step that goes on from a bucket.
+//! with six requests of document 02: a), the inlined callers of an address, b), the growth step that passes
+//! over items without a place, d), the sample ledger, e), where the answer stood, f), shrinking and turning back, and
+//! g), form 2, with a better spread and a tag for each slot; and with a request of its own that comes after b), the step
+//! that goes on from a bucket.
 //!
 //! From the bottom up:
 //! - `layout`: where words, buckets, slots and levels stand;
 //! - `refusal`: the refusal numbers;
+//! - `form`: the two forms of a table;
+//! - `hashing`: what a key hashes to;
+//! - `token`: what a token word is;
 //! - `state`: the state word, and how it goes on when a table is resized;
 //! - `table`: reading a table whose header is good;
 //! - `placing`: where a new item would go;
@@ -23,6 +27,8 @@
 
 mod calls;
 mod event;
+mod form;
+mod hashing;
 mod layout;
 mod ledger;
 mod placing;
@@ -33,6 +39,7 @@ mod script_events;
 mod script_lines;
 mod state;
 mod table;
+mod token;
 
 pub use calls::{
     back, begin, chain, create, delete, end, insert, make, query, recover, shrink, step, step_from, update,

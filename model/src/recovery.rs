@@ -15,6 +15,7 @@ pub enum Kind {
 }
 
 pub fn judge(table: &Table) -> Option<Kind> {
+    // "the words are tested before copies are looked for": of two copies with different tags one has a wrong tag.
     if !untidy_buckets(table).is_empty() || !misplaced_items(table).is_empty() {
         return None;
     }
@@ -27,12 +28,16 @@ pub fn judge(table: &Table) -> Option<Kind> {
     }
 }
 
-/// The buckets whose token word is above 15, or not 0 in a level not in use.
+/// The buckets whose whole token word is not what their taken slots and keys say, or not 0 in a level not in use. In
+/// form 1 the first is the same as "above 15".
 pub fn untidy_buckets(table: &Table) -> Vec<usize> {
     let in_use = table.levels_in_use();
     let untidy = |level: Level| {
-        let largest = if in_use.contains(&level) { 15 } else { 0 };
-        level.buckets().filter(move |&bucket| table.raw_token(bucket) > largest)
+        let is_in_use = in_use.contains(&level);
+        level.buckets().filter(move |&bucket| {
+            let meant = if is_in_use { table.meant_token(bucket) } else { 0 };
+            table.raw_token(bucket) != meant
+        })
     };
     table.all_levels().into_iter().flat_map(untidy).collect()
 }

@@ -5,6 +5,7 @@ use std::io::BufRead;
 
 use crate::calls;
 use crate::event::Event;
+use crate::form::Form;
 use crate::layout::{table_words, LEAST_LIST_WORDS};
 use crate::refusal::{Refusal, SUCCESS};
 use crate::script_lines::{value_of, Line, Lines, Stop};
@@ -63,7 +64,8 @@ fn make_table(cap: u64, top: u64, mul1: u64, mul2: u64) -> (u64, Vec<u64>) {
         return (Refusal::BadCreation.number(), vec![]);
     }
     let mut table = vec![0; table_words(cap).unwrap_or(0)];
-    (calls::create(&mut table, cap, top, mul1, mul2), table)
+    // "scripts make form 1".
+    (calls::create(&mut table, Form::One.word(), cap, top, mul1, mul2), table)
 }
 
 /// What a line that begins an event names; none for any other line.

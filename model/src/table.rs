@@ -3,12 +3,12 @@
 
 use std::iter;
 
+use crate::form::Form;
+use crate::hashing::Hashing;
 use crate::layout::{table_words, token_word, word, Level, LevelName, Slot};
 use crate::refusal::Refusal;
 use crate::state::State;
-
-/// Token words are read modulo this.
-const TOKEN_MODULUS: u64 = 16;
+use crate::token::TokenWord;
 
 /// Where a key stood.
 #[derive(Clone, Copy, Debug, PartialEq, Eq)]
@@ -27,6 +27,7 @@ pub struct Search {
 #[derive(Clone, Copy)]
 pub struct Table<'a> {
     words: &'a [u64],
+    form: Form,
     pub state: State,
 }
 
@@ -38,16 +39,21 @@ impl<'a> Table<'a> {
             return Err(Refusal::BadTable);
         }
         let odd = |multiplier: u64| multiplier % 2 == 1;
-        let multipliers_good = odd(words[word::MULTIPLIER_1]) && odd(words[word::MULTIPLIER_2]);
-        if words[word::FORM] != 1 || !multipliers_good {
+        if !odd(words[word::MULTIPLIER_1]) || !odd(words[word::MULTIPLIER_2]) {
             return Err(Refusal::BadTable);
         }
+        let form = Form::from_word(words[word::FORM]).ok_or(Refusal::BadTable)?;
         let state = State::from_word(words[word::STATE], c).ok_or(Refusal::BadTable)?;
-        Ok(Table { words, state })
+        Ok(Table { words, form, state })
     }
 
     pub fn word(&self, index: usize) -> u64 {
         self.words[index]
+    }
+
+    /// 1 or 2.
+    pub fn form(&self) -> u64 {
+        self.form.word()
     }
 
     pub fn capacity(&self) -> u64 {
@@ -91,12 +97,35 @@ impl<'a> Table<'a> {
     }
 
     /// The token word as calls read it.
+    pub(crate) fn token_as_read(&self, bucket: usize) -> TokenWord {
+        TokenWord::read(self.form, self.raw_token(bucket))
+    }
+
+    /// The bits that tell which slots are taken: below 16 in either form.
     pub fn token(&self, bucket: usize) -> u64 {
-        self.raw_token(bucket) % TOKEN_MODULUS
+        self.token_as_read(bucket).taken_bits()
     }
 
     pub fn is_taken(&self, slot: Slot) -> bool {
-        self.token(slot.bucket) & slot.token_bit() != 0
+        self.token_as_read(slot.bucket).is_taken(slot)
+    }
+
+    /// The tag that a key has in this table. 0 for every key in form 1.
+    pub fn tag_of(&self, key: u64) -> u64 {
+        self.hashing().tag(key)
+    }
+
+    /// The eight bits that stand in the place of the slot's tag, also where the slot is free. 0 in form 1, where calls
+    /// read no more than the token bits.
+    pub fn tag_in(&self, slot: Slot) -> u64 {
+        self.token_as_read(slot.bucket).tag(slot)
+    }
+
+    /// What the token word should be by the bucket's taken slots and their keys. Whether its level is in use is not
+    /// asked here.
+    pub fn meant_token(&self, bucket: usize) -> u64 {
+        let taken = Slot::all_of(bucket).filter(|&slot| self.is_taken(slot));
+        taken.fold(TokenWord::EMPTY, |token, slot| token.showing(slot, self.tag_of(self.key(slot)))).word()
     }
 
     pub fn taken_count(&self, bucket: usize) -> u32 {
@@ -122,9 +151,15 @@ impl<'a> Table<'a> {
     }
 
     fn each_place(&self, key: u64, level: Level) -> impl Iterator<Item = usize> {
-        let first = bucket_of(key, self.words[word::MULTIPLIER_1], level);
-        let second = bucket_of(key, self.words[word::MULTIPLIER_2], level);
+        // A hash is below 2^32, so that it fits the index type.
+        let bucket_of = |hash: u64| level.buckets().start + hash as usize % level.size;
+        let [first, second] = self.hashing().hashes(key).map(bucket_of);
         iter::once(first).chain((second != first).then_some(second))
+    }
+
+    fn hashing(&self) -> Hashing {
+        let multipliers = [word::MULTIPLIER_1, word::MULTIPLIER_2].map(|index| self.words[index]);
+        Hashing { form: self.form, multipliers }
     }
 
     /// The taken slots of some levels, by level as given, then bucket and slot ascending.
@@ -133,24 +168,20 @@ impl<'a> Table<'a> {
         buckets.flat_map(Slot::all_of).filter(|&slot| self.is_taken(slot)).collect()
     }
 
-    /// Looks for a key in the probe order. Every call that asks for a key rests on this one search.
+    /// Looks for a key in the probe order, in the taken slots whose tag fits. Every call that asks for a key rests on
+    /// this one search. So a wrong tag hides a key from them all. In form 1 every tag fits, as both sides are 0.
     pub fn search(&self, key: u64) -> Search {
+        let tag = self.tag_of(key);
+        let fits = |slot: Slot| self.is_taken(slot) && self.tag_in(slot) == tag;
         let mut probes = 0;
         for (name, level) in self.each_level_in_use() {
             for bucket in self.each_place(key, level) {
                 probes += 1;
-                let holds_key = |slot: &Slot| self.is_taken(*slot) && self.key(*slot) == key;
-                if let Some(slot) = Slot::all_of(bucket).find(holds_key) {
+                if let Some(slot) = Slot::all_of(bucket).find(|&slot| fits(slot) && self.key(slot) == key) {
                     return Search { found: Some(Found { level: name, slot }), probes };
                 }
             }
         }
         Search { found: None, probes }
     }
-}
-
-fn bucket_of(key: u64, multiplier: u64, level: Level) -> usize {
-    let hash = key.wrapping_mul(multiplier) >> 32;
-    // The hash is below 2^32, so that it fits the index type.
-    level.buckets().start + hash as usize % level.size
 }

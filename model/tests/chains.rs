@@ -231,7 +231,7 @@ fn one_then_three_then_sixteen_then_fifteen_then_five() {
         every_chain_is_refused(&story, 3);
     }
     // 1 before all, with the flag set and without.
-    let bad_words = [(word::FORM, 2), (word::CAPACITY, 3), (word::MULTIPLIER_1, 2), (word::STATE, 0)];
+    let bad_words = [(word::FORM, 3), (word::CAPACITY, 3), (word::MULTIPLIER_1, 2), (word::STATE, 0)];
     for (index, bad_word) in bad_words {
         let mut story = Story { table: story.table.clone() };
         story.table[index] = bad_word;

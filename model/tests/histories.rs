@@ -1,5 +1,5 @@
-//! Whole histories against a plain map: every changing call in every phase, cut anywhere, with recoveries that are cut
-//! too.
+//! Whole histories against a plain map, in both forms: every changing call in every phase, cut anywhere, with recoveries
+//! that are cut too.
 
 mod common;
 use common::resizing::*;
@@ -84,13 +84,13 @@ struct History {
 }
 
 impl History {
-    fn begin_with(tally: Tally, mut garbage: impl FnMut() -> u64) -> History {
+    fn begin_with(form: u64, tally: Tally, mut garbage: impl FnMut() -> u64) -> History {
         let c = 1 + garbage() % 4;
         let k = 1 + garbage() % c;
         let mul1 = garbage() | 1;
         let mul2 = if garbage() % 4 == 0 { mul1 } else { garbage() | 1 };
         let keys = (0..5 << c).map(|_| garbage()).collect();
-        History { story: Story::with(c, k, mul1, mul2), map: Map::new(), keys, tally }
+        History { story: Story::in_form(form, c, k, mul1, mul2), map: Map::new(), keys, tally }
     }
 
     fn perform(&mut self, event: Event, mut garbage: impl FnMut() -> u64) {
@@ -130,10 +130,12 @@ impl History {
     /// The table is sound, and queries answer as the map does.
     fn assert_answers(&self) {
         assert_eq!(self.story.list(Event::Recover), (SUCCESS, vec![]));
+        assert!(by_hand::all_tokens_are_meant(&self.story.table));
         let most_probes = [4, 6, 6][phase_of(&self.story.table)];
         for key in &self.keys {
             let (number, [function, place, probes, ..]) = self.story.query(*key);
             assert!(probes <= most_probes);
+            assert_eq!(self.story.query(*key), by_hand::query_reading_every_slot(&self.story.table, *key));
             match self.map.get(key) {
                 Some(record) => assert_eq!((number, [function, place]), (SUCCESS, *record)),
                 None => assert_eq!((number, [function, place]), (5, [0, 0])),
@@ -151,12 +153,11 @@ fn recover_with_cuts(story: &mut Story, mut garbage: impl FnMut() -> u64) {
     assert_eq!(story.list(Event::Recover), (SUCCESS, vec![]));
 }
 
-#[test]
-fn histories_with_cuts_are_those_of_a_plain_map() {
+fn histories_are_those_of_a_plain_map(form: u64) {
     let mut garbage = garbage_words();
     let mut tally = Tally::default();
     for _ in 0..400 {
-        let mut history = History::begin_with(tally, &mut garbage);
+        let mut history = History::begin_with(form, tally, &mut garbage);
         for _ in 0..250 {
             let event = any_event(&history.keys, &mut garbage);
             history.perform(event, &mut garbage);
@@ -165,6 +166,16 @@ fn histories_with_cuts_are_those_of_a_plain_map() {
         tally = history.tally;
     }
     assert_enough_happened(&tally);
+}
+
+#[test]
+fn histories_with_cuts_in_form_1() {
+    histories_are_those_of_a_plain_map(1);
+}
+
+#[test]
+fn histories_with_cuts_in_form_2() {
+    histories_are_those_of_a_plain_map(2);
 }
 
 /// Each change was accepted in each phase in which it can be, each refusal given, and each longer list cut.
@@ -193,9 +204,9 @@ fn assert_enough_happened(tally: &Tally) {
 // ---- Every cut of every change, and every cut of its recovery.
 
 /// A sound table in any phase.
-fn any_sound_table(round: u64, mut garbage: impl FnMut() -> u64) -> Story {
-    let c = 2 + round % 2;
-    let mut story = crowded_table(BOTH_WAYS[round as usize / 2 % 2], c, round % 3 == 0, &mut garbage);
+fn any_sound_table(form: u64, round: u64, mut garbage: impl FnMut() -> u64) -> Story {
+    let (way, c) = (BOTH_WAYS[round as usize / 2 % 2], 2 + round % 2);
+    let mut story = crowded_table_in(form, way, c, round % 3 == 0, &mut garbage);
     if round % 5 == 0 {
         story.whole(Event::Back);
     }
@@ -247,12 +258,11 @@ fn cut_everywhere(story: &Story, event: Event) {
     }
 }
 
-#[test]
-fn every_cut_of_every_change_leaves_the_map_before_or_after() {
+fn every_cut_leaves_the_map_before_or_after(form: u64) {
     let mut garbage = garbage_words();
     let mut accepted = [[0; 9]; 3];
     for round in 0..420 {
-        let story = any_sound_table(round, &mut garbage);
+        let story = any_sound_table(form, round, &mut garbage);
         for event in events_on(&story.table, &mut garbage) {
             if story.list(event).0 == SUCCESS {
                 cut_everywhere(&story, event);
@@ -266,10 +276,16 @@ fn every_cut_of_every_change_leaves_the_map_before_or_after() {
 }
 
 #[test]
+fn every_cut_of_every_change_in_both_forms() {
+    BOTH_FORMS.into_iter().for_each(every_cut_leaves_the_map_before_or_after);
+}
+
+#[test]
 fn calls_that_store_a_state_change_no_other_word_and_keep_the_map() {
     let mut garbage = garbage_words();
     for round in 0..400 {
-        let story = any_sound_table(round, &mut garbage);
+        let form = BOTH_FORMS[round as usize / 4 % 2];
+        let story = any_sound_table(form, round, &mut garbage);
         for event in [Event::Begin, Event::Shrink, Event::Back, Event::End] {
             let mut changed = Story { table: story.table.clone() };
             if changed.list(event).0 != SUCCESS {

@@ -165,7 +165,8 @@ fn garbage_is_always_answered() {
         let mut table: Vec<u64> = (0..100).map(|_| garbage()).collect();
         if round % 4 != 0 {
             let state = [1, 2, 258, 513][garbage() as usize % 4];
-            table[..6].copy_from_slice(&[1, 2, garbage() | 1, garbage() | 1, state, 0]);
+            let form = BOTH_FORMS[round % 2];
+            table[..6].copy_from_slice(&[form, 2, garbage() | 1, garbage() | 1, state, 0]);
         }
         let key = garbage();
         query(&table, key);

@@ -34,7 +34,7 @@ fn every_call_refuses_with_1(table: &[u64]) {
 #[test]
 fn one_for_bad_words() {
     let bad_words: [(usize, &[u64]); 5] = [
-        (word::FORM, &[0, 2, u64::MAX]),
+        (word::FORM, &[0, 3, 1 << 63, u64::MAX]),
         (word::CAPACITY, &[0, 1, 3, 21, 64, u64::MAX]),
         (word::MULTIPLIER_1, &[0, 2, u64::MAX - 1]),
         (word::MULTIPLIER_2, &[0, 2, u64::MAX - 1]),
@@ -122,26 +122,32 @@ fn growth_refusals() {
 
 #[test]
 fn thirteen_changes_nothing() {
-    let good = |c, k, mul1, mul2, words: usize| {
+    let good = |form, c, k, mul1, mul2, words: usize| {
         let mut table = vec![UNTOUCHED; words];
-        let number = create(&mut table, c, k, mul1, mul2);
+        let number = create(&mut table, form, c, k, mul1, mul2);
         let unchanged = table.iter().all(|&word| word == UNTOUCHED);
         assert_eq!(unchanged, number == 13);
+        assert!(unchanged || table[word::FORM] == form);
         number == 0
     };
-    assert!(good(1, 1, 1, 1, 48));
-    assert!(good(2, 2, u64::MAX, 3, 100));
-    assert!(!good(0, 0, 1, 1, 22));
-    assert!(!good(0, 1, 1, 1, 22));
-    assert!(!good(21, 1, 1, 1, 48));
-    assert!(!good(u64::MAX, 1, 1, 1, 48));
-    assert!(!good(2, 0, 1, 1, 100));
-    assert!(!good(2, 3, 1, 1, 100));
-    assert!(!good(2, 1, 2, 1, 100));
-    assert!(!good(2, 1, 1, 0, 100));
-    assert!(!good(2, 1, 1, 1, 99));
-    assert!(!good(2, 1, 1, 1, 101));
-    assert!(!good(2, 1, 1, 1, 0));
+    for form in BOTH_FORMS {
+        assert!(good(form, 1, 1, 1, 1, 48));
+        assert!(good(form, 2, 2, u64::MAX, 3, 100));
+        assert!(!good(form, 0, 0, 1, 1, 22));
+        assert!(!good(form, 0, 1, 1, 1, 22));
+        assert!(!good(form, 21, 1, 1, 1, 48));
+        assert!(!good(form, u64::MAX, 1, 1, 1, 48));
+        assert!(!good(form, 2, 0, 1, 1, 100));
+        assert!(!good(form, 2, 3, 1, 1, 100));
+        assert!(!good(form, 2, 1, 2, 1, 100));
+        assert!(!good(form, 2, 1, 1, 0, 100));
+        assert!(!good(form, 2, 1, 1, 1, 99));
+        assert!(!good(form, 2, 1, 1, 1, 101));
+        assert!(!good(form, 2, 1, 1, 1, 0));
+    }
+    for form in [0, 3, 256 + 1, (1 << 32) + 2, 1 << 63, u64::MAX] {
+        assert!(!good(form, 2, 1, 1, 1, 100));
+    }
 }
 
 #[test]

@@ -137,7 +137,7 @@ fn at_rest_top_and_bottom_are_told_and_no_interim_level() {
 fn one_tells_nothing_of_a_key_that_stands_there() {
     for way in BOTH_WAYS {
         let bad_words = [
-            (word::FORM, 2),
+            (word::FORM, 3),
             (word::CAPACITY, 4),
             (word::MULTIPLIER_1, 2),
             (word::MULTIPLIER_2, 0),

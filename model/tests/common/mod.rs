@@ -1,6 +1,7 @@
 //! A table that events are made on, as the tests tell their stories.
 #![allow(dead_code)] // each test file uses its own part
 
+pub mod by_hand;
 pub mod resizing;
 
 use ragansils_model::*;
@@ -8,6 +9,8 @@ use ragansils_model::*;
 /// The multipliers of the marked examples.
 pub const MARKED_1: u64 = 4294967297;
 pub const MARKED_2: u64 = 12884901889;
+
+pub const BOTH_FORMS: [u64; 2] = [1, 2];
 
 /// A list word no call writes, to see what is left alone.
 pub const UNTOUCHED: u64 = 0xdead_beef;
@@ -19,12 +22,21 @@ pub struct Story {
 impl Story {
     /// The table of the marked examples: c = 2, k = 1.
     pub fn marked() -> Story {
-        Story::with(2, 1, MARKED_1, MARKED_2)
+        Story::marked_in(1)
     }
 
+    pub fn marked_in(form: u64) -> Story {
+        Story::in_form(form, 2, 1, MARKED_1, MARKED_2)
+    }
+
+    /// A table of form 1.
     pub fn with(c: u64, k: u64, mul1: u64, mul2: u64) -> Story {
+        Story::in_form(1, c, k, mul1, mul2)
+    }
+
+    pub fn in_form(form: u64, c: u64, k: u64, mul1: u64, mul2: u64) -> Story {
         let mut table = vec![UNTOUCHED; table_words(c).unwrap()];
-        assert_eq!(create(&mut table, c, k, mul1, mul2), SUCCESS);
+        assert_eq!(create(&mut table, form, c, k, mul1, mul2), SUCCESS);
         Story { table }
     }
 

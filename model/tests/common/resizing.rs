@@ -129,21 +129,29 @@ pub fn garbage_table(way: Way, free: u64, interim_empty: bool, mut garbage: impl
     Story { table }
 }
 
-/// A sound table of capacity exponent `c`, 2 or more, that grows to its last level or shrinks from it. With one place
-/// for each key many items are stuck.
-pub fn crowded_table(way: Way, c: u64, one_place: bool, mut garbage: impl FnMut() -> u64) -> Story {
+/// A sound table of form 1 and capacity exponent `c`, 2 or more, that grows to its last level or shrinks from it. With
+/// one place for each key many items are stuck.
+pub fn crowded_table(way: Way, c: u64, one_place: bool, garbage: impl FnMut() -> u64) -> Story {
+    crowded_table_in(1, way, c, one_place, garbage)
+}
+
+pub fn crowded_table_in(
+    form: u64,
+    way: Way,
+    c: u64,
+    one_place: bool,
+    mut garbage: impl FnMut() -> u64,
+) -> Story {
     let mul1 = garbage() | 1;
     let mul2 = if one_place { mul1 } else { garbage() | 1 };
-    let multipliers = [mul1, mul2];
     match way {
-        Way::Growth => crowded_growth(c, multipliers, &mut garbage),
-        Way::Shrink => crowded_shrink(c, multipliers, &mut garbage),
+        Way::Growth => crowded_growth(Story::in_form(form, c, c - 1, mul1, mul2), c, &mut garbage),
+        Way::Shrink => crowded_shrink(Story::in_form(form, c, c, mul1, mul2), c, &mut garbage),
     }
 }
 
 /// It was filled at rest with as many keys as find a place, and while growing with some more.
-fn crowded_growth(c: u64, [mul1, mul2]: [u64; 2], mut garbage: impl FnMut() -> u64) -> Story {
-    let mut story = Story::with(c, c - 1, mul1, mul2);
+fn crowded_growth(mut story: Story, c: u64, mut garbage: impl FnMut() -> u64) -> Story {
     // At rest there are 3 slots for each bucket of the last level, and that level has 4 in each bucket.
     try_inserts(&mut story, 6 << c, &mut garbage);
     story.whole(Event::Begin);
@@ -154,8 +162,7 @@ fn crowded_growth(c: u64, [mul1, mul2]: [u64; 2], mut garbage: impl FnMut() -> u
 
 /// It was filled at rest with any load, and while shrinking with some more. Steps were made and items deleted, so that
 /// few slots of top and bottom are free: only then are moves needed.
-fn crowded_shrink(c: u64, [mul1, mul2]: [u64; 2], mut garbage: impl FnMut() -> u64) -> Story {
-    let mut story = Story::with(c, c, mul1, mul2);
+fn crowded_shrink(mut story: Story, c: u64, mut garbage: impl FnMut() -> u64) -> Story {
     // At rest there are 6 slots for each bucket of the last level, and 3 are left for all items after the shrink.
     let tries = (1 << c) + garbage() % (5 << c);
     try_inserts(&mut story, tries, &mut garbage);
@@ -200,11 +207,12 @@ pub fn interim_size(table: &[u64]) -> u64 {
     interim_buckets(table).len() as u64
 }
 
-/// Clears the part of the tokens that calls read, in some interim buckets, counted from 0 in the level.
+/// Clears the token bits, and in form 2 the tags, in some interim buckets, counted from 0 in the level.
 pub fn clear_interim(table: &mut [u64], numbers: Range<usize>) {
     let first = interim_buckets(table).start;
+    let own_bits_of_slots = if table[0] == 2 { 0xff_ffff_ff0f } else { 15 };
     for number in numbers {
-        table[9 + 13 * (first + number)] &= !15;
+        table[9 + 13 * (first + number)] &= !own_bits_of_slots;
     }
 }
 
@@ -259,7 +267,8 @@ pub fn step_told_by_inserts(table: &[u64], from: u64) -> Told {
     for item in interim_items(table).into_iter().filter(|item| item.bucket >= from) {
         let (number, mut stores) = without_interim.list(insert_of(table, item));
         if number == SUCCESS {
-            stores.push((item.token_word as u64, table[item.token_word] % 16 - (1 << item.slot)));
+            let bucket = (item.token_word - 9) / 13;
+            stores.push((item.token_word as u64, by_hand::token_without(table, bucket, item.slot)));
             return Told { number, bucket: item.bucket, stores, passed_over };
         }
         assert_eq!(number, 6);
