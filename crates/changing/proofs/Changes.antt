@@ -1,14 +1,17 @@
 -- What insert, update and delete do behind the first tests.
 -- Assumes nothing.
 use Prim.Native.Nat.{ℕ, _+_, _≤_}
-use mathlib.Core.Path.{_≡_, refl}
+use mathlib.Core.Path.{_≡_, refl, ap}
+use mathlib.Core.Bool.{true, false}
 use mathlib.Core.List.{List, [], _∷_}
 use mathlib.Core.Option.{Option·map}
 use native.Mathlib.Omega.{arith}
 use denote.Enum.Declared.{tagOf}
 use types.Run.{OneOf}
 use Rattle.rules.specs.Words.{Table, placeOf, tokenOf, hide}
-use Rattle.rules.specs.Places.{lookup}
+use Rattle.rules.specs.Forms.{tagOf as keyTag}
+use Rattle.rules.specs.Places.{hashesOf, lookup}
+use Rattle.rules.specs.declared.Hashes.{Hashes}
 use Rattle.rules.specs.Placing.{freeSlot, placing}
 use Rattle.rules.specs.Answers.{LookupTells}
 use Rattle.rules.specs.Stores.{putStores, clearStores, placingStores, logStores, redoStores, updateStores}
@@ -21,11 +24,13 @@ use Rattle.rules.specs.declared.Lookup.the-variants.{Stands, Absent}
 use Rattle.rules.specs.declared.Placing.{Placing}
 use Rattle.rules.specs.declared.Placing.the-variants.{Free}
 use Rattle.rules.specs.declared.Refusal.the-variants.{KeyPresent, KeyAbsent, NoPlace}
+use Rattle.rules.proofs.Basics.Lists.{never}
 use Rattle.rules.proofs.Calls.Meanings.{lookup-told-by}
 use Rattle.rules.proofs.Lookup.{the-type as lookup-type}
 use Rattle.rules.proofs.Placing.{the-type as placing-type}
 use Rattle.placing.specs.Search.{optional}
 use Rattle.listing.specs.Listing.{listedAt, Run, Takes}
+use Rattle.changing.specs.Founds.{hasFound}
 use Rattle.placing.proofs.Placings.{not-free, is-free}
 use Rattle.listing.proofs.Runs.{then}
 use Rattle.listing.proofs.Placings.{placed-nowhere, placed-listed}
@@ -36,10 +41,6 @@ use Rattle.listing.proofs.Placings.{placed-nowhere, placed-listed}
 pub is-absent : (f : Lookup) → OneOf (1 ∷ []) (tagOf lookup-type f) → (n : ℕ) × (f ≡ Absent n)
 is-absent (Stands x n) e = absurd (omega arith)
 is-absent (Absent n) e = (n, refl)
-
-pub is-standing : (f : Lookup) → OneOf (0 ∷ []) (tagOf lookup-type f) → (x : Slot) × (n : ℕ) × (f ≡ Stands x n)
-is-standing (Stands x n) e = (x, n, refl)
-is-standing (Absent n) e = absurd (omega arith)
 
 module _ (t : Table) (h : Header) (key : ℕ) {f : Lookup} (l : LookupTells f (lookup t h key)) where
   pub delete-absent : {n : ℕ} → f ≡ Absent n → refused KeyAbsent ≡ deleteIn t h (lookup t h key)
@@ -54,11 +55,26 @@ module _ (t : Table) (h : Header) (key : ℕ) {f : Lookup} (l : LookupTells f (l
   pub update-listed : {x : Slot} {n : ℕ} (r : Record) → f ≡ Stands x n → listed (updateStores t h x key r) ≡ updateIn t h (lookup t h key) key r
   update-listed r e = rw (← lookup-told-by l, e)
 
-  pub insert-present : {x : Slot} {n : ℕ} (r : Record) → f ≡ Stands x n → refused KeyPresent ≡ insertIn t h (lookup t h key) key r
-  insert-present r e = rw (← lookup-told-by l, e)
+-- by whether the lookup has found the key
+module _ (t : Table) (h : Header) (o : Lookup) (key : ℕ) (r : Record) where
+  pub insert-found : hasFound o ≡ true → refused KeyPresent ≡ insertIn t h o key r
+  insert-found = go o
+    where
+      go : (o : Lookup) → hasFound o ≡ true → refused KeyPresent ≡ insertIn t h o key r
+      go (Stands x n) q = refl
+      go (Absent n) q = never q refl
 
-  pub insert-absent : {n : ℕ} (r : Record) → f ≡ Absent n → insertIn t h (Absent 0) key r ≡ insertIn t h (lookup t h key) key r
-  insert-absent r e = rw (← lookup-told-by l, e)
+  pub insert-not-found : hasFound o ≡ false → insertIn t h (Absent 0) key r ≡ insertIn t h o key r
+  insert-not-found = go o
+    where
+      go : (o : Lookup) → hasFound o ≡ false → insertIn t h (Absent 0) key r ≡ insertIn t h o key r
+      go (Absent n) q = refl
+      go (Stands x n) q = never refl q
+
+-- the tag beside the hashes
+pub hashed-tag : (h : Header) (key : ℕ) {x : Hashes} → x ≡ hashesOf h key → x .tag ≡ keyTag h key
+unfolding hashesOf
+hashed-tag h key e = ap (λ (z : Hashes). z .tag) e
 
 -- ---- an insert's stores
 

@@ -17,8 +17,8 @@ numbers-one : {a b : Meaning} → a ≡ b → a .number ≡ b .number
 numbers-one e = ap (λ (m : Meaning). m .number) e
 
 module _ (t u v : Table) (r s : ℕ) where
-  pub created-one : (c k mul1 mul2 : ℕ) → CreatedBy t c k mul1 mul2 (told r) u → CreatedBy t c k mul1 mul2 (told s) v → (r ≡ s) × (u ≡ v)
-  created-one c k mul1 mul2 a b = (numbers-one (a .answer ∙ sym (b .answer)), a .table ∙ sym (b .table))
+  pub created-one : (form c k mul1 mul2 : ℕ) → CreatedBy t form c k mul1 mul2 (told r) u → CreatedBy t form c k mul1 mul2 (told s) v → (r ≡ s) × (u ≡ v)
+  created-one form c k mul1 mul2 a b = (numbers-one (a .answer ∙ sym (b .answer)), a .table ∙ sym (b .table))
 
   pub queried-one : (key : ℕ) (x y : List ℕ) → QueriedBy t key (toldWith r x) u → QueriedBy t key (toldWith s y) v
       → (r ≡ s) × (x ≡ y) × (u ≡ v)

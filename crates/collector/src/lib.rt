@@ -33,10 +33,17 @@ ghost use Rattle.numbering.specs.Told.{told, toldWith};
 ghost use Rattle.collector.specs.Reported.{Reported, ReportedFrom};
 
 #[no_mangle]
-pub extern "C" fn ragansils_create(table: &mut [u64], c: u64, k: u64, mul1: u64, mul2: u64) -> u64
-    ensures { λ r. ⌜ CreatedBy (now (table .entry)) c k mul1 mul2 (told r) (now (table .exit)) ⌝ }
+pub extern "C" fn ragansils_create(
+    table: &mut [u64],
+    form: u64,
+    c: u64,
+    k: u64,
+    mul1: u64,
+    mul2: u64,
+) -> u64
+    ensures { λ r. ⌜ CreatedBy (now (table .entry)) form c k mul1 mul2 (told r) (now (table .exit)) ⌝ }
 {
-    verdict_number(create(table, c, k, mul1, mul2))
+    verdict_number(create(table, form, c, k, mul1, mul2))
 }
 
 // Function, place and the number of buckets looked at; the word index of the key found, and its level.

@@ -82,7 +82,7 @@ fn answered(t: &mut [u64], list: &mut [u64], line: Line) {
     match letter {
         b'v' => words(t, line.a as usize, line.b as usize),
         b'p' => words(list, 0, list.len()),
-        b'c' => verdict(making::create(t, line.a, line.b, line.c, line.d)),
+        b'c' => verdict(making::create(t, line.a, line.b, line.c, line.d, line.e)),
         b'm' => verdict(making::make(t, list, line.a)),
         b'q' => query(querying::query(t, line.a)),
         b'a' => every(t, list, line.a, r),

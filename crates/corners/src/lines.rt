@@ -9,6 +9,7 @@ pub struct Line {
     pub b: u64,
     pub c: u64,
     pub d: u64,
+    pub e: u64,
 }
 
 // A number, and the index of what follows the space after it.
@@ -70,11 +71,13 @@ pub fn parsed(line: &[u8]) -> Line {
     let b = number(line, a.next);
     let c = number(line, b.next);
     let d = number(line, c.next);
+    let e = number(line, d.next);
     Line {
         letter: first_letter(line),
         a: a.value,
         b: b.value,
         c: c.value,
         d: d.value,
+        e: e.value,
     }
 }

@@ -109,7 +109,7 @@ module _ (room : List ℕ) (p : Replay) (next : Script) where
   script-goes : (a : Asked) → GoesOn (askedOf room p next a .answer) → askedOf room p next a .replay .script ≡ next
   script-goes askNothing g = refl
   script-goes (askEnd n) g = absurd (g .good n refl)
-  script-goes (askTable c k mul1 mul2) g = table-goes (leb c 8) c (createResult (take (wordsFor c) room) c k mul1 mul2) g
+  script-goes (askTable c k mul1 mul2) g = table-goes (leb c 8) c (createResult (take (wordsFor c) room) 1 c k mul1 mul2) g
   script-goes (askEvent q under) g = refl
 
   never-over : (a : Asked) → GoesOn (askedOf room p next a .answer) → (n : ℕ) → a ≡ askEnd n → ⊥

@@ -10,6 +10,7 @@ use listing::list_placing;
 use listing::store;
 use reading::gate::Gate;
 use reading::gate::change_gate;
+use reading::places::tag;
 use reading::slots::key_at;
 use reading::slots::record_at;
 use reading::slots::token;
@@ -144,7 +145,8 @@ fn step_item(t: &[u64], list: &mut [u64], h: Header, b: usize) -> SteppedFrom
         return unplaced(Refusal::NoPlace);
     };
     let x = found.item;
-    let at = list_placing(t, list, h, p, y, key_at(t, x), record_at(t, x));
+    let key = key_at(t, x);
+    let at = list_placing(t, list, h, p, y, key, tag(h, key), record_at(t, x));
     let n = clear(list, at, h, token(t, x.bucket), x);
     SteppedFrom {
         stepped: Stepped {

@@ -6,6 +6,9 @@ use mathlib.Core.Path.{_≡_, refl}
 use mathlib.Core.List.{List, [], _∷_, _++_, map, flatMap}
 use lib.ListN.{replicate}
 use Rattle.words.specs.Product.{productOf, hashOf}
+use Rattle.rules.specs.Forms.{formGood, tagged, mixed, tagOf}
+use Rattle.rules.specs.Words.{wordRead, tagIn, markMeant}
+use Rattle.rules.specs.Places.{fits}
 use Rattle.rules.specs.Words.{wordsFor, stateOf, stateWord, atRest, shrinking, headerOf, flagOf, stateGood, odd, capacityTests, headerTests, topOf, bottomOf}
 use Rattle.rules.specs.Words.{interimOf, levelsInUse, slotAt, slotsIn, placeAt, placeOf, tokenWord, keyWord, functionWord, placeWord, keyIn, recordIn}
 use Rattle.rules.specs.Words.{tokenOf, tokenNumber, isTaken, show, taken, bucketsOf, allBuckets, exponentInUse, unusedBuckets, slotsOf, slotsInUse}
@@ -100,7 +103,7 @@ cases =
 pub cases-computed : map (λ (x : List ℕ × String). outputTo (replicate 100 7) (x .0)) cases ≡ map (λ (x : List ℕ × String). bytes (x .1)) cases
 unfolding productOf hashOf flatMap wordsFor stateOf stateWord atRest shrinking headerOf flagOf stateGood odd capacityTests headerTests topOf bottomOf interimOf
     levelsInUse bucketsOf allBuckets exponentInUse unusedBuckets slotAt slotsIn placeOf placeAt slotsOf slotsInUse tokenWord keyWord functionWord
-    placeWord keyIn recordIn tokenOf tokenNumber isTaken show hide takenOf meant taken meantOf hashesOf firstPlace secondPlace samePlace placesIn
+    placeWord keyIn recordIn tokenOf formGood tagged mixed tagOf wordRead tagIn fits markMeant tokenNumber isTaken show hide takenOf meant taken meantOf hashesOf firstPlace secondPlace samePlace placesIn
     probes holds hitIn lookup takenIn freeSlot fewer emptier roomIn placing putStores clearStores placingStores redoStores updateStores stateStores
     stepStores written mapOf takenSlots tokensTidy unusedEmpty placesOf inPlace orderlyTests sameKey twins sameRecord target finding headerGood listLong
     flagClear changingTests queryTests recoverTests beginTests beginOf interimSlots interimItems interimBucket itemsFrom hasPlace stepItem stepTests

@@ -7,7 +7,10 @@ use native.Mathlib.Nat.{add-zero, zero-add}
 use native.Mathlib.Omega.{arith}
 use lib.ListN.{length, set}
 use lib.Seq.{sets, sets-eq, set-comm}
+use Rattle.rules.specs.Forms.{tagOf}
+use Rattle.rules.specs.Words.{mark, show, hide}
 use Rattle.rules.specs.Stores.{Store, flat, written}
+use Rattle.rules.specs.declared.Header.{Header}
 use Rattle.listing.specs.Listing.{Room, listedAt}
 
 flat-append : (xs ys : List Store) → flat (xs ++ ys) ≡ flat xs ++ flat ys
@@ -73,3 +76,8 @@ module _ (l : List ℕ) (n : ℕ) (a b c : Store) {l₁ l₂ l₃ : List ℕ} {n
 
   pub four : (d : Store) {l₄ : List ℕ} {n₄ : ℕ} → (n₄ ≡ n₃ + 1) × (l₄ ≡ listedAt l₃ n₃ (d ∷ [])) → (n₄ ≡ n + 4) × (l₄ ≡ listedAt l n (a ∷ b ∷ c ∷ d ∷ []))
   four d s₄ = (omega (arith, three .0, s₄ .0), then l n (a ∷ b ∷ c ∷ []) (d ∷ []) (three .1) (three .0) (s₄ .1))
+
+-- the token word with a slot shown, by the tag of its key
+pub shown-with : (h : Header) (w s key : ℕ) {tag v : ℕ} → tag ≡ tagOf h key → v ≡ hide h w s + mark s 1 tag → v ≡ show h w s key
+unfolding show
+shown-with h w s key e f = rw (f, e)

@@ -1,5 +1,6 @@
 // Writing stores to a lent list, in order, as pairs: word index, new word. Each function writes from pair `at` on and
 // answers the next free pair.
+use reading::places::tag;
 use reading::slots::key_at;
 use reading::slots::key_word;
 use reading::slots::record_at;
@@ -19,6 +20,7 @@ ghost use mathlib.Core.Path.{_≡_};
 ghost use mathlib.Core.List.{[], _∷_};
 ghost use Prim.Native.Nat.{_+_, _^_, _≤_, _<_};
 ghost use lib.ListN.{length};
+ghost use Rattle.rules.specs.Forms.{tagOf};
 ghost use Rattle.rules.specs.Stores.{putStores, clearStores, moveStores, placingStores, redoStores, logStores};
 ghost use Rattle.reading.specs.Within.{SlotWithin};
 ghost use Rattle.listing.specs.Listing.{Room, listedAt, Run, Addressed, Takes};
@@ -33,14 +35,23 @@ pub fn store(list: &mut [u64], at: usize, index: usize, word: u64) -> usize
     at + 1
 }
 
-// "key, function, place, token", where the bucket's token word is `word`
-pub fn put(list: &mut [u64], at: usize, h: Header, word: u64, x: Slot, key: u64, r: Record) -> usize
-    requires { ⌜ Room (now list) (at + 4) × Addressed x ⌝ }
+// "key, function, place, token", where the bucket's token word is `word`, and `tag` is the key's tag, which whoever asks has already
+pub fn put(
+    list: &mut [u64],
+    at: usize,
+    h: Header,
+    word: u64,
+    x: Slot,
+    key: u64,
+    tag: u64,
+    r: Record,
+) -> usize
+    requires { ⌜ Room (now list) (at + 4) × Addressed x × (tag ≡ tagOf h key) ⌝ }
     ensures { λ n. ⌜ (n ≡ at + 4) × (now (list .exit) ≡ listedAt (now (list .entry)) at (putStores h word x key r)) ⌝ }
 {
     let first = key_word(x);
     let last = token_word(x.bucket);
-    let shown = show(h, word, x.slot, key);
+    let shown = show(h, word, x.slot, tag);
     let second = store(list, at, first, key);
     let third = store(list, second, first + 1, r.function);
     let fourth = store(list, third, first + 2, r.place);
@@ -85,12 +96,12 @@ fn moved(t: &[u64], list: &mut [u64], h: Header, from: Slot, to: Slot) -> usize
     let key = key_at(t, from);
     let record = record_at(t, from);
     let word = token(t, to.bucket);
-    let copied = put(list, 0, h, word, to, key, record);
+    let copied = put(list, 0, h, word, to, key, tag(h, key), record);
     let cleared = clear(list, copied, h, token(t, from.bucket), from);
     cleared
 }
 
-// The stores of a placing by which a key and its record take slot x: a put, or "a move of one slot to another" and a put in
+// The stores of a placing by which a key with that tag, and its record, take slot x: a put, or "a move of one slot to another" and a put in
 // the slot that it freed.
 pub fn list_placing(
     t: &[u64],
@@ -99,15 +110,16 @@ pub fn list_placing(
     p: Placing,
     x: Slot,
     key: u64,
+    tag: u64,
     r: Record,
 ) -> usize
-    requires { ⌜ Room (now list) 9 × (length (now t) < 2 ^ 32) × Takes (now t) p x ⌝ }
+    requires { ⌜ Room (now list) 9 × (length (now t) < 2 ^ 32) × Takes (now t) p x × (tag ≡ tagOf h key) ⌝ }
     ensures { λ n. ⌜ Run n (now (list .entry)) (now (list .exit)) (placingStores (now (t .entry)) h p key r) × (n ≤ 9) ⌝ }
 {
     let word = token(t, x.bucket);
     if let Placing::Move(from, to) = p {
         let at = moved(t, list, h, from, to);
-        return put(list, at, h, hide(h, word, x.slot), x, key, r);
+        return put(list, at, h, hide(h, word, x.slot), x, key, tag, r);
     }
-    put(list, 0, h, word, x, key, r)
+    put(list, 0, h, word, x, key, tag, r)
 }

@@ -14,9 +14,9 @@ module _ {r s : Verdict} {u v : Table} where
   result-one : (result : Verdict × Table) → IsResult result (verdictMeans r) u → IsResult result (verdictMeans s) v → (r ≡ s) × (u ≡ v)
   result-one result p q = (verdict-one r s (p .answer ∙ sym (q .answer)), p .table ∙ sym (q .table))
 
-  pub created-one : (t : Table) (c k mul1 mul2 : ℕ) → Created t c k mul1 mul2 r u → Created t c k mul1 mul2 s v → (r ≡ s) × (u ≡ v)
+  pub created-one : (t : Table) (form c k mul1 mul2 : ℕ) → Created t form c k mul1 mul2 r u → Created t form c k mul1 mul2 s v → (r ≡ s) × (u ≡ v)
   unfolding Created
-  created-one t c k mul1 mul2 p q = result-one (createResult t c k mul1 mul2) p q
+  created-one t form c k mul1 mul2 p q = result-one (createResult t form c k mul1 mul2) p q
 
   pub made-one : (t : Table) (l : List ℕ) (n : ℕ) (m o : List ℕ) → Made t l n r u m → Made t l n s v o → (r ≡ s) × (u ≡ v) × (m ≡ o)
   unfolding Made

@@ -16,11 +16,11 @@ pub record IsResult (result : Verdict × Table) (told : Meaning) (u : Table) : T
   pub table : u ≡ result .1
 
 -- create
-abbrev pub CreatedBy : Table → ℕ → ℕ → ℕ → ℕ → Meaning → Table → Type 0
-CreatedBy t c k mul1 mul2 told u = IsResult (createResult t c k mul1 mul2) told u
+abbrev pub CreatedBy : Table → ℕ → ℕ → ℕ → ℕ → ℕ → Meaning → Table → Type 0
+CreatedBy t form c k mul1 mul2 told u = IsResult (createResult t form c k mul1 mul2) told u
 
-unfoldable pub Created : Table → ℕ → ℕ → ℕ → ℕ → Verdict → Table → Type 0
-Created t c k mul1 mul2 r u = CreatedBy t c k mul1 mul2 (verdictMeans r) u
+unfoldable pub Created : Table → ℕ → ℕ → ℕ → ℕ → ℕ → Verdict → Table → Type 0
+Created t form c k mul1 mul2 r u = CreatedBy t form c k mul1 mul2 (verdictMeans r) u
 
 -- make, of the first n pairs of the list l, which is only read, and stays: m is the list at exit
 abbrev pub MadeBy : Table → List ℕ → ℕ → Meaning → Table → List ℕ → Type 0

@@ -1,4 +1,5 @@
 // The two calls that write the table. "A changing call only reads the table": it lists its stores, and make makes them.
+use reading::forms::form_good;
 use reading::header::words_for;
 use rules::Refusal;
 use rules::Verdict;
@@ -17,10 +18,14 @@ ghost use Rattle.rules.specs.Results.{createTests};
 ghost use Rattle.making.specs.Promises.{Created, Made};
 ghost use Rattle.making.specs.Indexes.{inside};
 
-// "13 | c, first k (1 to c), length or a multiplier bad". c is tested first: the size of a table is computed only where it fits.
-fn creation_good(size: usize, c: u64, k: u64, mul1: u64, mul2: u64) -> bool
-    ensures { λ r. ⌜ r ≡ all (createTests size c k mul1 mul2) ⌝ }
+// "13 | c, first k (1 to c), length or a multiplier bad"; or the form. c is tested before the length: the size of a table is computed only
+// where it fits.
+fn creation_good(size: usize, form: u64, c: u64, k: u64, mul1: u64, mul2: u64) -> bool
+    ensures { λ r. ⌜ r ≡ all (createTests size form c k mul1 mul2) ⌝ }
 {
+    if !form_good(form) {
+        return false;
+    }
     if c < 1 {
         return false;
     }
@@ -51,14 +56,14 @@ fn zero(t: &mut [u64])
 }
 
 // "Creation zeroes all words and writes the header." At rest the state word is k.
-pub fn create(t: &mut [u64], c: u64, k: u64, mul1: u64, mul2: u64) -> Verdict
-    ensures { λ r. ⌜ Created (now (t .entry)) c k mul1 mul2 r (now (t .exit)) ⌝ }
+pub fn create(t: &mut [u64], form: u64, c: u64, k: u64, mul1: u64, mul2: u64) -> Verdict
+    ensures { λ r. ⌜ Created (now (t .entry)) form c k mul1 mul2 r (now (t .exit)) ⌝ }
 {
-    if !creation_good(t.len(), c, k, mul1, mul2) {
+    if !creation_good(t.len(), form, c, k, mul1, mul2) {
         return Verdict::Denied(Refusal::BadCreation);
     }
     zero(t);
-    t[FORM] = 1;
+    t[FORM] = form;
     t[CAPACITY] = c;
     t[MULTIPLIER1] = mul1;
     t[MULTIPLIER2] = mul2;

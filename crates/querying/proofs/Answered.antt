@@ -83,20 +83,22 @@ module _ (t : Table) (key : ℕ) where
     refused q = queried (gate-shut t (queryTests t) e (λ (r : Refusal). Unknown r 0) _ q)
 
     module _ {h : Header} (q : g ≡ Open h) (same : h ≡ headerOf t) {f : Lookup} (l : LookupTells f (lookup t h key)) where
-      through : queryAt t f ≡ queryResult t key
+      pub through : {r : Query} → r ≡ queryAt t f → Queried t key r t
       unfolding queryResult
-      through =
-          ap (queryAt t) (lookup-told-by l ∙ ap (λ (z : Header). lookup t z key) same)
-          ∙ gate-open t (queryTests t) e (λ (r : Refusal). Unknown r 0) _ q
+      through told =
+          queried
+          (told
+          ∙ ap (queryAt t) (lookup-told-by l ∙ ap (λ (z : Header). lookup t z key) same)
+          ∙ gate-open t (queryTests t) e (λ (r : Refusal). Unknown r 0) _ q)
 
-      pub present : {x : Slot} {n : ℕ} {r : Record} {s : Spot} → f ≡ Stands x n → r ≡ recordIn t x → s ≡ spotOf x
-          → Queried t key (Known r s n) t
-      present {x} {n} {r} {s} p w v =
-          let told : Known r s n ≡ queryAt t (Stands x n) = rw (w, v) in
-          queried (told ∙ sym (ap (queryAt t) p) ∙ through)
+-- ---- what a lookup tells
 
-      pub absent : {n : ℕ} → f ≡ Absent n → Queried t key (Unknown KeyAbsent n) t
-      absent p = queried (sym (ap (queryAt t) p) ∙ through)
+module _ (t : Table) {f : Lookup} where
+  pub told-known : {x : Slot} {n : ℕ} {r : Record} {s : Spot} → f ≡ Stands x n → r ≡ recordIn t x → s ≡ spotOf x → Known r s n ≡ queryAt t f
+  told-known p w v = rw (p, w, v)
+
+  pub told-absent : {n : ℕ} → f ≡ Absent n → Unknown KeyAbsent n ≡ queryAt t f
+  told-absent p = rw p
 
 -- no second answer and no second table keeps the promise
 pub queried-one : (t : Table) (key : ℕ) (r s : Query) (u v : Table) → Queried t key r u → Queried t key s v → (r ≡ s) × (u ≡ v)

@@ -1,4 +1,5 @@
 pub mod HeaderTests
+pub mod Marks
 pub mod TokenWords
 pub mod Gated
 pub mod Placed

@@ -1,4 +1,5 @@
 // The header: words 0 to 4 decoded, and test 1.
+use super::forms::form_good;
 use rules::Header;
 use rules::State;
 use rules::layout::BUCKET_WORDS;
@@ -49,7 +50,7 @@ pub fn header_good(size: usize, h: Header) -> bool
     if size != words_for(h.c) {
         return false;
     }
-    if h.form != 1 {
+    if !form_good(h.form) {
         return false;
     }
     if h.mul1 % 2 != 1 {

@@ -1,4 +1,6 @@
 // The places of a key: its two hashes, and in a level its first place and, if different, its second.
+use super::forms::mixed;
+use super::forms::tag_from;
 use super::levels::nth_first;
 use rules::Hashes;
 use rules::Header;
@@ -7,10 +9,12 @@ use rules::Place;
 use rules::State;
 use words::hash;
 use words::power;
+use words::product;
 ghost use mathlib.Core.Path.{_≡_};
 ghost use mathlib.Core.List.{[], _∷_};
 ghost use Prim.Native.Nat.{_+_, _*_, _^_, _≤_, _<_};
 ghost use lib.ListN.{length};
+ghost use Rattle.rules.specs.Forms.{tagOf};
 ghost use Rattle.rules.specs.Words.{GoodState, sizeOf, levelsInUse};
 ghost use Rattle.rules.specs.Places.{hashesOf, placesIn};
 ghost use Rattle.reading.specs.Levels.{nthLevel, placeFrom, placeIn, listHeld};
@@ -21,13 +25,24 @@ pub struct Places {
     pub n: usize,
 }
 
+// The hashes of a key and, from the same product as hash 1, its tag.
 pub fn hashes(h: Header, key: u64) -> Hashes
     ensures { λ r. ⌜ r ≡ hashesOf h key ⌝ }
 {
+    let hashed = mixed(h, key);
+    let product1 = product(hashed, h.mul1);
     Hashes {
-        first: hash(key, h.mul1),
-        second: hash(key, h.mul2),
+        first: product1 / 4294967296,
+        second: hash(hashed, h.mul2),
+        tag: tag_from(h, product1),
     }
+}
+
+// The tag alone.
+pub fn tag(h: Header, key: u64) -> u64
+    ensures { λ r. ⌜ (r ≡ tagOf h key) × (r < 256) ⌝ }
+{
+    tag_from(h, product(mixed(h, key), h.mul1))
 }
 
 // The place of a hash in the level of that name and first bucket, which is M − 1: M is a power of two, so the bits of "hash modulo M"

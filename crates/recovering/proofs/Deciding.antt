@@ -28,6 +28,8 @@ use Rattle.rules.proofs.Calls.Meanings.{finding-tells}
 use Rattle.rules.proofs.Places.PlacesInUse.{slot-within}
 use Rattle.rules.proofs.Tables.Twins.{taken-in, twins-ordered}
 use Rattle.rules.proofs.Tables.Targets.{target-some}
+use Rattle.rules.proofs.Places.Lookups.{Tidied}
+use Rattle.rules.proofs.Tables.Sound.{tidy-tells}
 use Rattle.scanning.proofs.Copying.{copies, copy-twins, linear, still-alike, flagged-alike}
 use Rattle.reading.specs.Within.{SlotWithin}
 use Rattle.scanning.specs.declared.copies.Scan.{Scan}
@@ -100,8 +102,8 @@ module _ (t : Table) (g : GoodHeader (length t) (headerOf t)) where
   copies-within : (u : Slot × Slot) → In u (copies t) → SlotWithin t (u .0) × SlotWithin t (u .1)
   copies-within u i = let r = twins-ordered t (u .0) (u .1) (copy-twins t u i) in (taken-within (u .0) (r .first), taken-within (u .1) (r .later))
 
-  pub scan-within : ScanWithin t (scanOf t (headerOf t))
-  scan-within = go (all (map (inPlace t) (takenSlots t))) refl
+  pub scan-within : Tidied t → ScanWithin t (scanOf t (headerOf t))
+  scan-within tidied = go (all (map (inPlace t) (takenSlots t))) refl
     where
       pairs : (l : List (Slot × Slot)) → ((u : Slot × Slot) → In u l → SlotWithin t (u .0) × SlotWithin t (u .1)) → ScanWithin t (scanned l)
       pairs [] k = tt
@@ -109,7 +111,7 @@ module _ (t : Table) (g : GoodHeader (length t) (headerOf t)) where
       pairs (p ∷ (q ∷ l)) k = tt
 
       go : (b : Bool) → all (map (inPlace t) (takenSlots t)) ≡ b → ScanWithin t (scanOf t (headerOf t))
-      go true e = rw (scan-placed t g e) (pairs (copies t) copies-within)
+      go true e = rw (scan-placed t g tidied e) (pairs (copies t) copies-within)
       go false e = rw (scan-misplaced t g e) tt
 
   still-within : (scan : Scan) → ScanWithin t scan → FindingWithin t (stillOf t scan)
@@ -159,10 +161,18 @@ module _ (t : Table) {h : Header} (own : h ≡ headerOf t) where
   unfolding finding
   find-misflagged n m = (finding-tells (rw (misflagged 0 n, misflagged 1 m)), tt)
 
+  -- every token word is what should stand there
+  pub tidied-by : all (map (tidyToken t h) (allBuckets h)) ≡ true → Tidied t
+  unfolding tokensTidy tidyToken
+  tidied-by tidy = tidy-tells t .0 (rw own at tidy)
+
   module _ (g : GoodHeader (length t) h) (tidy : all (map (tidyToken t h) (allBuckets h)) ≡ true)
       (unused : all (map (zeroToken t) (unusedBuckets h)) ≡ true) where
     good : GoodHeader (length t) (headerOf t)
     good = rw own at g
+
+    tidied : Tidied t
+    tidied = tidied-by tidy
 
     -- what is left to ask where the flag is right
     orderly : (f : ℕ) → flagOf t ≡ f → all (orderlyTests f t) ≡ all (map (inPlace t) (takenSlots t))
@@ -175,7 +185,7 @@ module _ (t : Table) {h : Header} (own : h ≡ headerOf t) where
     still-found e = go (all (map (inPlace t) (takenSlots t))) refl
       where
         go : (b : Bool) → all (map (inPlace t) (takenSlots t)) ≡ b → stillOf t (scanOf t (headerOf t)) ≡ finding t
-        go true p = rw (orderly 0 e, p, scan-placed t good p) (sym (still-alike t (twins t) (copies t) (linear t good p) ∙ still-scanned t (copies t)))
+        go true p = rw (orderly 0 e, p, scan-placed t good tidied p) (sym (still-alike t (twins t) (copies t) (linear t good tidied p) ∙ still-scanned t (copies t)))
         go false p = rw (orderly 0 e, p, misflagged 1 (λ (z : flagOf t ≡ 1). omega arith), scan-misplaced t good p)
 
     flagged-found : flagOf t ≡ 1 → flaggedOf (target t) (scanOf t (headerOf t)) ≡ finding t
@@ -186,13 +196,13 @@ module _ (t : Table) {h : Header} (own : h ≡ headerOf t) where
         other = misflagged 0 (λ (z : flagOf t ≡ 0). omega arith)
 
         go : (b : Bool) → all (map (inPlace t) (takenSlots t)) ≡ b → flaggedOf (target t) (scanOf t (headerOf t)) ≡ finding t
-        go true p = rw (other, orderly 1 e, p, scan-placed t good p)
-            (sym (flagged-alike (target t) (twins t) (copies t) (linear t good p) ∙ flagged-scanned (target t) (copies t)))
+        go true p = rw (other, orderly 1 e, p, scan-placed t good tidied p)
+            (sym (flagged-alike (target t) (twins t) (copies t) (linear t good tidied p) ∙ flagged-scanned (target t) (copies t)))
         go false p = rw (other, orderly 1 e, p, scan-misplaced t good p) (flagged-spoilt (target t))
 
     pub find-still : {scan : Scan} {r : Finding} → scan ≡ scanOf t h → flagOf t ≡ 0 → r ≡ stillOf t scan → Answer t r
     find-still {scan} q e f =
-        (finding-tells (f ∙ ap (stillOf t) (q ∙ ap (scanOf t) own) ∙ still-found e), rw f (still-within t good scan (rw (q, own) (scan-within t good))))
+        (finding-tells (f ∙ ap (stillOf t) (q ∙ ap (scanOf t) own) ∙ still-found e), rw f (still-within t good scan (rw (q, own) (scan-within t good tidied))))
 
     pub find-flagged : {scan : Scan} {o : Option Slot} {r : Finding} → scan ≡ scanOf t h → o ≡ target t → flagOf t ≡ 1 → r ≡ flaggedOf o scan → Answer t r
     find-flagged {scan} q k e f =

@@ -35,7 +35,7 @@ pub roomIsEnough : RoomIsEnough
 roomIsEnough room enough c small = length-take-le (wordsFor c) room (omega (arith, enough, words-grow c small))
 
 module _ (room : List ℕ) (p : Replay) (next : Script) (c k mul1 mul2 : ℕ) (small : c ≤ 8) where
-  made-answer : (v : Verdict) (u : Table) → createResult (take (wordsFor c) room) c k mul1 mul2 ≡ (v, u) → v ≡ Done
+  made-answer : (v : Verdict) (u : Table) → createResult (take (wordsFor c) room) 1 c k mul1 mul2 ≡ (v, u) → v ≡ Done
       → askedOf room p next (askTable c k mul1 mul2) .answer ≡ CreatedAs Done
   made-answer v u e d = rw (le-leb c 8 small, e, d)
 
@@ -43,14 +43,14 @@ pub roomMakesAll : RoomMakesAll
 roomMakesAll room fits p next c k mul1 mul2 small good =
     let t = take (wordsFor c) room in
     let long : length t ≡ wordsFor c = fits c small in
-    let r = createResult t c k mul1 mul2 in
-    made-answer room p next c k mul1 mul2 small (r .0) (r .1) refl (done t long (createAnswers t c k mul1 mul2))
+    let r = createResult t 1 c k mul1 mul2 in
+    made-answer room p next c k mul1 mul2 small (r .0) (r .1) refl (done t long (createAnswers t 1 c k mul1 mul2))
   where
     done : (t : Table) → length t ≡ wordsFor c
-        → (GoodCreation (length t) c k mul1 mul2 × (verdictMeans (createResult t c k mul1 mul2 .0) ≡ record { number = 0; values = [] })
-        × CreatedWords (length t) c k mul1 mul2 (createResult t c k mul1 mul2 .1))
-        ⊎ ((GoodCreation (length t) c k mul1 mul2
-        → ⊥) × (verdictMeans (createResult t c k mul1 mul2 .0) ≡ record { number = 13; values = [] }) × (createResult t c k mul1 mul2 .1 ≡ t))
-        → createResult t c k mul1 mul2 .0 ≡ Done
-    done t long (inl x) = verdict-one (createResult t c k mul1 mul2 .0) Done (x .1)
+        → (GoodCreation (length t) 1 c k mul1 mul2 × (verdictMeans (createResult t 1 c k mul1 mul2 .0) ≡ record { number = 0; values = [] })
+        × CreatedWords (length t) 1 c k mul1 mul2 (createResult t 1 c k mul1 mul2 .1))
+        ⊎ ((GoodCreation (length t) 1 c k mul1 mul2
+        → ⊥) × (verdictMeans (createResult t 1 c k mul1 mul2 .0) ≡ record { number = 13; values = [] }) × (createResult t 1 c k mul1 mul2 .1 ≡ t))
+        → createResult t 1 c k mul1 mul2 .0 ≡ Done
+    done t long (inl x) = verdict-one (createResult t 1 c k mul1 mul2 .0) Done (x .1)
     done t long (inr x) = absurd (x .0 (rw (← long) at good))

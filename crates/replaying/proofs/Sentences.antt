@@ -106,13 +106,13 @@ queriesAnswered room p next key under number f place count word level e =
 -- ---- the table
 
 module _ (room : List ℕ) (p : Replay) (next : Script) (c k mul1 mul2 : ℕ) where
-  small-table : c ≤ 8 → askedOf room p next (askTable c k mul1 mul2) ≡ created p next room c (createResult (take (wordsFor c) room) c k mul1 mul2)
+  small-table : c ≤ 8 → askedOf room p next (askTable c k mul1 mul2) ≡ created p next room c (createResult (take (wordsFor c) room) 1 c k mul1 mul2)
   small-table small = rw (le-leb c 8 small)
 
-  answered-by : c ≤ 8 → (v : Verdict) → verdictMeans (createResult (take (wordsFor c) room) c k mul1 mul2 .0) ≡ verdictMeans v
-      → askedOf room p next (askTable c k mul1 mul2) ≡ created p next room c (v, createResult (take (wordsFor c) room) c k mul1 mul2 .1)
+  answered-by : c ≤ 8 → (v : Verdict) → verdictMeans (createResult (take (wordsFor c) room) 1 c k mul1 mul2 .0) ≡ verdictMeans v
+      → askedOf room p next (askTable c k mul1 mul2) ≡ created p next room c (v, createResult (take (wordsFor c) room) 1 c k mul1 mul2 .1)
   answered-by small v e =
-      let r = createResult (take (wordsFor c) room) c k mul1 mul2 in
+      let r = createResult (take (wordsFor c) room) 1 c k mul1 mul2 in
       small-table small ∙ ap (λ (x : Verdict). created p next room c (x, r .1)) (verdict-one (r .0) v e)
 
 pub tableMade : TableMade

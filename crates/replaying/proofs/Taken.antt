@@ -68,13 +68,13 @@ module _ (p : Replay) (next : Script) (room : List ℕ) (c k mul1 mul2 : ℕ) wh
   too-large l e = rw (lt-leb c 8 l) (record { replay = e .0; answer = e .1; room = refl })
 
   module _ {n : ℕ} (lent : n ≡ min (wordsFor c) (length room)) (small : c ≤ 8) (v : Verdict) (u : Table)
-      (made : Created (take n room) c k mul1 mul2 v u) where
-    result : createResult (take (wordsFor c) room) c k mul1 mul2 ≡ (v, u)
+      (made : Created (take n room) 1 c k mul1 mul2 v u) where
+    result : createResult (take (wordsFor c) room) 1 c k mul1 mul2 ≡ (v, u)
     unfolding Created
     result =
         let table : take n room ≡ take (wordsFor c) room = ap (λ (j : ℕ). take j room) lent ∙ take-least (wordsFor c) room in
         let m = rw table at made in
-        let same = verdict-one v (createResult (take (wordsFor c) room) c k mul1 mul2 .0) (m .answer) in
+        let same = verdict-one v (createResult (take (wordsFor c) room) 1 c k mul1 mul2 .0) (m .answer) in
         sym (rw (same, m .table))
 
     asked-table : askedOf room p next (askTable c k mul1 mul2) ≡ created p next room c (v, u)

@@ -74,7 +74,7 @@ abbrev pub askedOf : List ℕ → Replay → Script → Asked → Turned
 askedOf room p next askNothing = record { replay = moved p next; room = room; answer = Nothing }
 askedOf room p next (askEnd line) = record { replay = moved p next; room = room; answer = Bad line }
 askedOf room p next (askTable c k mul1 mul2) =
-    cond (leb c 8) (created p next room c (createResult (take (wordsFor c) room) c k mul1 mul2)) (tooLarge p next room)
+    cond (leb c 8) (created p next room c (createResult (take (wordsFor c) room) 1 c k mul1 mul2)) (tooLarge p next room)
 askedOf room p next (askEvent q under) =
     record {
       replay = counted p next;

@@ -24,5 +24,5 @@ RoomIsEnough = (room : List ℕ) → wordsFor 8 ≤ length room → RoomFor room
 -- so `made=13` is never answered for want of room: with a good c, k and multipliers the table is made
 abbrev pub RoomMakesAll : Type 0
 RoomMakesAll = (room : List ℕ) → RoomFor room → (p : Replay) (next : Script) (c k mul1 mul2 : ℕ) → c ≤ 8
-    → GoodCreation (wordsFor c) c k mul1 mul2
+    → GoodCreation (wordsFor c) 1 c k mul1 mul2
     → askedOf room p next (askTable c k mul1 mul2) .answer ≡ Created Done

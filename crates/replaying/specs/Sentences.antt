@@ -100,7 +100,7 @@ EndAnswered = (begun .events ≡ 0) × ((p : Replay) (torn : Bool)
 
 -- creation in the first of the lent words answers this number
 abbrev pub Verdicts : List ℕ → ℕ → ℕ → ℕ → ℕ → ℕ → Type 0
-Verdicts room c k mul1 mul2 number = verdictMeans (createResult (take (wordsFor c) room) c k mul1 mul2 .0) ≡ record { number = number; values = [] }
+Verdicts room c k mul1 mul2 number = verdictMeans (createResult (take (wordsFor c) room) 1 c k mul1 mul2 .0) ≡ record { number = number; values = [] }
 
 -- `made=0`: the table has its words, and events are read
 abbrev pub TableMade : Type 0
@@ -109,7 +109,7 @@ TableMade = (room : List ℕ) (p : Replay) (next : Script) (c k mul1 mul2 : ℕ)
     × (askedOf room p next (askTable c k mul1 mul2) .replay .words ≡ wordsFor c)
     × (askedOf room p next (askTable c k mul1 mul2) .replay .script ≡ next)
     × (askedOf room p next (askTable c k mul1 mul2) .replay .events ≡ p .events)
-    × (askedOf room p next (askTable c k mul1 mul2) .room ≡ createResult (take (wordsFor c) room) c k mul1 mul2 .1 ++ drop (wordsFor c) room)
+    × (askedOf room p next (askTable c k mul1 mul2) .room ≡ createResult (take (wordsFor c) room) 1 c k mul1 mul2 .1 ++ drop (wordsFor c) room)
 
 -- "Program cap is at most 8; a larger one gives `made=13`." "and no event line is read": nothing more is due
 abbrev pub TableNotMade : Type 0

@@ -66,7 +66,7 @@ fn tabled(p: Replay, next: Script, room: &mut [u64], c: u64, k: u64, mul1: u64, 
     }
     let words = words_for(c);
     let lent = least(words, room.len());
-    let verdict = create(&mut room[..lent], c, k, mul1, mul2);
+    let verdict = create(&mut room[..lent], 1, c, k, mul1, mul2);
     match verdict {
         Verdict::Done => Turn {
             replay: Replay {

@@ -7,6 +7,9 @@ use mathlib.Core.Path.{_≡_, refl}
 use mathlib.Core.List.{List, [], _∷_, _++_, map, flatMap}
 use lib.ListN.{replicate, set}
 use Rattle.words.specs.Product.{productOf, hashOf}
+use Rattle.rules.specs.Forms.{formGood, tagged, mixed, tagOf}
+use Rattle.rules.specs.Words.{wordRead, tagIn, markMeant}
+use Rattle.rules.specs.Places.{fits}
 use Rattle.rules.specs.Words.{Table, wordsFor, stateOf, stateWord, atRest, shrinking, headerOf, flagOf, stateGood, odd, capacityTests, headerTests}
 use Rattle.rules.specs.Words.{topOf, bottomOf, interimOf, levelsInUse, slotAt, slotsIn, placeAt, tokenWord, keyWord, functionWord, placeWord, keyIn}
 use Rattle.rules.specs.Words.{recordIn, tokenOf, tokenNumber, isTaken, show, hide, takenOf, taken}
@@ -63,13 +66,13 @@ cases r =
     -- "16 before 15", and both "after 1 and 3"
     ∷ row 16 (shows (chained r) (2 ^ 56) 256 []) (tells 16 (0 ∷ []))
     ∷ row 17 (shows (set (chained r) 5 1) (2 ^ 56) 256 []) (tells 3 (0 ∷ []))
-    ∷ row 18 (shows (set (set (chained r) 5 1) 0 2) (2 ^ 56) 256 []) (tells 1 (0 ∷ []))
+    ∷ row 18 (shows (set (set (chained r) 5 1) 0 3) (2 ^ 56) 256 []) (tells 1 (0 ∷ []))
     ∷ []
 
 -- the rules compute what request a) asks for
 pub chainCases : (r : ℕ → Record) → map (λ (x : Row). x .computed) (cases r) ≡ map (λ (x : Row). x .paper) (cases r)
 unfolding productOf hashOf flatMap wordsFor stateOf stateWord atRest shrinking headerOf flagOf stateGood odd capacityTests headerTests topOf bottomOf interimOf
-    levelsInUse slotAt slotsIn placeAt tokenWord keyWord functionWord placeWord keyIn recordIn tokenOf tokenNumber isTaken show hide takenOf taken
+    levelsInUse slotAt slotsIn placeAt tokenWord keyWord functionWord placeWord keyIn recordIn tokenOf formGood tagged mixed tagOf wordRead tagIn fits markMeant tokenNumber isTaken show hide takenOf taken
     hashesOf firstPlace secondPlace samePlace placesIn probes holds hitIn lookup takenIn freeSlot fewer emptier roomIn placing putStores clearStores
     placingStores stateStores written placesOf headerGood listLong flagClear changingTests queryTests beginTests beginOf outcome changeResult createTests
     created createResult makeTests makeResult madeFirst madeAll fresh usual keyOf positionGood recordsLong positionTests chainTests walk queryOf chainResult

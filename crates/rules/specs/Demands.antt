@@ -13,6 +13,7 @@ use lib.ListN.{length, take, drop}
 use lib.Dec.{eqb}
 use Rattle.rules.specs.Choice.{all}
 use Rattle.rules.specs.Words.{Table, word, headerOf, GoodHeader, flagOf, loggedOf, top, bottom, interim, slotsIn, placeOf, spotOf, keyIn, recordIn}
+use Rattle.rules.specs.Forms.{GoodForm}
 use Rattle.rules.specs.Words.{tokenOf, show, hide}
 use Rattle.rules.specs.Places.{holds, placesOf}
 use Rattle.rules.specs.Placing.{freeSlot, placing}
@@ -63,8 +64,9 @@ AnswersBy (listed xs) a l m =
 abbrev pub ChangeAnswers : Type 0
 ChangeAnswers = (t : Table) (l : List ℕ) (q : Call) → AnswersBy (outcome t (length l) q) (changeResult t l q .0) l (changeResult t l q .1)
 
--- create: 13 exactly when "c, first k (1 to c), length or a multiplier" is bad, and then the words stay
-pub record GoodCreation (size c k mul1 mul2 : ℕ) : Type 0 where
+-- create: 13 exactly when "c, first k (1 to c), length or a multiplier" is bad, or the form is "any but 1 and 2", and then the words stay
+pub record GoodCreation (size form c k mul1 mul2 : ℕ) : Type 0 where
+  pub forms : GoodForm form
   pub capacity : (1 ≤ c) × (c ≤ 20)
   pub exponent : (1 ≤ k) × (k ≤ c)
   pub long : size ≡ 9 + 13 * (2 ^ (c + 1) - 1)
@@ -72,9 +74,9 @@ pub record GoodCreation (size c k mul1 mul2 : ℕ) : Type 0 where
   pub odd2 : mul2 % 2 ≡ 1
 
 -- "Creation zeroes all words and writes the header."
-pub record CreatedWords (size c k mul1 mul2 : ℕ) (u : Table) : Type 0 where
+pub record CreatedWords (size f c k mul1 mul2 : ℕ) (u : Table) : Type 0 where
   pub long : length u ≡ size
-  pub form : word u 0 ≡ 1
+  pub form : word u 0 ≡ f
   pub capacity : word u 1 ≡ c
   pub multiplier1 : word u 2 ≡ mul1
   pub multiplier2 : word u 3 ≡ mul2
@@ -83,11 +85,11 @@ pub record CreatedWords (size c k mul1 mul2 : ℕ) (u : Table) : Type 0 where
 
 abbrev pub CreateAnswers : Type 0
 CreateAnswers =
-    (t : Table) (c k mul1 mul2 : ℕ)
-    → (GoodCreation (length t) c k mul1 mul2 × (verdictMeans (createResult t c k mul1 mul2 .0) ≡ record { number = 0; values = [] })
-    × CreatedWords (length t) c k mul1 mul2 (createResult t c k mul1 mul2 .1))
-    ⊎ ((GoodCreation (length t) c k mul1 mul2 → ⊥) × (verdictMeans (createResult t c k mul1 mul2 .0) ≡ record { number = 13; values = [] })
-    × (createResult t c k mul1 mul2 .1 ≡ t))
+    (t : Table) (form c k mul1 mul2 : ℕ)
+    → (GoodCreation (length t) form c k mul1 mul2 × (verdictMeans (createResult t form c k mul1 mul2 .0) ≡ record { number = 0; values = [] })
+    × CreatedWords (length t) form c k mul1 mul2 (createResult t form c k mul1 mul2 .1))
+    ⊎ ((GoodCreation (length t) form c k mul1 mul2 → ⊥) × (verdictMeans (createResult t form c k mul1 mul2 .0) ≡ record { number = 13; values = [] })
+    × (createResult t form c k mul1 mul2 .1 ≡ t))
 
 -- "n pairs are not in the list, or an index among them is outside the table", and exactly then
 abbrev pub Outside : Table → List ℕ → ℕ → Type 0
@@ -183,7 +185,7 @@ GoodStateWord c w = ((1 ≤ w) × (w ≤ c)) ⊎ (((258 ≤ w) × (w ≤ 256 + c
 -- "length, form, c, multipliers or state", by the words themselves
 pub record HeaderWords (t : Table) : Type 0 where
   pub long : length t ≡ 9 + 13 * (2 ^ (word t 1 + 1) - 1)
-  pub form : word t 0 ≡ 1
+  pub form : GoodForm (word t 0)
   pub capacity : (1 ≤ word t 1) × (word t 1 ≤ 20)
   pub odd1 : word t 2 % 2 ≡ 1
   pub odd2 : word t 3 % 2 ≡ 1
@@ -248,10 +250,10 @@ QueryIsACall = (t : Table) (n key : ℕ) → QueryAs (outcome t n (query key)) (
 abbrev pub StoresInside : Type 0
 StoresInside = (t : Table) (n : ℕ) (q : Call) (xs : List Store) → outcome t n q ≡ listed xs → (x : Store) → In x xs → x .0 < length t
 
--- "a token store is always below 16"
+-- "a token store is always below 16": of form 1
 abbrev pub TokenStoresLow : Type 0
 TokenStoresLow =
-    (t : Table) (n : ℕ) (q : Call) (xs : List Store) → outcome t n q ≡ listed xs
+    (t : Table) (n : ℕ) (q : Call) (xs : List Store) → outcome t n q ≡ listed xs → word t 0 ≡ 1
     → (x : Store) → In x xs → (j : ℕ) → x .0 ≡ 9 + 13 * j → x .1 < 16
 
 -- ==== Demand 2. "On a sound table, with a list of 20 words or more, query, insert, update and delete answer as a plain map
@@ -265,11 +267,11 @@ SoundnessIsTested = (t : Table) → (all (soundTests t) ≡ true) ↔ SoundTable
 abbrev pub MapExists : Type 0
 MapExists = (t : Table) → SoundTable t → (m : PlainMap) × HasMap t m × ((n : PlainMap) → HasMap t n → (key : ℕ) → n key ≡ m key)
 
--- a created table is sound, at rest with the c, k and multipliers asked for, and empty
+-- a created table is sound, at rest with the form, c, k and multipliers asked for, and empty
 abbrev pub CreatedIsEmpty : Type 0
 CreatedIsEmpty =
-    (t u : Table) (c k mul1 mul2 : ℕ) → createResult t c k mul1 mul2 ≡ (Done, u)
-    → SoundTable u × (headerOf u ≡ record { form = 1; c = c; mul1 = mul1; mul2 = mul2; state = record { k = k; phase = 0 } })
+    (t u : Table) (form c k mul1 mul2 : ℕ) → createResult t form c k mul1 mul2 ≡ (Done, u)
+    → SoundTable u × (headerOf u ≡ record { form = form; c = c; mul1 = mul1; mul2 = mul2; state = record { k = k; phase = 0 } })
     × HasMap u (λ (key : ℕ). none)
 
 -- what a call makes of a plain map: plus the key, changed at the key, minus the key, or the same

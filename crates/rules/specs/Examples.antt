@@ -13,6 +13,9 @@ use lib.ListN.{getD, replicate}
 use lib.Dec.{eqb}
 use Rattle.words.specs.Product.{productOf, hashOf}
 use Rattle.rules.specs.Choice.{select}
+use Rattle.rules.specs.Forms.{formGood, tagged, mixed, tagOf}
+use Rattle.rules.specs.Words.{wordRead, tagIn, markMeant}
+use Rattle.rules.specs.Places.{fits}
 use Rattle.rules.specs.Words.{Table, word, wordsFor, stateOf, stateWord, atRest, shrinking, headerOf, flagOf, targetOf, loggedOf, stateGood, odd}
 use Rattle.rules.specs.Words.{capacityTests, headerTests, topOf, bottomOf, interimOf, levelsInUse, bucketsOf, allBuckets, exponentInUse}
 use Rattle.rules.specs.Words.{unusedBuckets, slotAt, slotsIn, placeOf, placeAt, slotsOf, slotsInUse, tokenWord, keyWord, spotOf, functionWord}
@@ -80,7 +83,7 @@ answered r t (key ∷ keys) = number t (insert key (r key)) ∷ answered r (made
 
 -- "c = 2, k = 1"; "these multipliers" are those of the script program's case
 unfoldable pub fresh : ℕ → ℕ → Table
-fresh mul1 mul2 = createResult (replicate 100 7) 2 1 mul1 mul2 .1
+fresh mul1 mul2 = createResult (replicate 100 7) 1 2 1 mul1 mul2 .1
 
 unfoldable pub usual : Table
 usual = fresh 4294967297 12884901889
@@ -161,7 +164,7 @@ marked r =
 pub examples : (r : ℕ → Record) → map (λ (x : Row). x .computed) (marked r) ≡ map (λ (x : Row). x .paper) (marked r)
 unfolding productOf hashOf flatMap wordsFor stateOf stateWord atRest shrinking headerOf flagOf targetOf loggedOf stateGood odd capacityTests headerTests topOf
     bottomOf interimOf levelsInUse bucketsOf allBuckets exponentInUse unusedBuckets slotAt slotsIn placeOf placeAt slotsOf slotsInUse tokenWord
-    keyWord spotOf functionWord placeWord keyIn recordIn tokenOf tokenNumber isTaken show hide takenOf meant taken meantOf hashesOf firstPlace secondPlace
+    keyWord spotOf functionWord placeWord keyIn recordIn tokenOf formGood tagged mixed tagOf wordRead tagIn fits markMeant tokenNumber isTaken show hide takenOf meant taken meantOf hashesOf firstPlace secondPlace
     samePlace placesIn probes holds hitIn lookup takenIn freeSlot fewer emptier roomIn otherPlace itemsOf candidates moveOf placing putStores
     clearStores moveStores placingStores redoStores updateStores stateStores stepStores written takenSlots tokensTidy unusedEmpty placesOf
     inPlace orderlyTests sameKey twins sameRecord target finding headerGood listLong flagClear changingTests queryTests recoverTests beginTests

@@ -1,4 +1,5 @@
 pub mod Choice
+pub mod Forms
 pub mod Words
 pub mod Places
 pub mod Placing

@@ -7,7 +7,8 @@ use mathlib.Core.Option.{Option, none, some}
 use lib.Dec.{eqb}
 use Rattle.words.specs.Product.{hashOf}
 use Rattle.rules.specs.Choice.{given, firstOf}
-use Rattle.rules.specs.Words.{Table, sizeOf, levelsInUse, slotsIn, placeAt, keyIn, taken}
+use Rattle.rules.specs.Forms.{mixed, tagOf}
+use Rattle.rules.specs.Words.{Table, sizeOf, levelsInUse, slotsIn, placeAt, keyIn, tokenOf, tagIn, taken}
 use Rattle.rules.specs.declared.State.{State}
 use Rattle.rules.specs.declared.Header.{Header}
 use Rattle.rules.specs.declared.Level.{Level}
@@ -17,9 +18,9 @@ use Rattle.rules.specs.declared.Slot.{Slot}
 use Rattle.rules.specs.declared.Lookup.{Lookup}
 use Rattle.rules.specs.declared.Lookup.the-variants.{Stands, Absent}
 
--- "hash i of key K is the product K·Ai modulo 2^64, divided by 2^32, rounded down"
+-- "hash i of key K is the product K·Ai modulo 2^64, divided by 2^32, rounded down", of what is hashed of the key; beside them its tag
 unfoldable pub hashesOf : Header → ℕ → Hashes
-hashesOf h key = record { first = hashOf key (h .mul1); second = hashOf key (h .mul2) }
+hashesOf h key = record { first = hashOf (mixed h key) (h .mul1); second = hashOf (mixed h key) (h .mul2); tag = tagOf h key }
 
 -- "In a level of M buckets the first and second places are hash 1 modulo M and hash 2 modulo M"
 unfoldable pub firstPlace : Hashes → Level → Place
@@ -42,9 +43,13 @@ probes s x = flatMap (placesIn x) (levelsInUse s)
 unfoldable pub placesOf : Header → ℕ → List Place
 placesOf h key = probes (h .state) (hashesOf h key)
 
+-- document 02, request g): "A form 2 query reads only the slots whose tag fits." In form 1 both are 0, and every slot is read
+unfoldable pub fits : Table → Header → ℕ → Slot → Bool
+fits t h key x = eqb (tagIn h (tokenOf t (x .bucket)) (x .slot)) (tagOf h key)
+
 -- a taken slot with the key, and the first such slot of a bucket, "slots 0 to 3"
 unfoldable pub holds : Table → Header → ℕ → Slot → Bool
-holds t h key x = taken t h x && eqb (keyIn t x) key
+holds t h key x = taken t h x && (fits t h key x && eqb (keyIn t x) key)
 
 unfoldable pub hitIn : Table → Header → ℕ → Place → Option Slot
 hitIn t h key p = firstOf (λ (x : Slot). given (holds t h key x) x) (slotsIn p)

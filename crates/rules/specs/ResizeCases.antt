@@ -9,6 +9,9 @@ use mathlib.Core.Bool.{Bool, true}
 use mathlib.Core.List.{List, [], _∷_, _++_, map, flatMap}
 use lib.ListN.{replicate, set}
 use Rattle.words.specs.Product.{productOf, hashOf}
+use Rattle.rules.specs.Forms.{formGood, tagged, mixed, tagOf}
+use Rattle.rules.specs.Words.{wordRead, tagIn, markMeant}
+use Rattle.rules.specs.Places.{fits}
 use Rattle.rules.specs.Words.{Table, wordsFor, stateOf, stateWord, atRest, shrinking, headerOf, flagOf, targetOf, loggedOf, stateGood, odd}
 use Rattle.rules.specs.Words.{capacityTests, headerTests, topOf, bottomOf, interimOf, levelsInUse, bucketsOf, allBuckets, exponentInUse}
 use Rattle.rules.specs.Words.{unusedBuckets, slotAt, slotsIn, placeOf, placeAt, slotsOf, slotsInUse, tokenWord, keyWord, spotOf, functionWord}
@@ -38,7 +41,7 @@ afterSteps (suc n) t = afterSteps n (madeAll t step)
 
 -- empty, at rest, c = k = 2
 abbrev pub new : Table
-new = createResult (replicate 100 7) 2 2 4294967297 4294967297 .1
+new = createResult (replicate 100 7) 1 2 2 4294967297 4294967297 .1
 
 -- with three items: keys 0 and 4 stand in bucket 3, key 1 in bucket 4
 abbrev pub three : List ℕ
@@ -203,14 +206,14 @@ cases r =
     let t = resting r in
     let u = madeAll t shrink in
     shrinks r t u ++ (turns r u (madeAll u back) (afterSteps 3 u)
-    ++ (looks r (createResult (replicate 204 7) 3 3 4294967297 8589934593 .1) (createResult (replicate 204 7) 3 2 4294967297 4294967297 .1)
+    ++ (looks r (createResult (replicate 204 7) 1 3 3 4294967297 8589934593 .1) (createResult (replicate 204 7) 1 3 2 4294967297 4294967297 .1)
     ++ (leaves r (afterSteps 4 (madeAll (crowded r) shrink)) ++ (spends (filled r) ++ ready r))))
 
 -- where this is unfolded every rule computes
 unfoldable pub opened : Bool
 unfolding productOf hashOf flatMap wordsFor stateOf stateWord atRest shrinking headerOf flagOf targetOf loggedOf stateGood odd capacityTests headerTests
     topOf bottomOf interimOf levelsInUse bucketsOf allBuckets exponentInUse unusedBuckets slotAt slotsIn placeOf placeAt slotsOf slotsInUse tokenWord
-    keyWord spotOf functionWord placeWord keyIn recordIn tokenOf tokenNumber isTaken show hide takenOf meant taken meantOf hashesOf firstPlace secondPlace
+    keyWord spotOf functionWord placeWord keyIn recordIn tokenOf formGood tagged mixed tagOf wordRead tagIn fits markMeant tokenNumber isTaken show hide takenOf meant taken meantOf hashesOf firstPlace secondPlace
     samePlace placesIn probes holds hitIn lookup takenIn freeSlot fewer emptier roomIn otherPlace itemsOf candidates moveOf placing putStores
     clearStores moveStores placingStores redoStores updateStores turnedOf stateStores stepStores written takenSlots tokensTidy unusedEmpty placesOf
     inPlace orderlyTests sameKey twins sameRecord target finding steppedFromMeans headerGood listLong flagClear changingTests queryTests recoverTests

@@ -8,6 +8,7 @@ use mathlib.Core.Option.{Option, none, some}
 use lib.ListN.{length, replicate}
 use lib.Dec.{eqb, leb, ltb}
 use Rattle.rules.specs.Choice.{all}
+use Rattle.rules.specs.Forms.{formGood}
 use Rattle.rules.specs.Words.{Table, wordsFor, odd, capacityTests, stateWord, headerOf, spotOf, keyIn, recordIn}
 use Rattle.rules.specs.Places.{lookup}
 use Rattle.rules.specs.Placing.{placing}
@@ -77,18 +78,19 @@ queryAt t (Absent n) = Unknown KeyAbsent n
 unfoldable pub queryResult : Table → ℕ → Query
 queryResult t key = checked (λ (r : Refusal). Unknown r 0) (queryTests t) (queryAt t (lookup t (headerOf t) key))
 
--- create: "13 | c, first k (1 to c), length or a multiplier bad". The lent words are the table at entry and at exit
-unfoldable pub createTests : ℕ → ℕ → ℕ → ℕ → ℕ → List Bool
-createTests size c k mul1 mul2 =
-    all (capacityTests c) ∷ leb 1 k ∷ leb k c ∷ eqb size (wordsFor c) ∷ odd mul1 ∷ odd mul2 ∷ []
+-- create: "13 | c, first k (1 to c), length or a multiplier bad"; document 02, request g): "Creation is told the form; any but 1 and 2 gives 13".
+-- The lent words are the table at entry and at exit
+unfoldable pub createTests : ℕ → ℕ → ℕ → ℕ → ℕ → ℕ → List Bool
+createTests size form c k mul1 mul2 =
+    formGood form ∷ all (capacityTests c) ∷ leb 1 k ∷ leb k c ∷ eqb size (wordsFor c) ∷ odd mul1 ∷ odd mul2 ∷ []
 
 -- "Creation zeroes all words and writes the header."
-unfoldable pub created : ℕ → ℕ → ℕ → ℕ → Table
-created c k mul1 mul2 = 1 ∷ c ∷ mul1 ∷ mul2 ∷ stateWord (record { k = k; phase = 0 }) ∷ replicate (wordsFor c - 5) 0
+unfoldable pub created : ℕ → ℕ → ℕ → ℕ → ℕ → Table
+created form c k mul1 mul2 = form ∷ c ∷ mul1 ∷ mul2 ∷ stateWord (record { k = k; phase = 0 }) ∷ replicate (wordsFor c - 5) 0
 
-unfoldable pub createResult : Table → ℕ → ℕ → ℕ → ℕ → Verdict × Table
-createResult t c k mul1 mul2 =
-    cond (all (createTests (length t) c k mul1 mul2)) (Done, created c k mul1 mul2) (Denied BadCreation, t)
+unfoldable pub createResult : Table → ℕ → ℕ → ℕ → ℕ → ℕ → Verdict × Table
+createResult t form c k mul1 mul2 =
+    cond (all (createTests (length t) form c k mul1 mul2)) (Done, created form c k mul1 mul2) (Denied BadCreation, t)
 
 -- make: "14 | n pairs are not in the list, or an index among them is outside the table". The list is only read
 unfoldable pub makeTests : Table → List ℕ → ℕ → List Bool

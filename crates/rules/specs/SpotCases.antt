@@ -8,6 +8,9 @@ use mathlib.Core.Path.{_≡_, refl}
 use mathlib.Core.List.{List, [], _∷_, map, flatMap}
 use lib.ListN.{set}
 use Rattle.words.specs.Product.{productOf, hashOf}
+use Rattle.rules.specs.Forms.{formGood, tagged, mixed, tagOf}
+use Rattle.rules.specs.Words.{wordRead, tagIn, markMeant}
+use Rattle.rules.specs.Places.{fits}
 use Rattle.rules.specs.Words.{Table, wordsFor, stateOf, stateWord, atRest, shrinking, headerOf, flagOf, stateGood, odd, capacityTests, headerTests}
 use Rattle.rules.specs.Words.{topOf, bottomOf, interimOf, levelsInUse, bucketsOf, slotAt, slotsIn, placeOf, placeAt, slotsOf, tokenWord, keyWord}
 use Rattle.rules.specs.Words.{functionWord, placeWord, spotOf, keyIn, recordIn, tokenOf, tokenNumber, isTaken, show, hide, takenOf, taken}
@@ -69,13 +72,13 @@ cases r =
     -- "with any refusal, index 0 and top": 5, 3 and 1
     ∷ row 19 (asks (growing r) 17) (tells 5 (0 ∷ 0 ∷ 4 ∷ 0 ∷ 0 ∷ []))
     ∷ row 20 (asks (set (growing r) 5 1) 9) (tells 3 (0 ∷ 0 ∷ 0 ∷ 0 ∷ 0 ∷ []))
-    ∷ row 21 (asks (set (growing r) 0 2) 9) (tells 1 (0 ∷ 0 ∷ 0 ∷ 0 ∷ 0 ∷ []))
+    ∷ row 21 (asks (set (growing r) 0 3) 9) (tells 1 (0 ∷ 0 ∷ 0 ∷ 0 ∷ 0 ∷ []))
     ∷ []
 
 -- the rules compute what request e) asks for
 pub spotCases : (r : ℕ → Record) → map (λ (x : Row). x .computed) (cases r) ≡ map (λ (x : Row). x .paper) (cases r)
 unfolding productOf hashOf flatMap wordsFor stateOf stateWord atRest shrinking headerOf flagOf stateGood odd capacityTests headerTests topOf bottomOf interimOf
-    levelsInUse bucketsOf slotAt slotsIn placeOf placeAt slotsOf tokenWord keyWord functionWord placeWord spotOf keyIn recordIn tokenOf tokenNumber
+    levelsInUse bucketsOf slotAt slotsIn placeOf placeAt slotsOf tokenWord keyWord functionWord placeWord spotOf keyIn recordIn tokenOf formGood tagged mixed tagOf wordRead tagIn fits markMeant tokenNumber
     isTaken show hide takenOf taken hashesOf firstPlace secondPlace samePlace placesIn probes placesOf holds hitIn lookup takenIn freeSlot fewer emptier
     roomIn placing putStores clearStores placingStores updateStores stateStores stepStores written headerGood listLong flagClear changingTests queryTests
     beginTests beginOf interimSlots interimItems interimBucket itemsFrom hasPlace stepItem stepTests stepOf outcome changeResult queryResult createTests

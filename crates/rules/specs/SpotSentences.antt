@@ -6,7 +6,8 @@ use mathlib.Core.Path.{_≡_}
 use mathlib.Core.List.{List, [], _∷_, _++_, List·Memᴰ as In}
 use mathlib.Core.Logic.{_⊎_}
 use lib.ListN.{length, getD, take, drop}
-use Rattle.rules.specs.Words.{Table, word, headerOf, GoodHeader, flagOf, placeOf, tokenOf, hide}
+use Rattle.rules.specs.Forms.{tagOf}
+use Rattle.rules.specs.Words.{Table, word, headerOf, GoodHeader, flagOf, placeOf, tokenOf, tagIn, hide}
 use Rattle.rules.specs.Places.{placesOf, lookup}
 use Rattle.rules.specs.Placing.{freeSlot}
 use Rattle.rules.specs.Stores.{Store}
@@ -25,9 +26,12 @@ use Rattle.rules.specs.declared.Refusal.the-variants.{KeyPresent}
 -- ==== "The inner lookup, and query with it, must also return the word index of the key found and whether it was top, bottom or interim"
 
 -- a taken slot with the key: slot s of bucket j. "Bucket j starts at word 9 + 13j: one token word, then four slots of three words: key,
--- function, place. Slot s starts at offset 1 + 3s. Token bit s is 1 when slot s is taken." "Calls read token words modulo 16"
+-- function, place. Slot s starts at offset 1 + 3s. Token bit s is 1 when slot s is taken." "Calls read token words modulo 16".
+-- Request g): "reads only the slots whose tag fits"
 abbrev pub KeyStands : Table → ℕ → ℕ → ℕ → Type 0
-KeyStands t key j s = (word t (9 + 13 * j) % 16 / 2 ^ s % 2 ≡ 1) × (word t (9 + 13 * j + (1 + 3 * s)) ≡ key)
+KeyStands t key j s =
+    (word t (9 + 13 * j) % 16 / 2 ^ s % 2 ≡ 1)
+    × ((tagIn (headerOf t) (word t (9 + 13 * j)) s ≡ tagOf (headerOf t) key) × (word t (9 + 13 * j + (1 + 3 * s)) ≡ key))
 
 -- a level in use of that name, and bucket j in it. "The top has 2^k buckets, the bottom half that; while growing, an interim level has a
 -- quarter"; while shrinking, it has twice the top's (`interimSize`). "A level of M buckets .. is always buckets M − 1 to 2M − 2."

@@ -7,6 +7,9 @@ use mathlib.Core.Path.{_≡_, refl}
 use mathlib.Core.List.{List, [], _∷_, _++_, map, flatMap}
 use lib.ListN.{replicate, set}
 use Rattle.words.specs.Product.{productOf, hashOf}
+use Rattle.rules.specs.Forms.{formGood, tagged, mixed, tagOf}
+use Rattle.rules.specs.Words.{wordRead, tagIn, markMeant}
+use Rattle.rules.specs.Places.{fits}
 use Rattle.rules.specs.Words.{Table, wordsFor, stateOf, stateWord, atRest, shrinking, headerOf, flagOf, stateGood, odd, capacityTests, headerTests}
 use Rattle.rules.specs.Words.{topOf, bottomOf, interimOf, levelsInUse, bucketsOf, slotAt, slotsIn, placeAt, slotsOf, tokenWord, keyWord, functionWord}
 use Rattle.rules.specs.Words.{placeWord, keyIn, recordIn, tokenOf, tokenNumber, isTaken, show, hide, takenOf, taken}
@@ -49,13 +52,13 @@ turned r = inserted r (madeAll (filled r (3 ∷ 7 ∷ 11 ∷ 15 ∷ 17 ∷ 16 �
 -- ---- c = 3, and two interim buckets: keys 16, 20, 24 and 28 fill the first, key 17 stands in the second
 
 unfoldable pub wide : (ℕ → Record) → Table
-wide r = madeAll (inserted r (createResult (replicate 204 7) 3 2 4294967297 4294967297 .1)
+wide r = madeAll (inserted r (createResult (replicate 204 7) 1 3 2 4294967297 4294967297 .1)
     (0 ∷ 8 ∷ 32 ∷ 40 ∷ 16 ∷ 20 ∷ 24 ∷ 28 ∷ 1 ∷ 5 ∷ 9 ∷ 13 ∷ 17 ∷ [])) begin
 
 -- 17 is stuck: the items of its bucket of the bottom have no other place than its bucket of the new top, which is full. Keys 16, 20, 24 and 28,
 -- in the first interim bucket, have room in the new top
 unfoldable pub late : (ℕ → Record) → Table
-late r = inserted r (madeAll (inserted r (createResult (replicate 204 7) 3 2 4294967297 4294967297 .1)
+late r = inserted r (madeAll (inserted r (createResult (replicate 204 7) 1 3 2 4294967297 4294967297 .1)
     (0 ∷ 8 ∷ 32 ∷ 40 ∷ 16 ∷ 20 ∷ 24 ∷ 28 ∷ 1 ∷ 9 ∷ 25 ∷ 33 ∷ 17 ∷ [])) begin) (41 ∷ 49 ∷ 57 ∷ 65 ∷ [])
 
 -- ---- the table
@@ -148,7 +151,7 @@ cases r = oneBucket r (blocked r) ++ (twoBuckets r (wide r) ++ (stuckLate (late 
 -- the rules compute what the requests ask for
 pub stepCases : (r : ℕ → Record) → map (λ (x : Row). x .computed) (cases r) ≡ map (λ (x : Row). x .paper) (cases r)
 unfolding productOf hashOf flatMap wordsFor stateOf stateWord atRest shrinking headerOf flagOf stateGood odd capacityTests headerTests topOf bottomOf interimOf
-    levelsInUse bucketsOf slotAt slotsIn placeAt slotsOf tokenWord keyWord functionWord placeWord keyIn recordIn tokenOf tokenNumber isTaken show hide
+    levelsInUse bucketsOf slotAt slotsIn placeAt slotsOf tokenWord keyWord functionWord placeWord keyIn recordIn tokenOf formGood tagged mixed tagOf wordRead tagIn fits markMeant tokenNumber isTaken show hide
     takenOf taken hashesOf firstPlace secondPlace samePlace placesIn probes placesOf holds hitIn lookup takenIn freeSlot fewer emptier roomIn
     otherPlace itemsOf candidates moveOf placing putStores clearStores moveStores placingStores stateStores stepStores written steppedMeans
     steppedFromMeans headerGood listLong flagClear changingTests beginTests beginOf interimSlots interimItems interimBucket itemsFrom hasPlace

@@ -2,7 +2,7 @@
 --
 -- A table is a list of words; a word past its end reads as 0. Nothing here tests anything but what it says it tests:
 -- which tables a call accepts is said in `Calls`.
--- Token words are read and written only by `isTaken`, `show` and `hide`, and `meant` says which should stand where.
+-- Token words are read and written only by `isTaken`, `tagIn`, `show` and `hide`, and `meant` says which should stand where.
 -- Assumes nothing.
 use Prim.Native.Nat.{ℕ, _+_, _-_, _*_, _/_, _%_, _^_, _≤_, _<_}
 use mathlib.Core.Path.{_≡_}
@@ -13,6 +13,7 @@ use mathlib.Core.Option.{Option·getD}
 use lib.ListN.{length, getD}
 use lib.Dec.{eqb, leb, ltb}
 use Rattle.rules.specs.Choice.{all, any, given, select, firstOf, from}
+use Rattle.rules.specs.Forms.{formGood, GoodForm, tagged, tagOf}
 use Rattle.rules.specs.declared.State.{State}
 use Rattle.rules.specs.declared.Header.{Header}
 use Rattle.rules.specs.declared.Level.{Level}
@@ -98,13 +99,13 @@ capacityTests c = leb 1 c ∷ leb c 20 ∷ []
 -- a good header, over the table's length: what refusal 1 asks, "length, form, c, multipliers or state"
 unfoldable pub headerTests : ℕ → Header → List Bool
 headerTests size h =
-    all (capacityTests (h .c)) ∷ eqb size (wordsFor (h .c)) ∷ eqb (h .form) 1
+    all (capacityTests (h .c)) ∷ eqb size (wordsFor (h .c)) ∷ formGood (h .form)
     ∷ odd (h .mul1) ∷ odd (h .mul2) ∷ stateGood (h .c) (h .state) ∷ []
 
 pub record GoodHeader (size : ℕ) (h : Header) : Type 0 where
   pub capacity : (1 ≤ h .c) × (h .c ≤ 20)
   pub long : size ≡ wordsFor (h .c)
-  pub form : h .form ≡ 1
+  pub form : GoodForm (h .form)
   pub odd1 : h .mul1 % 2 ≡ 1
   pub odd2 : h .mul2 % 2 ≡ 1
   pub state : GoodState (h .c) (h .state)
@@ -225,7 +226,7 @@ keysOf t j s = word t (slotWord j s)
 
 -- ---- token words: what one holds is known only here
 
--- "Calls read token words modulo 16": the token number, which is the four bits
+-- the token number: bits 0 to 3 of a token word, by which slots are taken in either form
 unfoldable pub tokenNumber : ℕ → ℕ
 tokenNumber w = w % 16
 
@@ -233,12 +234,25 @@ tokenNumber w = w % 16
 unfoldable pub isTaken : Header → ℕ → ℕ → Bool
 isTaken h w s = eqb (tokenNumber w / 2 ^ s % 2) 1
 
--- the token word with slot s taken by a key, and with slot s free; "a token store is always below 16"
-unfoldable pub show : Header → ℕ → ℕ → ℕ → ℕ
-show h w s key = cond (isTaken h w s) (tokenNumber w) (tokenNumber w + 2 ^ s)
+-- "Calls read token words modulo 16"; document 02, request g), of form 2: "calls read and write the whole word where 01 said modulo 16"
+unfoldable pub wordRead : Header → ℕ → ℕ
+wordRead h w = cond (tagged h) w (tokenNumber w)
 
+-- "slot s at bits 8 + 8s to 15 + 8s"; in form 1 no bit is read there
+unfoldable pub tagIn : Header → ℕ → ℕ → ℕ
+tagIn h w s = wordRead h w / 2 ^ (8 + 8 * s) % 256
+
+-- what slot s adds to a token word: its bit, and its tag
+abbrev pub mark : ℕ → ℕ → ℕ → ℕ
+mark s bit tag = bit * 2 ^ s + tag * 2 ^ (8 + 8 * s)
+
+-- the token word with slot s free, and with slot s taken by a key: "Token and tag change in one store", "keeping bits they do not change".
+-- Of form 1 "a token store is always below 16"
 unfoldable pub hide : Header → ℕ → ℕ → ℕ
-hide h w s = cond (isTaken h w s) (tokenNumber w - 2 ^ s) (tokenNumber w)
+hide h w s = wordRead h w - mark s (tokenNumber w / 2 ^ s % 2) (tagIn h w s)
+
+unfoldable pub show : Header → ℕ → ℕ → ℕ → ℕ
+show h w s key = hide h w s + mark s 1 (tagOf h key)
 
 -- how many slots of a token word are taken; its "lowest free slot" and its lowest taken one, 4 where there is none
 unfoldable pub takenOf : Header → ℕ → ℕ
@@ -253,10 +267,13 @@ lowestFree h w = lowest (λ (s : ℕ). not (isTaken h w s))
 unfoldable pub lowestTaken : Header → ℕ → ℕ
 lowestTaken h w = lowest (isTaken h w)
 
--- the word that should stand where w does, by its taken slots and the keys of its four slots: "every token word at most 15".
--- The keys play no part in form 1
+-- the word that should stand where w does, by its taken slots and the keys of its four slots. Form 1: "every token word at most 15"; form 2: "an
+-- eight-bit tag for each taken slot", "Free slots have tag 0; all other upper bits are 0"
+unfoldable pub markMeant : Header → ℕ → (ℕ → ℕ) → ℕ → ℕ
+markMeant h w keys s = cond (isTaken h w s) (mark s 1 (tagOf h (keys s))) 0
+
 unfoldable pub meant : Header → ℕ → (ℕ → ℕ) → ℕ
-meant h w keys = tokenNumber w
+meant h w keys = markMeant h w keys 0 + (markMeant h w keys 1 + (markMeant h w keys 2 + markMeant h w keys 3))
 
 -- ---- the token words of a table
 

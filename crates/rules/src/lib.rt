@@ -25,10 +25,11 @@ pub struct Level {
     pub exponent: u64,
 }
 
-// Hash 1 and hash 2 of a key.
+// Hash 1 and hash 2 of a key, and beside them its tag, which comes from the product of hash 1; 0 in form 1, which has none.
 pub struct Hashes {
     pub first: u64,
     pub second: u64,
+    pub tag: u64,
 }
 
 // A bucket of a level.

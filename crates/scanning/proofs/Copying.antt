@@ -12,7 +12,7 @@ use native.Mathlib.Omega.{arith}
 use lib.ListN.{length}
 use Rattle.rules.specs.Choice.{all}
 use Rattle.rules.specs.Words.{Table, GoodHeader, GoodState, headerOf, placeOf, keyIn}
-use Rattle.rules.specs.Places.{samePlace, placesOf, lookup}
+use Rattle.rules.specs.Places.{fits, samePlace, placesOf, lookup}
 use Rattle.rules.specs.Soundness.{takenSlots, TakenSlot, inPlace, Before, twins, whenStill, whenFlagged}
 use Rattle.scanning.specs.Copying.{isBefore, inOrder, sameSlot, copyAt, copiesOf}
 use Rattle.rules.specs.declared.Place.{Place}
@@ -27,7 +27,7 @@ use Rattle.rules.proofs.Words.FreeSlots.{slot-place}
 use Rattle.rules.proofs.Places.PlacesInUse.{same-place-tells, slot-by-bucket, in-place}
 use Rattle.rules.proofs.Tables.Twins.{before-once, before-apart, taken-in, in-taken, taken-apart, taken-compare, Twins, twins-ordered, twins-apart}
 use Rattle.rules.proofs.Tables.Twins.{same-or-twins}
-use Rattle.rules.proofs.Places.Lookups.{stands-one, lookup-stands, lookup-sees, holder-among, holder-taken}
+use Rattle.rules.proofs.Places.Lookups.{stands-one, Tidied, tag-fits, lookup-stands, lookup-sees, holder-among, holder-taken}
 
 -- ---- the order of slots as a test
 
@@ -150,9 +150,9 @@ module _ (t : Table) where
           never (same-self y) (rw (own ∙ c .1) at (g .2)))
           (in-order-one x (f .0) y (g .0) (sym (f .3) ∙ e ∙ g .3))
 
-  -- ---- where each taken slot is "in a place of its key"
+  -- ---- where each taken slot has a tag that fits its key, and is "in a place of its key"
 
-  module _ (c : ℕ) (good : GoodState c (headerOf t .state)) (placed : (x : Slot) → TakenSlot t x → inPlace t x ≡ true) where
+  module _ (c : ℕ) (good : GoodState c (headerOf t .state)) (fitting : (x : Slot) → TakenSlot t x → fits t (headerOf t) (keyIn t x) x ≡ true) (placed : (x : Slot) → TakenSlot t x → inPlace t x ≡ true) where
     -- its lookup ends somewhere
     ends : (x : Slot) → TakenSlot t x → (y : Slot) × Ends x y
     unfolding Ends
@@ -160,7 +160,7 @@ module _ (t : Table) where
       where
         go : (o : Lookup) → lookup t (headerOf t) (keyIn t x) ≡ o → (y : Slot) × Ends x y
         go (Stands y n) q = (y, (n, q))
-        go (Absent n) q = absurd (lookup-sees t x u (in-place c t good x (u .used) (placed x u)) n q)
+        go (Absent n) q = absurd (lookup-sees t x u (fitting x u) (in-place c t good x (u .used) (placed x u)) n q)
 
     -- and where that is elsewhere, a copy is found
     copy-listed : (x y : Slot) → TakenSlot t x → Ends x y → (x ≡ y → ⊥) → In (inOrder x y) (copies t)
@@ -215,11 +215,11 @@ module _ (t : Table) where
         first (inr n) = second n (compare b z (w .later) taken-z)
 
 -- the search that is linear in the table finds the pairs that the rules name, or as they do more than one
-pub linear : (t : Table) → GoodHeader (length t) (headerOf t) → all (map (inPlace t) (takenSlots t)) ≡ true → Alike (twins t) (copies t)
-linear t g e =
+pub linear : (t : Table) → GoodHeader (length t) (headerOf t) → Tidied t → all (map (inPlace t) (takenSlots t)) ≡ true → Alike (twins t) (copies t)
+linear t g tidied e =
     alike-parts (twins t) (copies t) (twins-apart t) (copies-apart t) (copy-twins t)
     (λ u i.
-    twins-copy t (headerOf t .c) (g .state) (λ x w. tells-all (inPlace t) _ (λ x. Iff·rfl) (takenSlots t) .0 e x (in-taken t x w)) (u .0) (u .1)
+    twins-copy t (headerOf t .c) (g .state) (tag-fits t g tidied) (λ x w. tells-all (inPlace t) _ (λ x. Iff·rfl) (takenSlots t) .0 e x (in-taken t x w)) (u .0) (u .1)
     (twins-ordered t (u .0) (u .1) i))
 
 -- ---- what recovery finds is alike

@@ -8,7 +8,7 @@ use mathlib.Core.Logic.{Iff·rfl}
 use lib.ListN.{length}
 use Rattle.rules.specs.Choice.{all}
 use Rattle.rules.specs.Words.{Table, GoodHeader, headerOf, keyIn, taken, slotsInUse}
-use Rattle.rules.specs.Places.{lookup}
+use Rattle.rules.specs.Places.{fits, lookup}
 use Rattle.rules.specs.Soundness.{takenSlots, TakenSlot, inPlace}
 use Rattle.scanning.specs.Copying.{inOrder, sameSlot, copyAt, copiesOf}
 use Rattle.rules.specs.declared.Slot.{Slot}
@@ -19,7 +19,7 @@ use Rattle.rules.proofs.Basics.Tests.{tells-and}
 use Rattle.rules.proofs.Basics.Loops.{fold-select}
 use Rattle.rules.proofs.Places.PlacesInUse.{in-place}
 use Rattle.rules.proofs.Tables.Twins.{taken-in}
-use Rattle.rules.proofs.Places.Lookups.{lookup-sees}
+use Rattle.rules.proofs.Places.Lookups.{Tidied, tag-fits, lookup-sees}
 use Rattle.scanning.proofs.Copying.{copies, itself-in-place}
 use Rattle.scanning.specs.declared.copies.Scan.{Scan}
 use Rattle.scanning.specs.declared.copies.Scan.the-variants.{Clear, Spoilt}
@@ -40,10 +40,11 @@ pairs-scanned (u ∷ (v ∷ us)) = pairs-spoilt us
 -- ---- items, one after the other
 
 module _ (t : Table) (g : GoodHeader (length t) (headerOf t)) where
-  -- a taken slot that is "in a place of its key": its copy, if it has one
-  item-in : (found : Scan) (x : Slot) → TakenSlot t x → inPlace t x ≡ true → itemMet t (headerOf t) found x ≡ foldl metOf found (copiesOf t (headerOf t) x)
+  -- where its tag fits its key, a taken slot that is "in a place of its key": its copy, if it has one
+  item-in : (found : Scan) (x : Slot) → TakenSlot t x → fits t (headerOf t) (keyIn t x) x ≡ true → inPlace t x ≡ true
+      → itemMet t (headerOf t) found x ≡ foldl metOf found (copiesOf t (headerOf t) x)
   unfolding itemMet copiesOf inPlace
-  item-in found x u e = rw e (go (lookup t (headerOf t) (keyIn t x)) refl)
+  item-in found x u tag e = rw e (go (lookup t (headerOf t) (keyIn t x)) refl)
     where
       one : (y : Slot) (b : Bool) → cond b found (metOf found (inOrder x y)) ≡ foldl metOf found (cond b [] (inOrder x y ∷ []))
       one y true = refl
@@ -51,7 +52,7 @@ module _ (t : Table) (g : GoodHeader (length t) (headerOf t)) where
 
       go : (o : Lookup) → lookup t (headerOf t) (keyIn t x) ≡ o → endedAt found x true o ≡ foldl metOf found (copyAt x o)
       go (Stands y n) q = one y (sameSlot x y)
-      go (Absent n) q = absurd (lookup-sees t x u (in-place (headerOf t .c) t (g .state) x (u .used) e) n q)
+      go (Absent n) q = absurd (lookup-sees t x u tag (in-place (headerOf t .c) t (g .state) x (u .used) e) n q)
 
   -- and one that is not
   item-out : (found : Scan) (x : Slot) → inPlace t x ≡ false → itemMet t (headerOf t) found x ≡ Spoilt
@@ -84,13 +85,14 @@ module _ (t : Table) (g : GoodHeader (length t) (headerOf t)) where
       go b (Stands y n) = two (sameSlot x y) b
       go b (Absent n) = refl
 
-  items-placed : (found : Scan) (l : List Slot) → ((x : Slot) → In x l → TakenSlot t x) → all (map (inPlace t) l) ≡ true
+  items-placed : Tidied t → (found : Scan) (l : List Slot) → ((x : Slot) → In x l → TakenSlot t x) → all (map (inPlace t) l) ≡ true
       → foldl (itemMet t (headerOf t)) found l ≡ foldl metOf found (flatMap (copiesOf t (headerOf t)) l)
   unfolding flatMap
-  items-placed found [] k e = refl
-  items-placed found (x ∷ xs) k e =
+  items-placed tidied found [] k e = refl
+  items-placed tidied found (x ∷ xs) k e =
       let r = tells-and (inPlace t x) (all (map (inPlace t) xs)) Iff·rfl Iff·rfl .0 e in
-      after xs (item-in found x (k x (here refl)) (r .0)) ∙ items-placed (foldl metOf found (copiesOf t (headerOf t) x)) xs (λ y i. k y (there i)) (r .1)
+      let u = k x (here refl) in
+      after xs (item-in found x u (tag-fits t g tidied x u) (r .0)) ∙ items-placed tidied (foldl metOf found (copiesOf t (headerOf t) x)) xs (λ y i. k y (there i)) (r .1)
       ∙ sym (foldl-append metOf found (copiesOf t (headerOf t) x) (flatMap (copiesOf t (headerOf t)) xs))
 
   items-misplaced : (found : Scan) (l : List Slot) → all (map (inPlace t) l) ≡ false → foldl (itemMet t (headerOf t)) found l ≡ Spoilt
@@ -111,6 +113,6 @@ module _ (t : Table) (g : GoodHeader (length t) (headerOf t)) where
   pub scan-misplaced : all (map (inPlace t) (takenSlots t)) ≡ false → scanOf t (headerOf t) ≡ Spoilt
   scan-misplaced e = scan-items ∙ items-misplaced Clear (takenSlots t) e
 
-  pub scan-placed : all (map (inPlace t) (takenSlots t)) ≡ true → scanOf t (headerOf t) ≡ scanned (copies t)
+  pub scan-placed : Tidied t → all (map (inPlace t) (takenSlots t)) ≡ true → scanOf t (headerOf t) ≡ scanned (copies t)
   unfolding copies
-  scan-placed e = scan-items ∙ items-placed Clear (takenSlots t) (taken-in t) e ∙ pairs-scanned (copies t)
+  scan-placed tidied e = scan-items ∙ items-placed tidied Clear (takenSlots t) (taken-in t) e ∙ pairs-scanned (copies t)

@@ -7,6 +7,9 @@ use mathlib.Core.Path.{_≡_, refl}
 use mathlib.Core.List.{List, [], _∷_, _++_, map, flatMap}
 use lib.ListN.{length, replicate}
 use Rattle.words.specs.Product.{productOf, hashOf}
+use Rattle.rules.specs.Forms.{formGood, tagged, mixed, tagOf}
+use Rattle.rules.specs.Words.{wordRead, tagIn, markMeant}
+use Rattle.rules.specs.Places.{fits}
 use Rattle.rules.specs.Words.{wordsFor, stateOf, stateWord, atRest, shrinking as phase2, headerOf, flagOf, stateGood, odd, capacityTests, headerTests}
 use Rattle.rules.specs.Words.{topOf, bottomOf}
 use Rattle.rules.specs.Words.{interimOf, levelsInUse, slotAt, slotsIn, placeAt, placeOf, tokenWord, keyWord, spotOf, functionWord, placeWord, keyIn, recordIn}
@@ -156,7 +159,7 @@ cases =
 pub cases-computed : map (λ (x : List ℕ × List ℕ). outputTo (replicate 100 7) (x .0)) cases ≡ map (λ (x : List ℕ × List ℕ). x .1) cases
 unfolding productOf hashOf flatMap wordsFor stateOf stateWord atRest phase2 headerOf flagOf stateGood odd capacityTests headerTests topOf bottomOf interimOf
     levelsInUse bucketsOf allBuckets exponentInUse unusedBuckets slotAt slotsIn placeOf placeAt slotsOf slotsInUse tokenWord keyWord spotOf functionWord
-    placeWord keyIn recordIn tokenOf tokenNumber isTaken show hide takenOf meant taken meantOf hashesOf firstPlace secondPlace samePlace placesIn
+    placeWord keyIn recordIn tokenOf formGood tagged mixed tagOf wordRead tagIn fits markMeant tokenNumber isTaken show hide takenOf meant taken meantOf hashesOf firstPlace secondPlace samePlace placesIn
     probes holds hitIn lookup takenIn freeSlot fewer emptier roomIn placing putStores clearStores placingStores updateStores turnedOf stateStores
     stepStores written takenSlots tokensTidy unusedEmpty placesOf inPlace orderlyTests sameKey twins sameRecord target finding headerGood listLong
     flagClear changingTests queryTests recoverTests beginTests beginOf shrinkTests shrinkOf backTests backOf interimSlots interimItems interimBucket

@@ -9,7 +9,7 @@ use Rattle.rules.proofs.Calls.Meanings.{placing-told-by}
 use Rattle.listing.specs.Listing.{Takes}
 use Rattle.listing.proofs.Placings.{apart-free, apart-move}
 use Rattle.listing.proofs.Outcomes.{did-list, did-refuse, did-as}
-use Rattle.changing.proofs.Changes.{take-nowhere, take-listed}
+use Rattle.changing.proofs.Changes.{hashed-tag, take-nowhere, take-listed}
 use borrow.Author.Needs.{needs}
 use Rattle.changing.proofs.insert_absent.Statement.{statement}
 use Rattle.changing.proofs.insert_absent.Tie as tie
@@ -40,7 +40,7 @@ returns c = let p = c .before .before in did-as (take-nowhere _ _ _ _ (placing-t
 insert-stores-requires : tie.Need-insert-stores-requires
 insert-stores-requires c κs =
     let s = c .before .before .before .before .before in
-    (omega (arith, s .pre .0), table-small _ _ (s .pre .1 .good), taken (c .before) .1)
+    (omega (arith, s .pre .0), table-small _ _ (s .pre .1 .good), taken (c .before) .1, hashed-tag _ _ (s .pre .2))
 
 same-length : tie.Need-same-length
 same-length c = search needs

@@ -9,7 +9,7 @@ use Rattle.changing.proofs.insert_by_move.Tie as tie
 
 list-placing-requires : tie.Need-list-placing-requires
 unfolding Takes
-list-placing-requires c κs = let s = c .before .before .before in (omega arith, s .pre .1, (refl, s .pre .2))
+list-placing-requires c κs = let s = c .before .before .before in (omega arith, s .pre .1, (refl, s .pre .2), s .pre .3)
 
 same-length : tie.Need-same-length
 same-length c = search needs

@@ -20,7 +20,7 @@ insert-by-move-requires c κs =
     let f = c .before .before in
     let s = f .before .before .before .before in
     let k = takes-moved _ _ (f .p .given .1) (s .pre .2) in
-    (s .pre .0, s .pre .1, (k .1, k .2))
+    (s .pre .0, s .pre .1, (k .1, k .2), s .pre .3)
 
 same-length : tie.Need-same-length
 same-length c = search needs
@@ -34,7 +34,10 @@ token-requires : tie.Need-token-requires
 token-requires c κs = within (c .before .before .before .before) .0
 
 put-requires : tie.Need-put-requires
-put-requires c κs = let w = within (c .before .before .before .before .before) in omega (arith, w .0, w .1)
+put-requires c κs =
+    let s = c .before .before .before .before .before in
+    let w = within s in
+    (omega arith, omega (arith, w .0, w .1), s .pre .3)
 
 same-length-2 : tie.Need-same-length-2
 same-length-2 c = search needs

@@ -47,7 +47,7 @@ put-requires c κs =
     let f = c .before .before .before .before in
     let w = within f in
     let s = f .before .before .before .before .before in
-    omega (arith, s .pre .0, s .pre .1, w .0, w .1)
+    (omega (arith, s .pre .0), omega (arith, s .pre .1, w .0, w .1), s .pre .3)
 
 same-length-2 : tie.Need-same-length-2
 same-length-2 c = search needs

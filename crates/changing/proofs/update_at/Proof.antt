@@ -3,13 +3,16 @@
 use native.Mathlib.Omega.{arith}
 use Rattle.rules.proofs.Words.Headers.{table-small}
 use Rattle.listing.proofs.Outcomes.{did-list, did-refuse, did-as}
-use Rattle.changing.proofs.Changes.{is-absent, update-absent, update-listed}
+use Rattle.changing.proofs.Changes.{hashed-tag, is-absent, update-absent, update-listed}
 use borrow.Author.Needs.{needs}
 use Rattle.changing.proofs.update_at.Statement.{statement}
 use Rattle.changing.proofs.update_at.Tie as tie
 
-lookup-requires : tie.Need-lookup-requires
-lookup-requires c κs = search needs
+hashes-requires : tie.Need-hashes-requires
+hashes-requires c κs = search needs
+
+lookup-by-requires : tie.Need-lookup-by-requires
+lookup-by-requires c κs = (c .before .before .before .pre .1, c .hashes .ensures)
 
 enum-told : tie.Need-enum-told
 enum-told c = search needs
@@ -20,11 +23,12 @@ enum-known-found c = search needs
 renewed-requires : tie.Need-renewed-requires
 renewed-requires c κs =
     let f = c .before .before in
-    let s = f .before .before .before .before .before in
-    (omega (arith, s .pre .0), table-small _ _ (s .pre .1), rw (f .found .given .1) at (f .before .before .lookup .ensures .1))
+    let g = f .before .before .before in
+    let s = g .before .before .before in
+    (omega (arith, s .pre .0), table-small _ _ (s .pre .1), rw (f .found .given .1) at (f .before .before .lookup-by .ensures .1), hashed-tag _ _ (g .hashes .ensures))
 
 returns : tie.Need-returns
-returns c = let d = c .before .before in did-as (update-absent _ _ _ (d .lookup .ensures .0) _ (is-absent _ (c .before .match .keys1) .1)) (did-refuse _ _)
+returns c = let d = c .before .before in did-as (update-absent _ _ _ (d .lookup-by .ensures .0) _ (is-absent _ (c .before .match .keys1) .1)) (did-refuse _ _)
 
 same-length : tie.Need-same-length
 same-length c = search needs
@@ -33,14 +37,15 @@ returns-2 : tie.Need-returns-2
 returns-2 c =
     let d = c .before .before in
     let f = d .before .before .before in
-    did-as (update-listed _ _ _ (f .before .before .lookup .ensures .0) _ (f .found .given .1))
+    did-as (update-listed _ _ _ (f .before .before .lookup-by .ensures .0) _ (f .found .given .1))
     (did-list (d .renewed .ensures .0) (omega (arith, d .renewed .ensures .0 .0, d .renewed .ensures .1)))
 
 pub update-at-spec : {M : Type 1} → statement M
 update-at-spec =
     tie.close
     (tie.spec
-    lookup-requires
+    hashes-requires
+    lookup-by-requires
     enum-told
     enum-known-found
     renewed-requires

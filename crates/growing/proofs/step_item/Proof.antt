@@ -56,31 +56,34 @@ returns c =
     did-step-refuse _ _ _ _ (step-nowhere _ _ (f .first-placed .result) _ (f .first-placed .ensures) (m .match .keys3)) (c .unplaced .ensures)
 
 key-at-requires : tie.Need-key-at-requires
-key-at-requires c κs = found (c .before .before) .2
+key-at-requires c κs = found (c .before) .2
+
+tag-requires : tie.Need-tag-requires
+tag-requires c κs = search needs
 
 record-at-requires : tie.Need-record-at-requires
-record-at-requires c κs = found (c .before .before .before) .2
+record-at-requires c κs = found (c .before .before .before .before) .2
 
 list-placing-requires : tie.Need-list-placing-requires
 list-placing-requires c κs =
-    let m = c .before .before .before .before in
+    let m = c .before .before .before .before .before in
     let s = m .before .before .before .before in
-    (omega (arith, s .pre .0), table-small _ _ (s .pre .1 .good), taken m .1)
+    (omega (arith, s .pre .0), table-small _ _ (s .pre .1 .good), taken m .1, c .before .tag .ensures .0)
 
 token-requires : tie.Need-token-requires
-token-requires c κs = found (c .before .before .before .before .before .before .before .before) .2 .0
+token-requires c κs = found (c .before .before .before .before .before .before .before .before .before) .2 .0
 
 clear-requires : tie.Need-clear-requires
 clear-requires c κs =
     let d = c .before .before .before .before in
-    let m = d .before .before .before .before .before in
+    let m = d .before .before .before .before .before .before in
     let s = m .before .before .before .before in
     let x = found m .2 in
     omega (arith, s .pre .0, table-small _ _ (s .pre .1 .good), x .0, x .1, d .list-placing .ensures .1)
 
 bucket-in-level-requires : tie.Need-bucket-in-level-requires
 bucket-in-level-requires c κs =
-    let m = c .before .before .before .before .before .before .before .before .before .before .before .before in
+    let m = c .before .before .before .before .before .before .before .before .before .before .before .before .before in
     let s = m .before .before .before .before in
     (header-state _ _ (s .pre .1 .good), s .pre .2, step-in-level _ _ _ _ (found m .0))
 
@@ -92,10 +95,10 @@ returns-2 c =
     let u = c .before .before .before in
     let d = u .before .before .before .before .before in
     let r = d .before in
-    let m = r .before .before .before .before in
+    let m = r .before .before .before .before .before in
     let s = m .before .before .before .before in
     let x = found m in
-    did-step _ _ _ _ _ (x .0) (r .before .key-at .ensures) (r .record-at .ensures) (x .1) (u .before .token .ensures) (c .bucket-in-level .ensures)
+    did-step _ _ _ _ _ (x .0) (r .before .before .before .key-at .ensures) (r .record-at .ensures) (x .1) (u .before .token .ensures) (c .bucket-in-level .ensures)
     (s .pre .0) (d .list-placing .ensures) (u .clear .ensures)
 
 pub step-item-spec : {M : Type 1} → statement M
@@ -109,6 +112,7 @@ step-item-spec =
     unplaced-requires
     returns
     key-at-requires
+    tag-requires
     record-at-requires
     list-placing-requires
     token-requires

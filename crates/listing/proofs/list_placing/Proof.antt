@@ -36,7 +36,7 @@ put-requires c κs =
     let m = c .before .before .before .before .before in
     let q = m .before .before in
     let w = within (q .before .before .before .before .before) in
-    omega (arith, w .0, w .1)
+    (omega arith, omega (arith, w .0, w .1), q .before .before .before .before .before .pre .3)
 
 same-length : tie.Need-same-length
 same-length c = search needs
@@ -52,7 +52,10 @@ returns c =
     moved-run _ _ _ _ _ _ _ (w .token .ensures) (q .p .given .1) (k .0) (u .before .hide .ensures) (m .moved .ensures) (u .put .ensures)
 
 put-requires-2 : tie.Need-put-requires-2
-put-requires-2 c κs = let w = within (c .before .before .before .before .before) in omega (arith, w .0, w .1)
+put-requires-2 c κs =
+    let s = c .before .before .before .before .before in
+    let w = within s in
+    (omega arith, omega (arith, w .0, w .1), s .pre .3)
 
 same-length-2 : tie.Need-same-length-2
 same-length-2 c = search needs

@@ -14,6 +14,9 @@ record-at-requires c κs = search needs
 token-requires : tie.Need-token-requires
 token-requires c κs = search needs
 
+tag-requires : tie.Need-tag-requires
+tag-requires c κs = search needs
+
 put-requires : tie.Need-put-requires
 put-requires c κs = search needs
 
@@ -30,7 +33,7 @@ returns : tie.Need-returns
 returns c =
     let s = c .before .before in
     let p = s .before .before .before .before .before in
-    let k = p .before .before in
+    let k = p .before .before .before in
     move-run _ _ _ _ _ (k .token .ensures) (k .before .before .key-at .ensures) (k .before .record-at .ensures) (s .before .token2 .ensures)
     (p .put .ensures) (s .clear .ensures)
 
@@ -41,6 +44,7 @@ moved-spec =
     key-at-requires
     record-at-requires
     token-requires
+    tag-requires
     put-requires
     token-requires-2
     clear-requires

@@ -3,7 +3,10 @@
 use native.Mathlib.Omega.{arith}
 use Rattle.rules.specs.Words.{functionWord, placeWord, keyWord, tokenWord}
 use Rattle.rules.specs.Stores.{putStores}
-use Rattle.listing.proofs.Runs.{four}
+use mathlib.Core.Path.{_∙_}
+use Rattle.rules.proofs.Words.Forms.{tag-untagged}
+use Rattle.rules.proofs.Words.Tokens.{tag-small}
+use Rattle.listing.proofs.Runs.{four, shown-with}
 use borrow.Author.Needs.{needs}
 use Rattle.listing.proofs.put.Statement.{statement}
 use Rattle.listing.proofs.put.Tie as tie
@@ -15,7 +18,9 @@ token-word-requires : tie.Need-token-word-requires
 token-word-requires c κs = search needs
 
 show-requires : tie.Need-show-requires
-show-requires c κs = search needs
+show-requires c κs =
+    let pre = c .before .before .before .pre in
+    (pre .1 .1, (rw (pre .2) (tag-small _ _), λ e. pre .2 ∙ tag-untagged _ e _))
 
 store-requires : tie.Need-store-requires
 store-requires c κs = search needs
@@ -48,7 +53,7 @@ returns c =
     let s2 = s3 .before .before .before .before in
     let s1 = s2 .before .before .before .before in
     let k = s1 .before .before in
-    rw (← (k .before .before .key-word .ensures), ← (k .before .token-word .ensures), ← (k .show .ensures))
+    rw (← (k .before .before .key-word .ensures), ← (k .before .token-word .ensures), ← (shown-with _ _ _ _ (k .before .before .before .before .pre .2) (k .show .ensures)))
     (four _ _ _ _ _ (s1 .store .ensures) (s2 .store2 .ensures) (s3 .store3 .ensures) _ (s4 .store4 .ensures))
 
 pub put-spec : {M : Type 1} → statement M

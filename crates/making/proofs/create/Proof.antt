@@ -17,7 +17,7 @@ use Rattle.making.proofs.create.Tie as tie
 -- all tests passed
 passed : (c : tie.Else1) →
     let a = c .before .before .before .args in
-    all (createTests (length (now (a .t))) (a .c) (a .k) (a .mul1) (a .mul2)) ≡ true
+    all (createTests (length (now (a .t))) (a .form) (a .c) (a .k) (a .mul1) (a .mul2)) ≡ true
 passed c = sym (c .before .creation-good .ensures) ∙ not-false _ (c .if1 .left)
 
 -- so the zeroed table has room for the header
@@ -25,13 +25,13 @@ room : (c : tie.After-slice-known2) → 9 ≤ length (c .before .before .zero .l
 room c =
     let d = c .before .before .before .before in
     let a = d .before .before .before .args in
-    omega (arith, header-room (now (a .t)) (a .c) (a .k) (a .mul1) (a .mul2) (passed d), c .before .before .zero .kept .0)
+    omega (arith, header-room (now (a .t)) (a .form) (a .c) (a .k) (a .mul1) (a .mul2) (passed d), c .before .before .zero .kept .0)
 
 creation-good-requires : tie.Need-creation-good-requires
 creation-good-requires c κs = search needs
 
 returns : tie.Need-returns
-returns c = refused _ _ _ _ _ (sym (c .before .creation-good .ensures) ∙ not-true _ (c .if1 .taken))
+returns c = refused _ _ _ _ _ _ (sym (c .before .creation-good .ensures) ∙ not-true _ (c .if1 .taken))
 
 zero-requires : tie.Need-zero-requires
 zero-requires c κs = search needs
@@ -55,7 +55,7 @@ same-length : tie.Need-same-length
 same-length c = search needs
 
 returns-2 : tie.Need-returns-2
-returns-2 c = accepted _ _ _ _ _ (passed (c .before .before .before .before)) _ (c .before .before .zero .ensures)
+returns-2 c = accepted _ _ _ _ _ _ (passed (c .before .before .before .before)) _ (c .before .before .zero .ensures)
 
 pub create-spec : {M : Type 1} → statement M
 create-spec =

@@ -6,7 +6,7 @@ use borrow.Author.Tests.{not-true, not-false}
 use borrow.Author.Needs.{needs}
 use Rattle.rules.specs.Words.{flagOf}
 use Rattle.rules.proofs.Words.Headers.{header-fits}
-use Rattle.recovering.proofs.Deciding.{scan-within, find-untidy, find-unused, find-misflagged, find-still, find-flagged}
+use Rattle.recovering.proofs.Deciding.{scan-within, tidied-by, find-untidy, find-unused, find-misflagged, find-still, find-flagged}
 use Rattle.recovering.proofs.finding.Statement.{statement}
 use Rattle.recovering.proofs.finding.Tie as tie
 
@@ -38,8 +38,10 @@ shared-slice-read-if3 c = omega (arith, header-fits _ _ (begun (c .before) .pre 
 still-requires : tie.Need-still-requires
 still-requires c κs =
     let second = c .before .before .before in
-    let p = second .before .before .before .before .before .pre in
-    rw (c .before .before .scan-table .ensures, p .1) (scan-within _ (rw (p .1) at (p .0)))
+    let first = second .before .before in
+    let p = first .before .before .before .pre in
+    let tidy = sym (first .before .tokens-tidy .ensures) ∙ not-false _ (first .if1 .left) in
+    rw (c .before .before .scan-table .ensures, p .1) (scan-within _ (rw (p .1) at (p .0)) (tidied-by _ (p .1) tidy))
 
 returns-3 : tie.Need-returns-3
 unfolding flagOf

@@ -11,7 +11,7 @@ use lib.ListN.{length, getD, drop}
 use borrow.Author.Tests.{eqb-true}
 use Rattle.rules.specs.Words.{Table, word, headerOf, GoodHeader, flagOf, slotAt, slotsIn, placeOf}
 use Rattle.rules.specs.Words.{tokenWord, keyWord, functionWord, placeWord, spotOf, keyIn, recordIn, tokenOf, tokenNumber, isTaken, taken}
-use Rattle.rules.specs.Places.{holds, lookup}
+use Rattle.rules.specs.Places.{fits, holds, lookup}
 use Rattle.rules.specs.Stores.{clearStores, updateStores}
 use Rattle.rules.specs.Placing.{freeSlot}
 use Rattle.rules.specs.Soundness.{TakenSlot}
@@ -38,7 +38,7 @@ use Rattle.rules.proofs.Words.Headers.{good-header}
 use Rattle.rules.proofs.Words.FreeSlots.{slot-place}
 use Rattle.rules.proofs.Words.SlotsInUse.{slots-of-place}
 use Rattle.rules.proofs.Places.PlacesInUse.{slot-within}
-use Rattle.rules.proofs.Places.Lookups.{lookup-stands, holder-taken, placed-in, lookup-sees}
+use Rattle.rules.proofs.Places.Lookups.{lookup-stands, holder-taken, placed-in, tag-fits, lookup-sees}
 use Rattle.rules.proofs.Calls.ResizeSentences.{levelsAreThree}
 use Rattle.rules.proofs.Calls.Meanings.{number-not-zero, lookup-told}
 use Rattle.rules.proofs.Calls.Passing.{passes-tests}
@@ -50,8 +50,8 @@ use Rattle.rules.proofs.Calls.Chains.{chainWrites}
 
 -- a taken slot with the key
 holds-words : (t : Table) (key : ℕ) (x : Slot) → Tells (holds t (headerOf t) key x) (KeyStands t key (x .bucket) (x .slot))
-unfolding holds taken tokenOf isTaken tokenNumber keyIn keyWord tokenWord
-holds-words t key x = tells-and _ _ (tells-eq _ _) (tells-eq _ _)
+unfolding holds fits taken tokenOf isTaken tokenNumber keyIn keyWord tokenWord
+holds-words t key x = tells-and _ _ (tells-eq _ _) (tells-and _ _ (tells-eq _ _) (tells-eq _ _))
 
 -- none of a place's slots, as none of its four numbers
 none-stands : (t : Table) (key : ℕ) (p : Place) (s : ℕ) → holds t (headerOf t) key (slotAt p s) ≡ false → KeyStands t key (p .bucket) s → ⊥
@@ -189,7 +189,7 @@ theOneStood t sound x key u e = go (lookup t (headerOf t) key) refl
         let same : x ≡ y = sound .alone x y u (s .0) (own ∙ sym (s .1)) in
         let a = query-by-lookup t key (sound .orderly .header) (sound .orderly .flag) in
         rw (a, q, same) (refl, refl, refl)
-    go (Absent n) q = absurd (lookup-sees t x u (placed-in 0 t (sound .orderly) x u) n (rw own q))
+    go (Absent n) q = absurd (lookup-sees t x u (tag-fits t (sound .orderly .header) (sound .orderly .tidied) x u) (placed-in 0 t (sound .orderly) x u) n (rw own q))
 
 -- ---- what rests on the lookup
 

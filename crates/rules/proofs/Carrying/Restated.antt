@@ -22,6 +22,7 @@ use Rattle.rules.specs.declared.Hashes.{Hashes}
 use Rattle.rules.specs.declared.Place.{Place}
 use Rattle.rules.specs.declared.Slot.{Slot}
 use Rattle.rules.proofs.Basics.Lists.{never, flatMap-in, in-flatMap}
+use Rattle.rules.proofs.Words.Forms.{state-hashes}
 use Rattle.rules.proofs.Words.Tokens.{zero-free, meant-of-free, same-meant, state-taken, state-meant}
 use Rattle.rules.proofs.Words.Made.{made-long, made-kept, made-left}
 use Rattle.rules.proofs.Places.PlacesWithin.{place-in-level}
@@ -168,14 +169,14 @@ module _ (f : ℕ) (t u : Table) (s : State) (o : OrderlyTable f t) (re : Restat
 
     -- each item stands in a place of its key still
     restated-placed : Placed u
-    unfolding placesOf probes hashesOf withState
+    unfolding placesOf probes withState
     restated-placed z a = go (restated-carried .back z a)
       where
         again : (y : Slot) (k : Carry t u y z) (p : Place) → p .bucket ≡ y .bucket → (l : Level) → In l (levelsInUse (headerOf t .state))
             → In p (placesIn (hashesOf (headerOf t) (keyIn t y)) l) → Lasts t s l → PlacedAt u z
         again y k p b l i j (inl (m, n, e)) =
             let q = place-again (hashesOf (headerOf t) (keyIn t y)) l m e p j in
-            (q .0, rw (re .header, k .key) (in-flatMap (placesIn (hashesOf (headerOf t) (keyIn t y))) n (q .1)), q .2 ∙ b ∙ sym (k .bucket))
+            (q .0, rw (re .header, k .key, state-hashes (headerOf t) s (keyIn t y)) (in-flatMap (placesIn (hashesOf (headerOf t) (keyIn t y))) n (q .1)), q .2 ∙ b ∙ sym (k .bucket))
         again y k p b l i j (inr none) =
             let r = place-in-level (hashesOf (headerOf t) (keyIn t y)) l p j in
             absurd (none y (k .before) (rw b at (r .1), omega (arith, r .2, b)))

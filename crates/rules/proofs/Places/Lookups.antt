@@ -1,7 +1,7 @@
 -- What a lookup means, without the search: "A query stops at the first taken slot with the key", and its count is the number
 -- of buckets looked at. On a sound table it finds the keys of the map and no others.
 -- Assumes nothing.
-use Prim.Native.Nat.{ℕ, _+_}
+use Prim.Native.Nat.{ℕ, _+_, _-_, _^_, _<_}
 use mathlib.Core.Path.{_≡_, refl, sym, ap, _∙_}
 use mathlib.Core.Bool.{true, false}
 use mathlib.Core.List.{List, [], _∷_, _++_, List·Memᴰ as In, List·Memᴰ·head as here, List·Memᴰ·not-nil, List·Memᴰ·cases-cons, Memᴰ·append-right}
@@ -9,9 +9,10 @@ use mathlib.Core.Logic.{Iff·rfl, ⊎-elim}
 use mathlib.Core.Option.{Option, none, some}
 use native.Mathlib.Omega.{arith}
 use lib.ListN.{length}
+use borrow.Author.Tests.{eq-eqb}
 use Rattle.rules.specs.Choice.{given}
-use Rattle.rules.specs.Words.{Table, headerOf, placeOf, slotsIn, keyIn, recordIn, taken}
-use Rattle.rules.specs.Places.{placesOf, holds, hitIn, standsOr, seek, lookup}
+use Rattle.rules.specs.Words.{Table, wordsFor, headerOf, GoodHeader, placeOf, slotsIn, keyWord, keyIn, recordIn, tokenOf, keysOf, meantOf, taken}
+use Rattle.rules.specs.Places.{placesOf, fits, holds, hitIn, standsOr, seek, lookup}
 use Rattle.rules.specs.Soundness.{TakenSlot, OrderlyTable, SoundTable, PlainMap, HasMap}
 use Rattle.rules.specs.Demands.{FirstHolder}
 use Rattle.rules.specs.declared.Header.{Header}
@@ -21,9 +22,10 @@ use Rattle.rules.specs.declared.Record.{Record}
 use Rattle.rules.specs.declared.Lookup.{Lookup}
 use Rattle.rules.specs.declared.Lookup.the-variants.{Stands, Absent}
 use Rattle.rules.proofs.Basics.Lists.{never, not-some, some-one, firstOf-none, given-none}
+use Rattle.rules.proofs.Words.Tokens.{Meant, meant-tag}
 use Rattle.rules.proofs.Words.FreeSlots.{lowest-passing}
 use Rattle.rules.proofs.Words.SlotsInUse.{slots-of-place}
-use Rattle.rules.proofs.Places.PlacesInUse.{places-in-use, slot-of-place, own-place}
+use Rattle.rules.proofs.Places.PlacesInUse.{slot-within, places-in-use, slot-of-place, own-place}
 use Rattle.rules.proofs.Basics.Tests.{Tells, tells-eq, tells-and}
 
 pub stands-one : (x y : Slot) (m n : ℕ) → Stands x m ≡ Stands y n → (x ≡ y) × (m ≡ n)
@@ -86,9 +88,10 @@ module _ (hit : Place → Option Slot) where
 
 -- ---- a lookup
 
-holds-tells : (t : Table) (h : Header) (key : ℕ) (x : Slot) → Tells (holds t h key x) ((taken t h x ≡ true) × (keyIn t x ≡ key))
+holds-tells : (t : Table) (h : Header) (key : ℕ) (x : Slot) → Tells (holds t h key x)
+    ((taken t h x ≡ true) × ((fits t h key x ≡ true) × (keyIn t x ≡ key)))
 unfolding holds
-holds-tells t h key x = tells-and _ _ Iff·rfl (tells-eq _ _)
+holds-tells t h key x = tells-and _ _ Iff·rfl (tells-and _ _ Iff·rfl (tells-eq _ _))
 
 module _ (t : Table) (h : Header) (key : ℕ) where
   -- no slot of a place holds the key
@@ -136,17 +139,28 @@ pub holder-taken : (t : Table) (key : ℕ) (x : Slot) → FirstHolder t key x �
 holder-taken t key x s =
     let h = headerOf t in
     let f = holds-tells t h key x .0 (s .holding) in
-    (record { used = slot-of-place (h .state) (s .place) x (places-in-use h key (s .place) (holder-among t key x s)) (s .here); shown = f .0 }, f .1)
+    (record { used = slot-of-place (h .state) (s .place) x (places-in-use h key (s .place) (holder-among t key x s)) (s .here); shown = f .0 }, f .1 .1)
 
 -- "each taken slot in a place of its key"
 pub placed-in : (f : ℕ) (t : Table) → OrderlyTable f t → (x : Slot) → TakenSlot t x → In (placeOf x) (placesOf (headerOf t) (keyIn t x))
 placed-in f t o x u = let p = o .placed x u in own-place (headerOf t .c) (headerOf t) (o .header .state) (keyIn t x) x (u .used) (p .0) (p .1) (sym (p .2))
 
+-- where its bucket's token word is what should stand there, its tag fits its key
+abbrev pub Tidied : Table → Type 0
+Tidied t = (j : ℕ) → j < 2 ^ (headerOf t .c + 1) - 1 → tokenOf t j ≡ meantOf t (headerOf t) j
+
+pub tag-fits : (t : Table) → GoodHeader (length t) (headerOf t) → Tidied t → (x : Slot) → TakenSlot t x → fits t (headerOf t) (keyIn t x) x ≡ true
+unfolding fits taken keysOf keyIn keyWord meantOf wordsFor
+tag-fits t g tidied x u =
+    let right : Meant (headerOf t) (tokenOf t (x .bucket)) (keysOf t (x .bucket)) =
+    tidied (x .bucket) (omega (arith, slot-within (length t) (headerOf t) g x (u .used) .0, g .long)) in
+    eq-eqb _ _ (meant-tag (headerOf t) _ _ right (x .slot) (u .used .slot) (u .shown))
+
 -- such a slot is not missed
-pub lookup-sees : (t : Table) (x : Slot) → TakenSlot t x → In (placeOf x) (placesOf (headerOf t) (keyIn t x)) → (n : ℕ)
+pub lookup-sees : (t : Table) (x : Slot) → TakenSlot t x → fits t (headerOf t) (keyIn t x) x ≡ true → In (placeOf x) (placesOf (headerOf t) (keyIn t x)) → (n : ℕ)
     → lookup t (headerOf t) (keyIn t x) ≡ Absent n → ⊥
-lookup-sees t x u p n e =
-    never (holds-tells t (headerOf t) (keyIn t x) x .1 (u .shown, refl))
+lookup-sees t x u tag p n e =
+    never (holds-tells t (headerOf t) (keyIn t x) x .1 (u .shown, (tag, refl)))
     (lookup-absent t (headerOf t) (keyIn t x) n e .1 (placeOf x) p x (slots-of-place x (u .used .slot)))
 
 -- ---- on a sound table
@@ -173,7 +187,8 @@ module _ (t : Table) (m : PlainMap) (sound : SoundTable t) (map : HasMap t m) (k
           record { slot = x; count = n; answer = q; item = s .0; holding = s .1; value = some-one (sym (known x s) ∙ e) }
       go (Absent n) q =
           let o = map .only key r e in
-          absurd (lookup-sees t (o .0) (o .1) (placed-in 0 t (sound .orderly) (o .0) (o .1)) n (rw (o .2) q))
+          let tag = tag-fits t (sound .orderly .header) (sound .orderly .tidied) (o .0) (o .1) in
+          absurd (lookup-sees t (o .0) (o .1) tag (placed-in 0 t (sound .orderly) (o .0) (o .1)) n (rw (o .2) q))
 
   pub lookup-unknown : m key ≡ none → (n : ℕ) × (lookup t (headerOf t) key ≡ Absent n)
   lookup-unknown e = go (lookup t (headerOf t) key) refl

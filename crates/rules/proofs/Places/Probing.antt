@@ -7,6 +7,7 @@ use mathlib.Core.Bool.{true, false}
 use mathlib.Core.List.{[], _∷_, _++_, flatMap, append-nil}
 use borrow.Author.Tests.{eq-eqb, ne-eqb}
 use Rattle.words.specs.Product.{productOf, hashOf}
+use Rattle.rules.specs.Forms.{mixed}
 use Rattle.rules.specs.Words.{atRest, sizeOf, topOf, bottomOf, interimOf, levelsInUse, placeAt}
 use Rattle.rules.specs.Places.{hashesOf, firstPlace, secondPlace, samePlace, placesIn, probes}
 use Rattle.rules.specs.declared.State.{State}
@@ -14,14 +15,14 @@ use Rattle.rules.specs.declared.Header.{Header}
 use Rattle.rules.specs.declared.Level.{Level}
 use Rattle.rules.specs.declared.Hashes.{Hashes}
 
--- "hash i of key K is the product K·Ai modulo 2^64, divided by 2^32, rounded down. In a level of M buckets the first and second
+-- "hash i of key K is the product K·Ai modulo 2^64, divided by 2^32, rounded down", of what is hashed of the key. "In a level of M buckets the first and second
 -- places are hash 1 modulo M and hash 2 modulo M"; "A level of M buckets .. is always buckets M − 1 to 2M − 2."
 module _ (h : Header) (key : ℕ) (l : Level) where
-  pub first-bucket : firstPlace (hashesOf h key) l .bucket ≡ sizeOf l - 1 + (key * h .mul1 % 2 ^ 64 / 2 ^ 32) % sizeOf l
+  pub first-bucket : firstPlace (hashesOf h key) l .bucket ≡ sizeOf l - 1 + (mixed h key * h .mul1 % 2 ^ 64 / 2 ^ 32) % sizeOf l
   unfolding firstPlace placeAt hashesOf hashOf productOf
   first-bucket = refl
 
-  pub second-bucket : secondPlace (hashesOf h key) l .bucket ≡ sizeOf l - 1 + (key * h .mul2 % 2 ^ 64 / 2 ^ 32) % sizeOf l
+  pub second-bucket : secondPlace (hashesOf h key) l .bucket ≡ sizeOf l - 1 + (mixed h key * h .mul2 % 2 ^ 64 / 2 ^ 32) % sizeOf l
   unfolding secondPlace placeAt hashesOf hashOf productOf
   second-bucket = refl
 

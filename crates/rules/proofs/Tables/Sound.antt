@@ -29,7 +29,7 @@ header-tells size h = (good-header size h, header-passes size h)
 
 module _ (t : Table) where
   -- "every token word at most 15"
-  tidy-tells : Tells (tokensTidy t) ((j : ℕ) → j < 2 ^ (headerOf t .c + 1) - 1 → tokenOf t j ≡ meantOf t (headerOf t) j)
+  pub tidy-tells : Tells (tokensTidy t) ((j : ℕ) → j < 2 ^ (headerOf t .c + 1) - 1 → tokenOf t j ≡ meantOf t (headerOf t) j)
   unfolding tokensTidy allBuckets
   tidy-tells =
       let n = 2 ^ (headerOf t .c + 1) - 1 in

@@ -10,6 +10,7 @@ use Rattle.rules.specs.Choice.{all}
 use Rattle.rules.specs.Words.{wordsFor, GoodState, odd, capacityTests, headerTests, GoodHeader}
 use Rattle.rules.specs.declared.Header.{Header}
 use Rattle.rules.proofs.Basics.Tests.{all-yes}
+use Rattle.rules.proofs.Words.Forms.{good-form, form-passes}
 use Rattle.rules.proofs.Words.States.{good-state, state-passes, state-fits, good-wider}
 
 pub good-header : (size : ℕ) (h : Header) → all (headerTests size h) ≡ true → GoodHeader size h
@@ -20,7 +21,7 @@ good-header size h e =
     record {
       capacity = (leb-true _ _ (z 0), leb-true _ _ (z 1));
       long = eqb-true _ _ (y 1);
-      form = eqb-true _ _ (y 2);
+      form = good-form (h .form) (y 2);
       odd1 = eqb-true _ _ (y 3);
       odd2 = eqb-true _ _ (y 4);
       state = good-state (h .c) (h .state) (y 5);
@@ -80,7 +81,7 @@ header-passes size h g =
       le-leb _ _ (g .capacity .0),
       le-leb _ _ (g .capacity .1),
       eq-eqb _ _ (g .long),
-      eq-eqb _ _ (g .form),
+      form-passes (h .form) (g .form),
       eq-eqb _ _ (g .odd1),
       eq-eqb _ _ (g .odd2),
       state-passes (h .c) (h .state) (g .state),

@@ -1,26 +1,30 @@
 -- `querying::lookup::lookup_by` meets its contract.
 -- Assumes nothing.
-use mathlib.Core.Path.{ap, _∙_}
-use denote.Ref.{now}
-use Rattle.rules.specs.Places.{hitIn, seek, probes, placesOf, lookup}
-use Rattle.rules.specs.declared.Hashes.{Hashes}
-use Rattle.rules.proofs.Places.PlacesWithin.{places-within}
-use Rattle.rules.proofs.Calls.Meanings.{lookup-tells}
-use Rattle.querying.proofs.Standings.{seek-within}
+use mathlib.Core.Path.{sym, _∙_}
+use borrow.Author.Needs.{needs}
 use Rattle.querying.proofs.lookup.lookup_by.Statement.{statement}
 use Rattle.querying.proofs.lookup.lookup_by.Tie as tie
 
-find-requires : tie.Need-find-requires
-find-requires c κs = c .before .pre .0
+has-tags-requires : tie.Need-has-tags-requires
+has-tags-requires c κs = search needs
+
+lookup-with-requires : tie.Need-lookup-with-requires
+lookup-with-requires c κs =
+    let pre = c .before .before .before .pre in
+    (pre .0, pre .1, sym (c .if1 .taken) ∙ c .before .has-tags .ensures)
 
 returns : tie.Need-returns
-unfolding lookup placesOf
-returns c =
-    let s = c .before .before in
-    let a = s .args in (
-      lookup-tells (c .find .ensures ∙ ap (λ (x : Hashes). seek (hitIn (now (a .t)) (a .h) (a .key)) 0 (probes (a .h .state) x)) (s .pre .1)),
-      rw (c .find .ensures) (seek-within (now (a .t)) (a .h) (a .key) (probes (a .h .state) (a .x)) 0 (λ p i. places-within _ _ (s .pre .0) _ p i)),
-    )
+returns c = search needs
+
+lookup-with-requires-2 : tie.Need-lookup-with-requires-2
+lookup-with-requires-2 c κs =
+    let pre = c .before .before .before .pre in
+    (pre .0, pre .1, sym (c .if1 .left) ∙ c .before .has-tags .ensures)
+
+returns-2 : tie.Need-returns-2
+returns-2 c = search needs
 
 pub lookup-by-spec : {M : Type 1} → statement M
-lookup-by-spec = tie.close (tie.spec find-requires returns)
+lookup-by-spec =
+    tie.close
+    (tie.spec has-tags-requires lookup-with-requires returns lookup-with-requires-2 returns-2)

@@ -3,6 +3,7 @@
 use mathlib.Core.Path.{sym, _∙_}
 use Rattle.reading.proofs.HeaderTests.{low, high, wrong-length, wrong-form, even1, even2, by-state}
 use borrow.Author.Needs.{needs}
+use borrow.Author.Tests.{not-true, not-false}
 use Rattle.reading.proofs.header.header_good.Statement.{statement}
 use Rattle.reading.proofs.header.header_good.Tie as tie
 
@@ -18,8 +19,11 @@ words-for-requires c κs = search needs
 returns-3 : tie.Need-returns-3
 returns-3 c = wrong-length _ _ (λ e. c .if3 .taken (e ∙ sym (c .before .words-for .ensures)))
 
+form-good-requires : tie.Need-form-good-requires
+form-good-requires c κs = search needs
+
 returns-4 : tie.Need-returns-4
-returns-4 c = wrong-form _ _ (c .if4 .taken)
+returns-4 c = wrong-form _ _ (sym (c .before .form-good .ensures) ∙ not-true _ (c .if4 .taken))
 
 returns-5 : tie.Need-returns-5
 returns-5 c = even1 _ _ (c .if5 .taken)
@@ -38,7 +42,7 @@ returns-7 c =
     let third = fourth .before .before in
     let second = third .before .before in
     c .good2 .ensures
-    ∙ by-state _ _ (second .before .before .if1 .left) (second .if2 .left) (third .if3 .left ∙ third .before .words-for .ensures) (fourth .if4 .left)
+    ∙ by-state _ _ (second .before .before .if1 .left) (second .if2 .left) (third .if3 .left ∙ third .before .words-for .ensures) (sym (fourth .before .form-good .ensures) ∙ not-false _ (fourth .if4 .left))
     (fifth .if5 .left) (sixth .if6 .left)
 
 pub header-good-spec : {M : Type 1} → statement M
@@ -49,6 +53,7 @@ header-good-spec =
     returns-2
     words-for-requires
     returns-3
+    form-good-requires
     returns-4
     returns-5
     returns-6
