@@ -4,6 +4,7 @@
 use std::arch::x86_64::{_mm_prefetch, _MM_HINT_T0};
 
 use crate::phase::State;
+use crate::Form;
 
 // As document 01, the paper that fixes the table, lays its words out.
 const MULTIPLIERS: [usize; 2] = [2, 3];
@@ -37,17 +38,27 @@ fn ask_for_items(words: &[u64], bucket: u64) {
         Some((k, e)) if k.max(e) <= LARGEST_K && bucket < 1 << e => (1 << k, 1 << e),
         _ => return,
     };
+    let form = match Form::of(words) {
+        Some(form) => form,
+        None => return,
+    };
     let items = match words.get(first_word(interim, bucket)..first_word(interim, bucket + 1)) {
         Some(items) => items,
         None => return,
     };
     for slot in (0..SLOTS).filter(|slot| items[0] >> slot & 1 == 1) {
         let key = items[1 + SLOT_WORDS * slot];
-        for multiplier in MULTIPLIERS.map(|at| words[at]) {
-            let hash = key.wrapping_mul(multiplier) >> 32;
-            ask_for(words, first_word(top, hash & (top - 1)));
+        for first in MULTIPLIERS.map(|at| first_word_of_key(form, words[at], key, top)) {
+            ask_for(words, first);
         }
     }
+}
+
+/// The first word of the bucket to which a multiplier leads a key, in the level of so many buckets.
+#[inline]
+fn first_word_of_key(form: Form, multiplier: u64, key: u64, size: u64) -> usize {
+    let hash = form.mixed(key).wrapping_mul(multiplier) >> 32;
+    first_word(size, hash & (size - 1))
 }
 
 /// The first word of a bucket in the level of so many buckets.
@@ -66,6 +77,7 @@ fn ask_for(words: &[u64], first: usize) {
 #[cfg(test)]
 mod tests {
     use super::*;
+    use crate::{calls, Creation, Key, Level, Record};
 
     #[test]
     fn any_words_and_buckets_may_be_handed_in() {
@@ -73,10 +85,35 @@ mod tests {
         let states = [0, 1, 2, 257, 258, 259, 260, 276, 277, 512, 513, 514, 531, 532, 767, u64::MAX];
         let buckets = [0, 1, 2, 7, 1 << 18, u64::MAX - 1, u64::MAX];
         for (length, state) in lengths.into_iter().flat_map(|length| states.map(|state| (length, state))) {
-            let mut words = vec![u64::MAX; length];
-            words.iter_mut().skip(4).take(1).for_each(|word| *word = state);
-            for (last, bucket) in buckets.into_iter().flat_map(|last| buckets.map(|bucket| (last, bucket))) {
-                read_ahead(&words, last, bucket);
+            for form in [0, 1, 2, 3] {
+                let mut words = vec![u64::MAX; length];
+                words.iter_mut().take(1).for_each(|word| *word = form);
+                words.iter_mut().skip(4).take(1).for_each(|word| *word = state);
+                for (last, bucket) in
+                    buckets.into_iter().flat_map(|last| buckets.map(|bucket| (last, bucket)))
+                {
+                    read_ahead(&words, last, bucket);
+                }
+            }
+        }
+    }
+
+    /// A wrong bucket would only cost time, so that nothing else shows it.
+    #[test]
+    fn a_key_stands_in_one_of_the_buckets_that_are_asked_for() {
+        for form in Form::ALL {
+            let creation = Creation { form, ..Creation::new(7, 7) };
+            let mut words = vec![0; creation.words().unwrap()];
+            calls::create(&mut words, &creation).unwrap();
+            for address in 0..100 {
+                let key = Key::new(0x5555_0000_1000 + 16 * address, 0).unwrap();
+                let list = calls::insert(&words, key, Record::default()).unwrap();
+                calls::make(&mut words, list.words(), list.count()).unwrap();
+                let slot = calls::query(&words, key).unwrap().found.unwrap().slot;
+                assert_eq!(slot.level, Level::Top);
+                let firsts = MULTIPLIERS.map(|at| first_word_of_key(form, words[at], key.word(), 1 << 7));
+                let holds = |first: usize| (first..first + BUCKET_WORDS).contains(&slot.word);
+                assert!(firsts.into_iter().any(holds), "{form}, key {key:?}");
             }
         }
     }

@@ -6,7 +6,7 @@
 //! ```
 //! use ragansils::{calls, Creation, Key, Record, Refusal};
 //!
-//! let creation = Creation { capacity: 2, first_top: 1, multipliers: [4294967297, 12884901889] };
+//! let creation = Creation { multipliers: [4294967297, 12884901889], ..Creation::new(2, 1) };
 //! let mut words = vec![0; creation.words().unwrap()];
 //! calls::create(&mut words, &creation)?;
 //!
@@ -27,10 +27,12 @@ use crate::{ahead, Chain, Creation, Key, Lookup, Record, Refusal, StoreList};
 
 /// Zeroes all words and writes the header of an empty table. Refusal: `BadCreation`.
 pub fn create(words: &mut [u64], creation: &Creation) -> Result<(), Refusal> {
-    let Creation { capacity, first_top, multipliers: [mul1, mul2] } = *creation;
+    let Creation { form, capacity, first_top, multipliers: [mul1, mul2] } = *creation;
     let (table, length) = (words.as_mut_ptr(), words.len());
     // SAFETY: the pointer is valid for the slice's length.
-    Refusal::check(unsafe { raw::ragansils_create(table, length, capacity, first_top, mul1, mul2) })
+    Refusal::check(unsafe {
+        raw::ragansils_create(table, length, form.number(), capacity, first_top, mul1, mul2)
+    })
 }
 
 /// Looks a key up: its record, and where that stands. An absent key is an answer; refusals: `BadHeader`, `FlagSet`.
@@ -50,7 +52,7 @@ pub fn query(words: &[u64], key: Key) -> Result<Lookup, Refusal> {
 /// ```
 /// use ragansils::{calls, Creation, Key, Record, Refusal};
 ///
-/// let creation = Creation { capacity: 2, first_top: 1, multipliers: [4294967297, 12884901889] };
+/// let creation = Creation { multipliers: [4294967297, 12884901889], ..Creation::new(2, 1) };
 /// let mut words = vec![0; creation.words().unwrap()];
 /// calls::create(&mut words, &creation)?;
 /// for (depth, function) in [(0, 7), (1, 8)] {

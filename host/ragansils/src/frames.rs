@@ -11,9 +11,9 @@ const MOST_FRAMES: usize = 1 << u8::BITS;
 /// depth 0, which the address lies in.
 ///
 /// ```
-/// use ragansils::{Creation, Key, OrdinaryMemory, Record, Refusal, Table, MULTIPLIER_1, MULTIPLIER_2};
+/// use ragansils::{Creation, Key, OrdinaryMemory, Record, Refusal, Table};
 ///
-/// let creation = Creation { capacity: 4, first_top: 1, multipliers: [MULTIPLIER_1, MULTIPLIER_2] };
+/// let creation = Creation::new(4, 1);
 /// let mut table = Table::create(vec![0; creation.words().unwrap()], &creation, OrdinaryMemory)?;
 ///
 /// // Here function 9 was inlined into 8, and 8 into 7.

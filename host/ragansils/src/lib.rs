@@ -10,22 +10,21 @@
 //! From the bottom up:
 //! - [`raw`]: the fourteen functions, unsafe;
 //! - [`calls`]: the same over slices, safe;
-//! - [`Key`], [`Record`], [`Lookup`] with [`Found`], [`Slot`] and [`Level`], [`Chain`], [`Creation`], [`Refusal`]: what goes in and comes
-//!   out;
+//! - [`Key`], [`Record`], [`Lookup`] with [`Found`], [`Slot`] and [`Level`], [`Chain`], [`Creation`] with [`Form`], [`Refusal`]: what goes
+//!   in and comes out;
 //! - [`StoreList`], [`Platform`]: stores, and what a platform does after each;
 //! - [`Table`]: a table that makes its own stores, grows and shrinks in small parts ([`Part`], by hand [`Step`]; [`Phase`] tells which is
 //!   under way) and tells the inlined frames at an address ([`Frames`]);
 //! - [`MappedFile`]: words in a file, with [`words_of`] and [`bytes_of`] for a file that is only read.
 //!
 //! ```
-//! use ragansils::{Creation, Key, MappedFile, OrdinaryMemory, Record, Table, MULTIPLIER_1, MULTIPLIER_2};
+//! use ragansils::{Creation, Key, MappedFile, OrdinaryMemory, Record, Table};
 //!
 //! # let folder = std::env::temp_dir().join(format!("ragansils-doc-{}", std::process::id()));
 //! # std::fs::create_dir_all(&folder)?;
 //! # let path = folder.join("positions.table");
 //! // Once:
-//! let creation = Creation { capacity: 8, first_top: 1, multipliers: [MULTIPLIER_1, MULTIPLIER_2] };
-//! MappedFile::create(&path, &creation)?;
+//! MappedFile::create(&path, &Creation::new(8, 1))?;
 //!
 //! // At each start of the collector; what a cut left is mended here:
 //! let mut table = Table::open(MappedFile::open(&path)?, OrdinaryMemory)?;
@@ -42,6 +41,7 @@ mod ahead;
 mod bytes;
 pub mod calls;
 mod creation;
+mod form;
 mod frames;
 #[cfg(all(target_os = "linux", target_pointer_width = "64"))]
 mod mapped;
@@ -55,6 +55,7 @@ mod table;
 
 pub use bytes::{bytes_of, words_of};
 pub use creation::{Creation, MULTIPLIER_1, MULTIPLIER_2};
+pub use form::Form;
 pub use frames::Frames;
 #[cfg(all(target_os = "linux", target_pointer_width = "64"))]
 pub use mapped::{FileError, MappedFile};

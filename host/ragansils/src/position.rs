@@ -123,7 +123,7 @@ pub struct Found {
 /// ```
 /// use ragansils::{Creation, Found, Level, OrdinaryMemory, Record, Refusal, Slot, Table};
 ///
-/// let creation = Creation { capacity: 2, first_top: 1, multipliers: [4294967297, 12884901889] };
+/// let creation = Creation { multipliers: [4294967297, 12884901889], ..Creation::new(2, 1) };
 /// let mut table = Table::create(vec![0; creation.words().unwrap()], &creation, OrdinaryMemory)?;
 /// let record = Record { function: 10, place: 20 };
 /// table.insert(1.into(), record)?;

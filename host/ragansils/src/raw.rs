@@ -5,7 +5,15 @@
 #![allow(missing_docs)] // include/ragansils.h says what each answers and leaves; `calls` says it for Rust
 
 extern "C" {
-    pub fn ragansils_create(table: *mut u64, words: usize, form: u64, c: u64, k: u64, mul1: u64, mul2: u64) -> u64;
+    pub fn ragansils_create(
+        table: *mut u64,
+        words: usize,
+        form: u64,
+        c: u64,
+        k: u64,
+        mul1: u64,
+        mul2: u64,
+    ) -> u64;
     pub fn ragansils_query(table: *const u64, words: usize, key: u64, answer: *mut [u64; 5]) -> u64;
     pub fn ragansils_chain(
         table: *const u64,

@@ -43,7 +43,7 @@ pub enum Refusal {
     InterimEmpty = 11,
     /// Recovery: the table is none of the three kinds that a cut leaves.
     NoKind = 12,
-    /// Creation: capacity exponent, first top, length or a multiplier are bad.
+    /// Creation: form, capacity exponent, first top, length or a multiplier are bad.
     BadCreation = 13,
     /// Making: the stores are not in the list, or one is outside the table.
     BadMaking = 14,
@@ -109,7 +109,7 @@ impl Refusal {
             Refusal::InterimTaken => "the interim level is not empty",
             Refusal::InterimEmpty => "the interim level is empty",
             Refusal::NoKind => "the table is none of the kinds that recovery accepts",
-            Refusal::BadCreation => "capacity exponent, first top, length or a multiplier are bad",
+            Refusal::BadCreation => "form, capacity exponent, first top, length or a multiplier are bad",
             Refusal::BadMaking => "the stores are not in the list, or one is outside the table",
             Refusal::ShortRecords => "fewer records are lent than there are depths",
             Refusal::BadPosition => "the address is 2^56 or more, or the depth above 255",

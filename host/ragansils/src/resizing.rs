@@ -62,9 +62,9 @@ impl<W: AsRef<[u64]> + AsMut<[u64]>, P: Platform> Table<W, P> {
     ///   in place of four.
     ///
     /// ```
-    /// use ragansils::{Creation, Key, OrdinaryMemory, Part, Phase, Record, Refusal, Table, MULTIPLIER_1, MULTIPLIER_2};
+    /// use ragansils::{Creation, Key, OrdinaryMemory, Part, Phase, Record, Refusal, Table};
     ///
-    /// let creation = Creation { capacity: 4, first_top: 4, multipliers: [MULTIPLIER_1, MULTIPLIER_2] };
+    /// let creation = Creation::new(4, 4);
     /// let mut table = Table::create(vec![0; creation.words().unwrap()], &creation, OrdinaryMemory)?;
     /// let keys: Vec<Key> = (0..60).map(|line| Key::new(0x5555_0000_1000 + 4 * line, 0).unwrap()).collect();
     /// for &key in &keys {
@@ -124,9 +124,9 @@ impl<W: AsRef<[u64]> + AsMut<[u64]>, P: Platform> Table<W, P> {
     /// Does at most so many parts of one growth ([`grow_on`](Table::grow_on)), and answers whether it has ended.
     ///
     /// ```
-    /// use ragansils::{Creation, Key, OrdinaryMemory, Phase, Record, Refusal, Table, MULTIPLIER_1, MULTIPLIER_2};
+    /// use ragansils::{Creation, Key, OrdinaryMemory, Phase, Record, Refusal, Table};
     ///
-    /// let creation = Creation { capacity: 5, first_top: 1, multipliers: [MULTIPLIER_1, MULTIPLIER_2] };
+    /// let creation = Creation::new(5, 1);
     /// let mut table = Table::create(vec![0; creation.words().unwrap()], &creation, OrdinaryMemory)?;
     /// for line in 0..100 {
     ///     let key = Key::new(0x5555_0000_1000 + 4 * line, 0).unwrap();

@@ -55,7 +55,7 @@ impl StoreList {
 /// use ragansils::{Creation, Key, Record, Table};
 ///
 /// let mut flushed = vec![];
-/// let creation = Creation { capacity: 2, first_top: 1, multipliers: [4294967297, 12884901889] };
+/// let creation = Creation { multipliers: [4294967297, 12884901889], ..Creation::new(2, 1) };
 /// let mut words = vec![0; creation.words().unwrap()];
 /// let flush = |word: &u64| flushed.push((word as *const u64, *word));
 /// let mut table = Table::create(words.as_mut_slice(), &creation, flush)?;

@@ -1,7 +1,7 @@
 //! A table that makes its own stores.
 
 use crate::stores::make_in_order;
-use crate::{calls, Creation, Frames, Key, Lookup, Platform, Record, Refusal, Step, StoreList};
+use crate::{calls, Creation, Form, Frames, Key, Lookup, Platform, Record, Refusal, Step, StoreList};
 
 /// A position table over words that it is lent: a `&mut [u64]`, a `Vec<u64>`, or a [`MappedFile`](crate::MappedFile).
 ///
@@ -10,9 +10,9 @@ use crate::{calls, Creation, Frames, Key, Lookup, Platform, Record, Refusal, Ste
 /// after it. A change that is refused leaves everything as it was.
 ///
 /// ```
-/// use ragansils::{Creation, Key, OrdinaryMemory, Record, Refusal, Table, MULTIPLIER_1, MULTIPLIER_2};
+/// use ragansils::{Creation, Key, OrdinaryMemory, Record, Refusal, Table};
 ///
-/// let creation = Creation { capacity: 4, first_top: 1, multipliers: [MULTIPLIER_1, MULTIPLIER_2] };
+/// let creation = Creation::new(4, 1);
 /// let mut words = vec![0; creation.words().unwrap()];
 /// let mut table = Table::create(words.as_mut_slice(), &creation, OrdinaryMemory)?;
 ///
@@ -44,8 +44,8 @@ impl<W: AsRef<[u64]> + AsMut<[u64]>, P: Platform> Table<W, P> {
         Ok(Table { words, platform, interim_hint: 0 })
     }
 
-    /// Takes up a table where an earlier process left it: looks at the whole table, and mends what a cut left, by at most three
-    /// stores. Where that is cut too, the next open does it again.
+    /// Takes up a table where an earlier process left it, in the form in which it was created: looks at the whole table, and mends what a
+    /// cut left, by at most three stores. Where that is cut too, the next open does it again.
     ///
     /// Refusals: `BadHeader` where the words are no table, `NoKind` where they are damaged otherwise than by a cut. Either leaves the
     /// words as they are; the program `ragansils-inspect` says what is wrong.
@@ -53,6 +53,15 @@ impl<W: AsRef<[u64]> + AsMut<[u64]>, P: Platform> Table<W, P> {
         let mut table = Table { words, platform, interim_hint: 0 };
         table.recover()?;
         Ok(table)
+    }
+
+    /// The form in which the table was created. Refusal: `BadHeader`, which does not come on a table that was opened or created.
+    pub fn form(&self) -> Result<Form, Refusal> {
+        // That the header is good is the library's to say; any of its calls would do. A cut update does not change the form.
+        match calls::back(self.words()) {
+            Err(Refusal::BadHeader) => Err(Refusal::BadHeader),
+            _ => Ok(Form::of(self.words()).expect("a table with a good header has a form")),
+        }
     }
 
     /// Looks a key up: its record, and where that stands. Refusals: `BadHeader`, `FlagSet`; neither comes on a table that was opened or
@@ -103,9 +112,9 @@ impl<W: AsRef<[u64]> + AsMut<[u64]>, P: Platform> Table<W, P> {
     /// So a shrink that is stuck is left: the level that it was emptying is the top again, with the slots that were freed there.
     ///
     /// ```
-    /// use ragansils::{Creation, Key, OrdinaryMemory, Phase, Record, Refusal, Table, MULTIPLIER_1, MULTIPLIER_2};
+    /// use ragansils::{Creation, Key, OrdinaryMemory, Phase, Record, Refusal, Table};
     ///
-    /// let creation = Creation { capacity: 4, first_top: 4, multipliers: [MULTIPLIER_1, MULTIPLIER_2] };
+    /// let creation = Creation::new(4, 4);
     /// let mut table = Table::create(vec![0; creation.words().unwrap()], &creation, OrdinaryMemory)?;
     /// for line in 0..60 {
     ///     table.insert(Key::new(0x5555_0000_1000 + 4 * line, 0).unwrap(), Record { function: 7, place: line })?;
@@ -140,9 +149,9 @@ impl<W: AsRef<[u64]> + AsMut<[u64]>, P: Platform> Table<W, P> {
     /// moves all items that have a place:
     ///
     /// ```
-    /// use ragansils::{Creation, Key, OrdinaryMemory, Record, Refusal, Table, MULTIPLIER_1, MULTIPLIER_2};
+    /// use ragansils::{Creation, Key, OrdinaryMemory, Record, Refusal, Table};
     ///
-    /// let creation = Creation { capacity: 5, first_top: 4, multipliers: [MULTIPLIER_1, MULTIPLIER_2] };
+    /// let creation = Creation::new(5, 4);
     /// let mut table = Table::create(vec![0; creation.words().unwrap()], &creation, OrdinaryMemory)?;
     /// for line in 0..80 {
     ///     table.insert(Key::new(0x5555_0000_1000 + 4 * line, 0).unwrap(), Record { function: 7, place: line })?;

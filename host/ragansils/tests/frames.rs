@@ -2,12 +2,10 @@
 
 use std::panic::{catch_unwind, resume_unwind, AssertUnwindSafe};
 
-use ragansils::{
-    calls, Creation, Key, OrdinaryMemory, Part, Phase, Record, Refusal, Table, MULTIPLIER_1, MULTIPLIER_2,
-};
+use ragansils::{calls, Creation, Form, Key, OrdinaryMemory, Part, Phase, Record, Refusal, Table};
 
 /// A table that takes all 256 depths of an address, some of them in its bottom level, and can grow.
-const CREATION: Creation = Creation { capacity: 7, first_top: 6, multipliers: [MULTIPLIER_1, MULTIPLIER_2] };
+const CREATION: Creation = Creation::new(7, 6);
 const ADDRESS: u64 = 0x5555_0000_1040;
 const LAST_ADDRESS: u64 = (1 << 56) - 1;
 /// No record of these tables.
@@ -51,11 +49,13 @@ fn buckets_of_queries(table: &OwnTable, address: u64, first: u8, last: u8) -> u6
 
 #[test]
 fn frames_come_from_each_depth_down_to_0() {
-    let table = table_with(ADDRESS, 0..=255);
-    for depth in 0..=255 {
-        let frames = table.frames(ADDRESS, depth).unwrap();
-        assert_eq!(frames.records(), records_from(ADDRESS, depth));
-        assert_eq!(frames.buckets(), buckets_of_queries(&table, ADDRESS, depth, 0));
+    for form in Form::ALL {
+        let table = new_table(&Creation { form, ..CREATION }, ADDRESS, 0..=255);
+        for depth in 0..=255 {
+            let frames = table.frames(ADDRESS, depth).unwrap();
+            assert_eq!(frames.records(), records_from(ADDRESS, depth));
+            assert_eq!(frames.buckets(), buckets_of_queries(&table, ADDRESS, depth, 0));
+        }
     }
 }
 
@@ -209,7 +209,7 @@ fn just_enough_records_are_enough() {
 #[test]
 fn frames_wait_for_the_recovery_of_a_cut_update() {
     // With these multipliers the odd keys fill one bucket, so that an update of one of them is logged: seven stores.
-    let creation = Creation { capacity: 2, first_top: 1, multipliers: [4294967297, 12884901889] };
+    let creation = Creation { multipliers: [4294967297, 12884901889], ..Creation::new(2, 1) };
     let table = new_table(&creation, 0, [0, 1, 3, 5, 7]);
     let mut stores = 0;
     let cut_after_five = |_: &u64| {

@@ -4,9 +4,9 @@
 use std::fs;
 use std::path::{Path, PathBuf};
 
-use ragansils::{bytes_of, Creation, FileError, MappedFile, OrdinaryMemory, Record, Refusal, Table};
+use ragansils::{bytes_of, Creation, FileError, Form, MappedFile, OrdinaryMemory, Record, Refusal, Table};
 
-const CREATION: Creation = Creation { capacity: 3, first_top: 1, multipliers: [4294967297, 12884901889] };
+const CREATION: Creation = Creation { multipliers: [4294967297, 12884901889], ..Creation::new(3, 1) };
 const RECORD: Record = Record { function: 10, place: 20 };
 
 /// An empty folder of this test's own.
@@ -33,6 +33,35 @@ fn what_is_stored_is_there_after_reopening() {
     let table = Table::open(MappedFile::open(&path).unwrap(), OrdinaryMemory).unwrap();
     assert_eq!(table.query(1.into()).unwrap().record(), Some(RECORD));
     assert_eq!(fs::read(&path).unwrap(), bytes_of(table.words()));
+}
+
+/// The words of a table in which key 1 stands, as a collector wrote them before there was a second form.
+#[test]
+fn a_file_of_form_1_opens_and_stays_of_form_1() {
+    let path = folder("form-1").join("positions");
+    let mut words = vec![0; CREATION.words().unwrap()];
+    words[..5].copy_from_slice(&[1, 3, 4294967297, 12884901889, 1]);
+    words[35..39].copy_from_slice(&[1, 1, 10, 20]);
+    fs::write(&path, bytes_of(&words)).unwrap();
+
+    let mut table = Table::open(MappedFile::open(&path).unwrap(), OrdinaryMemory).unwrap();
+    assert_eq!((table.form(), table.query(1.into()).unwrap().record()), (Ok(Form::One), Some(RECORD)));
+    // With a tag its token word would be above 15.
+    table.insert(((5 << 24) + 3).into(), RECORD).unwrap();
+    drop(table);
+    words[35..42].copy_from_slice(&[3, 1, 10, 20, (5 << 24) + 3, 10, 20]);
+    assert_eq!(fs::read(&path).unwrap(), bytes_of(&words));
+}
+
+#[test]
+fn a_new_file_is_of_the_form_that_is_asked_for() {
+    let folder = folder("forms");
+    for form in Form::ALL {
+        let path = folder.join(form.to_string());
+        drop(MappedFile::create(&path, &Creation { form, ..CREATION }).unwrap());
+        let table = Table::open(MappedFile::open(&path).unwrap(), OrdinaryMemory).unwrap();
+        assert_eq!(table.form(), Ok(form));
+    }
 }
 
 #[test]

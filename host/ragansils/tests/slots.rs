@@ -4,12 +4,11 @@ use std::collections::BTreeMap;
 use std::ops::Range;
 
 use ragansils::{
-    calls, Creation, Found, Key, Level, Lookup, OrdinaryMemory, Record, Refusal, Slot, Table, MULTIPLIER_1,
-    MULTIPLIER_2,
+    calls, Creation, Form, Found, Key, Level, Lookup, OrdinaryMemory, Record, Refusal, Slot, Table,
 };
 
 /// The table of document 01's marked examples.
-const MARKED: Creation = Creation { capacity: 2, first_top: 1, multipliers: [4294967297, 12884901889] };
+const MARKED: Creation = Creation { multipliers: [4294967297, 12884901889], ..Creation::new(2, 1) };
 /// The header's words for the state and the update flag.
 const STATE: usize = 4;
 const FLAG: usize = 5;
@@ -81,10 +80,13 @@ fn check_all(table: &OwnTable, keys: &[u64]) -> BTreeMap<Level, usize> {
 
 #[test]
 fn every_key_of_a_table_is_told_in_its_own_slot() {
-    let creation = Creation { capacity: 7, first_top: 6, multipliers: [MULTIPLIER_1, MULTIPLIER_2] };
+    Form::ALL.into_iter().for_each(every_key_is_told_in_its_own_slot);
+}
+
+fn every_key_is_told_in_its_own_slot(form: Form) {
     let keys: Vec<u64> =
         (0..300).map(|line| Key::new(0x5555_0000_1000 + 4 * line, 0).unwrap().word()).collect();
-    let mut table = filled(&creation, keys.iter().copied());
+    let mut table = filled(&Creation { form, ..Creation::new(7, 6) }, keys.iter().copied());
     let at_rest = check_all(&table, &keys);
     assert_eq!(at_rest.keys().copied().collect::<Vec<_>>(), [Level::Top, Level::Bottom]);
     let in_bottom = at_rest[&Level::Bottom];
@@ -103,16 +105,15 @@ fn every_key_of_a_table_is_told_in_its_own_slot() {
 fn a_key_is_told_in_tables_of_every_capacity() {
     let keys = [0, 1, 1 << 32, u64::MAX];
     let mut last = 0;
-    for capacity in 1..=20 {
-        let first_top = 1.max(capacity - 1);
-        let creation = Creation { capacity, first_top, multipliers: [MULTIPLIER_1, MULTIPLIER_2] };
+    for (form, capacity) in Form::ALL.into_iter().flat_map(|form| (1..=20).map(move |c| (form, c))) {
+        let creation = Creation { form, ..Creation::new(capacity, 1.max(capacity - 1)) };
         let mut table = filled(&creation, keys);
         let is_told_in =
             |table: &OwnTable, level| check_all(table, &keys) == BTreeMap::from([(level, keys.len())]);
-        assert!(is_told_in(&table, Level::Top), "c = {capacity}");
+        assert!(is_told_in(&table, Level::Top), "{form}, c = {capacity}");
         if capacity > 1 {
             table.begin().unwrap();
-            assert!(is_told_in(&table, Level::Bottom), "c = {capacity}");
+            assert!(is_told_in(&table, Level::Bottom), "{form}, c = {capacity}");
         }
         last = keys.iter().map(|&key| slot_of(table.words(), key).word).max().unwrap();
     }

@@ -7,7 +7,7 @@ use ragansils::{
 };
 
 /// The table of the marked examples of document 01, the paper that fixes the table.
-const MARKED: Creation = Creation { capacity: 2, first_top: 1, multipliers: [4294967297, 12884901889] };
+const MARKED: Creation = Creation { multipliers: [4294967297, 12884901889], ..Creation::new(2, 1) };
 /// The word that holds the state.
 const STATE: usize = 4;
 const NEW: Record = Record { function: 30, place: 40 };
@@ -198,7 +198,7 @@ fn words_that_are_no_table_are_refused_and_left() {
     let mut damaged = filled_with([1]);
     damaged[5] = 2;
     let mut other_form = empty_words();
-    other_form[0] = 2;
+    other_form[0] = 3;
     let short = empty_words()[1..].to_vec();
     let rows = [
         (damaged, Refusal::NoKind),
@@ -348,7 +348,7 @@ fn a_step_from_the_first_bucket_is_the_step_and_tells_its_bucket() {
 /// With both multipliers alike a key has one place in a level of M buckets, its remainder by M: here 16, 8 and, in the interim level, 4.
 #[test]
 fn a_step_goes_on_from_the_bucket_that_it_is_told() {
-    let creation = Creation { capacity: 4, first_top: 3, multipliers: [MARKED.multipliers[0]; 2] };
+    let creation = Creation { multipliers: [MARKED.multipliers[0]; 2], ..Creation::new(4, 3) };
     let mut table = Table::create(vec![0; creation.words().unwrap()], &creation, OrdinaryMemory).unwrap();
     for key in 0..48 {
         table.insert(key.into(), record_of(key)).unwrap();

@@ -11,7 +11,7 @@ use std::panic::{catch_unwind, resume_unwind, AssertUnwindSafe};
 use std::rc::Rc;
 
 use super::*;
-use crate::{Creation, Key, Level, OrdinaryMemory, Record, MULTIPLIER_1, MULTIPLIER_2};
+use crate::{Creation, Form, Key, Level, OrdinaryMemory, Record, MULTIPLIER_1};
 
 type OwnTable = Table<Vec<u64>, OrdinaryMemory>;
 
@@ -62,10 +62,10 @@ impl Way {
     }
 
     /// A table of 2^k top buckets from which it begins, with so many tenths of its slots taken.
-    fn from(self, k: u64, tenths: u64) -> (Vec<u64>, Vec<u64>) {
+    fn from(self, form: Form, k: u64, tenths: u64) -> (Vec<u64>, Vec<u64>) {
         match self {
-            Way::Grow => filled_of(k + 1, k, tenths),
-            Way::Shrink => filled_of(k, k, tenths),
+            Way::Grow => filled_of(form, k + 1, k, tenths),
+            Way::Shrink => filled_of(form, k, k, tenths),
         }
     }
 
@@ -98,12 +98,12 @@ const ENOUGH: u64 = 10_000;
 
 /// The words of a table before its last growth, and its keys.
 fn filled(c: u64, tenths: u64) -> (Vec<u64>, Vec<u64>) {
-    filled_of(c, c - 1, tenths)
+    filled_of(Form::default(), c, c - 1, tenths)
 }
 
 /// The words of a table of N = 2^k top buckets, with so many tenths of its slots taken or as many as it takes; and its keys.
-fn filled_of(c: u64, k: u64, tenths: u64) -> (Vec<u64>, Vec<u64>) {
-    let creation = Creation { capacity: c, first_top: k, multipliers: [MULTIPLIER_1, MULTIPLIER_2] };
+fn filled_of(form: Form, c: u64, k: u64, tenths: u64) -> (Vec<u64>, Vec<u64>) {
+    let creation = Creation { form, ..Creation::new(c, k) };
     let mut table = created(&creation);
     let slots = 6 << k;
     let keys =
@@ -124,7 +124,7 @@ struct Blocked {
 impl Blocked {
     fn new(interim_buckets: u64, stuck_buckets: Range<u64>) -> Blocked {
         let first_top = u64::from(interim_buckets.trailing_zeros()) + 1;
-        let creation = Creation { capacity: first_top + 1, first_top, multipliers: [4294967297; 2] };
+        let creation = Creation { multipliers: [4294967297; 2], ..Creation::new(first_top + 1, first_top) };
         let mut blocked = Blocked { table: created(&creation), interim_buckets, stuck_buckets };
         blocked.insert(blocked.keys_at_rest());
         assert_eq!(blocked.table.grow_on(), Ok(Part::Begun));
@@ -188,26 +188,29 @@ impl Blocked {
     }
 }
 
-/// Every size and load from which a way is tried.
-fn each_start(least_k: u64, most_k: u64) -> impl Iterator<Item = (Way, u64, u64)> {
-    let starts =
-        move |way: Way| (least_k..=most_k).flat_map(move |k| way.tenths().map(|tenths| (way, k, tenths)));
-    WAYS.into_iter().flat_map(starts)
+/// Every form, size and load from which a way is tried.
+fn each_start(least_k: u64, most_k: u64) -> impl Iterator<Item = (Form, Way, u64, u64)> {
+    let starts = move |(form, way): (Form, Way)| {
+        (least_k..=most_k).flat_map(move |k| way.tenths().map(|tenths| (form, way, k, tenths)))
+    };
+    Form::ALL.into_iter().flat_map(|form| WAYS.map(|way| (form, way))).flat_map(starts)
 }
 
 #[test]
 fn the_parts_leave_the_words_that_steps_leave() {
     // A table of two top buckets cannot shrink.
-    for (way, k, tenths) in each_start(2, 9).chain(Way::Grow.tenths().map(|tenths| (Way::Grow, 1, tenths))) {
-        let (words, keys) = way.from(k, tenths);
+    let from_two_buckets =
+        Form::ALL.into_iter().flat_map(|form| Way::Grow.tenths().map(|tenths| (form, Way::Grow, 1, tenths)));
+    for (form, way, k, tenths) in each_start(2, 9).chain(from_two_buckets) {
+        let (words, keys) = way.from(form, k, tenths);
         let mut by_steps = opened(&words);
         way.begin(&mut by_steps).unwrap();
         while by_steps.step().is_ok() {}
         by_steps.end().unwrap();
         let mut by_parts = opened(&words);
-        assert_eq!(way.whole(&mut by_parts), Ok(true), "{way:?}, k = {k}, {tenths} tenths");
+        assert_eq!(way.whole(&mut by_parts), Ok(true), "{form}, {way:?}, k = {k}, {tenths} tenths");
         assert_eq!(by_parts.words(), by_steps.words());
-        assert!(holds(by_parts.words(), &keys), "{way:?}, k = {k}, {tenths} tenths");
+        assert!(holds(by_parts.words(), &keys), "{form}, {way:?}, k = {k}, {tenths} tenths");
         let sound = calls::recover(by_parts.words()).map(|list| list.count());
         assert_eq!((by_parts.phase(), sound), (Ok(Phase::AtRest), Ok(0)));
     }
@@ -229,8 +232,8 @@ fn looked_at_next(table: &Table<Vec<u64>, impl Platform>, interim_buckets: u64) 
 /// One pass finds all items; then it is seen, from the hint and from the first bucket on, that there are no more.
 #[test]
 fn all_parts_go_through_the_interim_level_once() {
-    for (way, k, tenths) in each_start(2, 10) {
-        let (words, _) = way.from(k, tenths);
+    for (form, way, k, tenths) in each_start(2, 10) {
+        let (words, _) = way.from(form, k, tenths);
         let interim_buckets = way.interim_buckets(1 << k);
         let made = Cell::new(0);
         let mut table = Table::open(words, |_: &u64| made.set(made.get() + 1)).unwrap();
@@ -245,13 +248,13 @@ fn all_parts_go_through_the_interim_level_once() {
         let steps = parts - 2;
         assert!(calls <= parts + 1, "{calls} calls in {parts} parts");
         // Half of the slots may be in the top, so that a growth finds nothing to move.
-        assert!(steps > 0 || tenths == 5, "{way:?}: nothing moves, k = {k}");
+        assert!(steps > 0 || tenths == 5, "{form}, {way:?}: nothing moves, k = {k}");
         assert!(
             buckets <= interim_buckets + steps + interim_buckets,
-            "{way:?}: {buckets} buckets, {steps} steps, k = {k}"
+            "{form}, {way:?}: {buckets} buckets, {steps} steps, k = {k}"
         );
         let bounds = 5 * steps + 2..=way.most_stores(1 << k);
-        assert!(bounds.contains(&made.get()), "{way:?}: {} stores, k = {k}", made.get());
+        assert!(bounds.contains(&made.get()), "{form}, {way:?}: {} stores, k = {k}", made.get());
     }
 }
 
@@ -467,8 +470,7 @@ fn a_growth_goes_on_in_a_file_that_is_opened_again() {
     std::fs::create_dir_all(&folder).unwrap();
     let path = folder.join("positions");
     let (words, keys) = filled(6, 8);
-    let creation = Creation { capacity: 6, first_top: 5, multipliers: [MULTIPLIER_1, MULTIPLIER_2] };
-    let mut file = MappedFile::create(&path, &creation).unwrap();
+    let mut file = MappedFile::create(&path, &Creation::new(6, 5)).unwrap();
     file.as_mut().copy_from_slice(&words);
     drop(file);
     let mut has_ended = false;

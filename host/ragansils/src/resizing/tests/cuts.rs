@@ -31,19 +31,19 @@ impl Platform for Hook {
 /// The stores of recovery after a cut are 0 or 1, as no update is among them.
 #[test]
 fn what_is_cut_after_any_store_goes_on_after_open() {
-    for (way, k, tenths) in each_start(2, 3) {
-        let (words, keys) = way.from(k, tenths);
+    for (form, way, k, tenths) in each_start(2, 3) {
+        let (words, keys) = way.from(form, k, tenths);
         let (mut stores, mut mended) = (0, 0);
         while let Some(cut) = cut_after(&words, stores + 1, |table| assert_eq!(way.whole(table), Ok(true))) {
             mended += calls::recover(&cut).unwrap().count();
             let mut table = opened(&cut);
-            assert!(holds(table.words(), &keys), "{way:?}, k = {k}, cut after {} stores", stores + 1);
+            assert!(holds(table.words(), &keys), "{form}, {way:?}, k = {k}, cut after {} stores", stores + 1);
             finish(&mut table, way);
-            assert!(holds(table.words(), &keys), "{way:?}, k = {k}, cut after {} stores", stores + 1);
+            assert!(holds(table.words(), &keys), "{form}, {way:?}, k = {k}, cut after {} stores", stores + 1);
             stores += 1;
         }
         let moved = (stores - 2) / 10..=(stores - 2) / 5;
-        assert!(moved.contains(&mended), "{way:?}, k = {k}: {mended} doubled keys in {stores} cuts");
+        assert!(moved.contains(&mended), "{form}, {way:?}, k = {k}: {mended} doubled keys in {stores} cuts");
     }
 }
 
@@ -58,26 +58,26 @@ fn finish(table: &mut OwnTable, way: Way) {
 /// After each number of parts a part of the other way, which is one store, is cut after it.
 #[test]
 fn what_is_turned_back_after_any_part_comes_to_its_end() {
-    for (way, k, tenths) in each_start(2, 4) {
+    for (form, way, k, tenths) in each_start(2, 4) {
         let other = match way {
             Way::Grow => Way::Shrink,
             Way::Shrink => Way::Grow,
         };
-        let (words, keys) = way.from(k, tenths);
+        let (words, keys) = way.from(form, k, tenths);
         let mut table = opened(&words);
         while way.part(&mut table).unwrap() != Part::Ended {
             let turned = cut_after(table.words(), 1, |table| assert_eq!(other.part(table), Ok(Part::Turned)));
             let turned = turned.unwrap();
             let mut turned = opened(&turned);
             assert_ne!(turned.phase(), table.phase());
-            assert!(holds(turned.words(), &keys), "{way:?}, k = {k}, {tenths} tenths, turned back");
+            assert!(holds(turned.words(), &keys), "{form}, {way:?}, k = {k}, {tenths} tenths, turned back");
             let mut twice = opened(turned.words());
             assert_eq!((twice.back(), twice.words()), (Ok(1), table.words()));
             // A table that was full before it began to grow may be stuck on its way back.
             if tenths < 10 {
                 finish(&mut turned, other);
                 assert_eq!(turned.words()[4], k);
-                assert!(holds(turned.words(), &keys), "{way:?}, k = {k}, {tenths} tenths, ended");
+                assert!(holds(turned.words(), &keys), "{form}, {way:?}, k = {k}, {tenths} tenths, ended");
             }
         }
     }

@@ -5,7 +5,7 @@ use super::*;
 
 /// The words of a shrink that is stuck, with its keys: more than the smaller table has slots.
 fn stuck(k: u64) -> (OwnTable, Vec<u64>) {
-    let (words, keys) = filled_of(k, k, 8);
+    let (words, keys) = filled_of(Form::default(), k, k, 8);
     assert!(keys.len() > 6 << (k - 1));
     let mut table = opened(&words);
     assert_eq!(table.shrink(ENOUGH), Err(Refusal::NoPlace));
