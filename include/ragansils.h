@@ -38,7 +38,7 @@ extern "C" {
  */
 enum ragansils_refusal {
     RAGANSILS_DONE = 0,
-    RAGANSILS_BAD_HEADER = 1,       /* length, form, c, multipliers or state bad: all but create and make */
+    RAGANSILS_BAD_HEADER = 1,       /* length, form (neither 1 nor 2), c, multipliers or state bad: all but create and make */
     RAGANSILS_SHORT_LIST = 2,       /* list shorter than 20 words: the changing calls and recover */
     RAGANSILS_FLAG_SET = 3,         /* update flag not 0, so recover first: all but create, make and recover */
     RAGANSILS_KEY_PRESENT = 4,      /* insert */
@@ -50,7 +50,7 @@ enum ragansils_refusal {
     RAGANSILS_INTERIM_TAKEN = 10,   /* interim not empty, so step first: end */
     RAGANSILS_INTERIM_EMPTY = 11,   /* nothing left to move, so end: step; nothing from there on: step_from */
     RAGANSILS_NO_KIND = 12,         /* none of the three kinds of table that recovery accepts: recover */
-    RAGANSILS_BAD_CREATION = 13,    /* c, first k (1 to c), length or a multiplier bad: create */
+    RAGANSILS_BAD_CREATION = 13,    /* form (neither 1 nor 2), c, first k (1 to c), length or a multiplier bad: create */
     RAGANSILS_BAD_MAKING = 14,      /* n pairs are not in the list, or an index among them is outside the table: make */
     RAGANSILS_SHORT_RECORDS = 15,   /* fewer than 2 (depth + 1) words lent for the records: chain */
     RAGANSILS_BAD_POSITION = 16,    /* address of 2^56 or more, or depth above 255: chain */
@@ -61,6 +61,23 @@ enum ragansils_refusal {
  * chain 16, 15, 5.
  */
 
+/*
+ * The two forms of a table. ragansils_create is told the form and writes it to word 0, where it can be read; every other call is the same for
+ * both, and goes by that word. Any other word 0 is refused with 1. Choose form 2 for a new table, and form 1 where an older collector must
+ * read it too. Nothing converts a table from one form to the other yet.
+ *
+ * Form 1 hashes a key as it is. A token word, the first of each bucket's 13, has four bits: bit s is 1 where slot s is taken.
+ *
+ * Form 2 combines a key by exclusive or with itself / 2^32 before hashing. So the high bits of a key count in a small table too: in form 1
+ * keys that differ only in bits from 32 + k on share both of their buckets in a top of 2^k. A token word has the same four bits, and for each
+ * taken slot s a tag of eight bits of its key's hash, at bits 8 + 8 s to 15 + 8 s. A query reads only the keys whose tag fits. A free slot
+ * has tag 0, and all other bits are 0: recover tests this, and refuses a table with a wrong tag or a stray bit with 12.
+ */
+enum ragansils_form {
+    RAGANSILS_FORM_1 = 1,
+    RAGANSILS_FORM_2 = 2
+};
+
 /* The capacity exponent c is 1 to this. */
 #define RAGANSILS_LARGEST_CAPACITY 20
 
@@ -70,8 +87,9 @@ enum ragansils_refusal {
 
 /*
  * Two multipliers that spread keys well. A table of c = k = 2, 8 and 14 has 24, 1,536 and 98,304 slots, and took 24, 1,519 and 95,188
- * keys of addresses that are 4 apart before the first refusal 6; of the keys 0, 1, 2, .. it took 24, 1,430 and 92,280. Small multipliers
- * are no good: with 3 and 5 the first refusal comes at 8 of 24 slots, since a key's hash is what its product has above 2^32.
+ * keys of addresses that are 4 apart before the first refusal 6 in form 1, and 24, 1,517 and 94,529 in form 2; of addresses that are 2^32
+ * apart it took 16, 16 and 768 in form 1, and 24, 1,519 and 93,600 in form 2; of the keys 0, 1, 2, .. 24, 1,430 and 92,280 in both. Small
+ * multipliers are no good: with 3 and 5 the first refusal comes at 8 of 24 slots, since a key's hash is what its product has above 2^32.
  */
 #define RAGANSILS_MULTIPLIER_1 UINT64_C(0x9e3779b97f4a7c15)
 #define RAGANSILS_MULTIPLIER_2 UINT64_C(0xc2b2ae3d27d4eb4f)
@@ -117,11 +135,11 @@ static inline bool ragansils_key(uint64_t address, uint64_t depth, uint64_t *key
 }
 
 /*
- * Makes an empty table with a top level of 2^k buckets, which can grow to 2^c: zeroes all words and writes the header. Both multipliers
- * are odd and may be equal; RAGANSILS_MULTIPLIER_1 and RAGANSILS_MULTIPLIER_2 spread keys well, and so do most pairs of random ones.
- * Refusal 13 changes no word. A cut in creation is not covered.
+ * Makes an empty table of this form (enum ragansils_form) with a top level of 2^k buckets, which can grow to 2^c: zeroes all words and
+ * writes the header. Both multipliers are odd and may be equal; RAGANSILS_MULTIPLIER_1 and RAGANSILS_MULTIPLIER_2 spread keys well, and so
+ * do most pairs of random ones. Refusal 13 changes no word. A cut in creation is not covered.
  */
-uint64_t ragansils_create(uint64_t *table, size_t words, uint64_t c, uint64_t k, uint64_t mul1, uint64_t mul2);
+uint64_t ragansils_create(uint64_t *table, size_t words, uint64_t form, uint64_t c, uint64_t k, uint64_t mul1, uint64_t mul2);
 
 /*
  * Looks a key up. answer[0] is its function, answer[1] its place, answer[2] the number of buckets looked at, at most four, or six while

@@ -1,7 +1,8 @@
 /*
  * Calls each of the fourteen functions through include/ragansils.h, and meets each refusal number: the ten of document 01, the paper that
- * fixes the table, on its marked examples, the chain, the step that goes on, shrink and back. The answers differ for any two arguments taken
- * for each other. Says how many checks there were; exit status 0 only where all held.
+ * fixes the table, on its marked examples, the chain, the step that goes on, shrink and back. All of that is done in both forms; the tags of
+ * form 2 are 0 there, so that rows with other tags come after it. The answers differ for any two arguments taken for each other. Says how
+ * many checks there were; exit status 0 only where all held.
  */
 #include <inttypes.h>
 #include <stdio.h>
@@ -26,11 +27,14 @@
 #define NO_ADDRESS (UINT64_C(1) << 56)
 
 /* A run with fewer has left something out. */
-#define LEAST_CHECKS 860
+#define LEAST_CHECKS 2400
 
 static uint64_t table[WORDS], list[LENT_LIST], stores, bucket, lent[AROUND + LONGEST_CHAIN + AROUND];
 static uint64_t *const records = lent + AROUND;
 static unsigned checks, failures;
+
+/* The form in which tables are made. */
+static uint64_t form;
 
 static void check(bool held, const char *what)
 {
@@ -139,7 +143,7 @@ static void made(struct change change, uint64_t key, uint64_t function, uint64_t
 static void fresh_table(void)
 {
     untouch(table, WORDS);
-    check(ragansils_create(table, WORDS, 2, 1, MUL1, MUL2) == RAGANSILS_DONE, "create");
+    check(ragansils_create(table, WORDS, form, 2, 1, MUL1, MUL2) == RAGANSILS_DONE, "create");
 }
 
 static void insert_keys(uint64_t first, uint64_t last, uint64_t apart)
@@ -214,7 +218,7 @@ static void sizes_and_keys(void)
 
 static void creation(void)
 {
-    const uint64_t header[] = { 1, 2, MUL1, MUL2, 1, 0, 0, 0, 0 };
+    const uint64_t header[] = { form, 2, MUL1, MUL2, 1, 0, 0, 0, 0 };
     fresh_table();
     check(memcmp(table, header, sizeof header) == 0, "the header");
     bool zero = true;
@@ -223,11 +227,14 @@ static void creation(void)
     check(zero, "all else is zeroed");
 
     untouch(table, WORDS);
-    check(ragansils_create(table, WORDS - 1, 2, 1, MUL1, MUL2) == RAGANSILS_BAD_CREATION, "create: length");
-    check(ragansils_create(table, WORDS, 3, 1, MUL1, MUL2) == RAGANSILS_BAD_CREATION, "create: c");
-    check(ragansils_create(table, WORDS, 2, 3, MUL1, MUL2) == RAGANSILS_BAD_CREATION, "create: k");
-    check(ragansils_create(table, WORDS, 2, 1, 2, MUL2) == RAGANSILS_BAD_CREATION, "create: multiplier 1");
-    check(ragansils_create(table, WORDS, 2, 1, MUL1, 2) == RAGANSILS_BAD_CREATION, "create: multiplier 2");
+    check(ragansils_create(table, WORDS - 1, form, 2, 1, MUL1, MUL2) == RAGANSILS_BAD_CREATION, "create: length");
+    check(ragansils_create(table, WORDS, form, 3, 1, MUL1, MUL2) == RAGANSILS_BAD_CREATION, "create: c");
+    check(ragansils_create(table, WORDS, form, 2, 3, MUL1, MUL2) == RAGANSILS_BAD_CREATION, "create: k");
+    check(ragansils_create(table, WORDS, form, 2, 1, 2, MUL2) == RAGANSILS_BAD_CREATION, "create: multiplier 1");
+    check(ragansils_create(table, WORDS, form, 2, 1, MUL1, 2) == RAGANSILS_BAD_CREATION, "create: multiplier 2");
+    const uint64_t no_forms[] = { 0, 3, UINT64_C(1) << 32, UINT64_C(1) << 63, UINT64_MAX };
+    for (size_t i = 0; i < sizeof no_forms / sizeof *no_forms; i++)
+        check(ragansils_create(table, WORDS, no_forms[i], 2, 1, MUL1, MUL2) == RAGANSILS_BAD_CREATION, "create: form");
     all_untouched(table, 0, WORDS, "a refused creation writes nothing");
 }
 
@@ -330,7 +337,7 @@ static void stuck_shrink(void)
 {
     const uint64_t to_growth[] = { 4, 258 }, to_shrink[] = { 4, 513 };
     untouch(table, WORDS);
-    check(ragansils_create(table, WORDS, 2, 2, MUL1, MUL2) == RAGANSILS_DONE, "create");
+    check(ragansils_create(table, WORDS, form, 2, 2, MUL1, MUL2) == RAGANSILS_DONE, "create");
     insert_keys(0, 15, 1);
     made(SHRINK, 0, 0, 0);
     while (call_step(WORDS, LENT_LIST, 0, 0, 0) == RAGANSILS_DONE)
@@ -364,7 +371,7 @@ static void where_keys_stand(void)
     ragansils_make(table, WORDS, list, LENT_LIST, 4);
     found(9, 109, 209, 1, 62, RAGANSILS_TOP);
     check(table[10] == 9 && table[9] == 15, "the earlier slot is taken still");
-    table[0] = 2;
+    table[0] = 3;
     not_found(9, RAGANSILS_BAD_HEADER, 0);
 }
 
@@ -380,7 +387,7 @@ static void steps_that_go_on(void)
     static uint64_t large[RAGANSILS_WORDS(4)];
     const size_t words = RAGANSILS_WORDS(4);
     uint64_t answer[RAGANSILS_STEP_FROM_WORDS] = { 0, 0 }, steps = 0, told = 0;
-    bool filled = ragansils_create(large, words, 4, 3, MUL1, MUL1) == RAGANSILS_DONE, ascending = true;
+    bool filled = ragansils_create(large, words, form, 4, 3, MUL1, MUL1) == RAGANSILS_DONE, ascending = true;
     for (uint64_t key = 0; key < 48; key++)
         filled = filled && ragansils_insert(large, words, key, key, key, list, RAGANSILS_LIST_WORDS, &stores) == RAGANSILS_DONE &&
                  ragansils_make(large, words, list, RAGANSILS_LIST_WORDS, stores) == RAGANSILS_DONE;
@@ -441,7 +448,7 @@ static void refused_chains(void)
     table[5] = 1;
     chained(0, 3, 8, RAGANSILS_FLAG_SET, 0, NULL);
     chained(NO_ADDRESS, 256, 0, RAGANSILS_FLAG_SET, 0, NULL);
-    table[0] = 2;
+    table[0] = 3;
     chained(NO_ADDRESS, 256, 0, RAGANSILS_BAD_HEADER, 0, NULL);
 }
 
@@ -465,7 +472,7 @@ static void longest_chain(void)
     static uint64_t large[RAGANSILS_WORDS(7)];
     const size_t words = RAGANSILS_WORDS(7);
     uint64_t key, buckets, looked = 0, answer[RAGANSILS_ANSWER_WORDS];
-    bool filled = ragansils_create(large, words, 7, 6, RAGANSILS_MULTIPLIER_1, RAGANSILS_MULTIPLIER_2) == RAGANSILS_DONE;
+    bool filled = ragansils_create(large, words, form, 7, 6, RAGANSILS_MULTIPLIER_1, RAGANSILS_MULTIPLIER_2) == RAGANSILS_DONE;
     for (uint64_t depth = 0; depth <= RAGANSILS_LARGEST_DEPTH; depth++) {
         filled = filled && ragansils_key(NO_ADDRESS - 1, depth, &key) &&
                  ragansils_insert(large, words, key, 1000 + depth, 7 * depth, list, RAGANSILS_LIST_WORDS, &stores) == RAGANSILS_DONE &&
@@ -505,9 +512,220 @@ static void lengths(void)
     check(ragansils_make(table, WORDS, pair, 2, 1) == RAGANSILS_DONE && table[WORDS - 1] == 7, "make in the last word");
 }
 
-int main(void)
+/* ---- form 2: the rows with tags ---- */
+
+/* With these multipliers a key below 2^32 has its bits 24 to 31 as its tag, and they change no place in a small table. */
+static uint64_t tagged(uint64_t tag, uint64_t key)
 {
-    sizes_and_keys();
+    return tag << 24 | key;
+}
+
+/* A token word of these taken slots, and the tags of slots 0 to 3. */
+static uint64_t token(uint64_t taken, uint64_t tag0, uint64_t tag1, uint64_t tag2, uint64_t tag3)
+{
+    return taken | tag0 << 8 | tag1 << 16 | tag2 << 24 | tag3 << 32;
+}
+
+/* The last store of a list that the call answers with. */
+static void last_store(struct change change, uint64_t key, uint64_t word, uint64_t value)
+{
+    check(change.call(WORDS, RAGANSILS_LIST_WORDS, key, 30, 40) == RAGANSILS_DONE, change.name);
+    check(stores > 0 && list[2 * stores - 2] == word && list[2 * stores - 1] == value, "the token store of form 2");
+}
+
+static void one_tagged_position(void)
+{
+    const uint64_t key = tagged(5, 1), inserted[] = { 36, key, 37, 10, 38, 20, 35, 1281 };
+    const uint64_t updated[] = { 39, key, 40, 30, 41, 40, 35, 327682 }, deleted[] = { 35, 0 };
+    fresh_table();
+    listed(INSERT, key, 10, 20, RAGANSILS_DONE, 4, inserted);
+    made(INSERT, key, 10, 20);
+    found(key, 10, 20, 1, 36, RAGANSILS_TOP);
+    /* Keys with another tag, or the same tag, in the same buckets. */
+    not_found(tagged(6, 1), RAGANSILS_KEY_ABSENT, 2);
+    not_found(tagged(5, 3), RAGANSILS_KEY_ABSENT, 2);
+    listed(DELETE, key, 0, 0, RAGANSILS_DONE, 1, deleted);
+    listed(UPDATE, key, 30, 40, RAGANSILS_DONE, 4, updated);
+    refused(RECOVER, 0, RAGANSILS_DONE);
+}
+
+/* A bucket of four tags; what changes one slot leaves the tags of the others. */
+static void four_tagged_positions(void)
+{
+    fresh_table();
+    made(INSERT, tagged(5, 1), 10, 20);
+    made(INSERT, tagged(7, 3), 10, 20);
+    last_store(INSERT, tagged(9, 5), 35, token(7, 5, 7, 9, 0));
+    made(INSERT, tagged(9, 5), 10, 20);
+    last_store(UPDATE, tagged(5, 1), 35, token(14, 0, 7, 9, 5));
+    made(INSERT, tagged(11, 7), 10, 20);
+    check(table[35] == UINT64_C(47396095247), "the token word of four tagged keys");
+    last_store(DELETE, tagged(7, 3), 35, UINT64_C(47395636493));
+    refused(RECOVER, 0, RAGANSILS_DONE);
+    found(tagged(11, 7), 10, 20, 1, 45, RAGANSILS_TOP);
+    /* Tag 0 is a tag like any other: of a free slot, whose tag is 0, the key is not read. */
+    made(DELETE, tagged(11, 7), 0, 0);
+    table[45] = 7;
+    not_found(7, RAGANSILS_KEY_ABSENT, 2);
+    made(INSERT, 7, 10, 20);
+    check(table[35] == token(15, 5, 7, 9, 0), "a key whose tag is 0");
+    found(7, 10, 20, 1, 45, RAGANSILS_TOP);
+}
+
+/* A key that form 2 mixes: its upper half is 3. */
+static void mixed_key(void)
+{
+    const uint64_t key = UINT64_C(12968787970);
+    const uint64_t in_form_1[] = { 36, key, 37, 10, 38, 20, 35, 1 }, in_form_2[] = { 23, key, 24, 10, 25, 20, 22, 1281 };
+    form = RAGANSILS_FORM_1;
+    fresh_table();
+    listed(INSERT, key, 10, 20, RAGANSILS_DONE, 4, in_form_1);
+    form = RAGANSILS_FORM_2;
+    fresh_table();
+    listed(INSERT, key, 10, 20, RAGANSILS_DONE, 4, in_form_2);
+    made(INSERT, key, 10, 20);
+    found(key, 10, 20, 1, 23, RAGANSILS_TOP);
+}
+
+/* Multipliers that are large: the tag is bits 24 to 31 of the first product. */
+static void large_multipliers(void)
+{
+    check(ragansils_create(table, WORDS, form, 2, 1, UINT64_C(11400714819323198485), UINT64_C(14029467366897019727)) == RAGANSILS_DONE,
+          "create");
+    last_store(INSERT, 1, 35, 32513);
+    last_store(INSERT, 2, 22, 65025);
+    made(INSERT, 2, 10, 20);
+    found(2, 10, 20, 1, 23, RAGANSILS_TOP);
+}
+
+/* E9 with a tag for each key, 16 more than the key below it: the item that moves takes its tag with it. */
+static void tagged_move(void)
+{
+    const uint64_t keys[] = { 0, 2, 4, 6, 8, 1, 3, 5, 7, 9, 11, 13 };
+    fresh_table();
+    for (size_t i = 0; i < sizeof keys / sizeof *keys; i++) {
+        made(INSERT, tagged(keys[i] + 16, keys[i]), 10, 20);
+        if (keys[i] == 8)
+            made(DELETE, tagged(16, 0), 0, 0);
+    }
+    const uint64_t moved = tagged(24, 8), key = tagged(31, 15);
+    const uint64_t expected[] = { 23, moved, 24, 10, 25, 20, 22, token(15, 24, 18, 20, 22), 9, token(14, 0, 25, 27, 29),
+                                  10, key, 11, 30, 12, 40, 9, token(15, 31, 25, 27, 29) };
+    listed(INSERT, key, 30, 40, RAGANSILS_DONE, 9, expected);
+    made(INSERT, key, 30, 40);
+    found(moved, 10, 20, 1, 23, RAGANSILS_TOP);
+    refused(RECOVER, 0, RAGANSILS_DONE);
+}
+
+static void tagged_table_that_grows(void)
+{
+    fresh_table();
+    made(INSERT, tagged(5, 1), 10, 20);
+    made(INSERT, tagged(7, 3), 10, 20);
+    made(INSERT, tagged(9, 5), 10, 20);
+    made(INSERT, tagged(11, 7), 10, 20);
+    made(INSERT, tagged(13, 9), 10, 20);
+    made(INSERT, tagged(15, 11), 10, 20);
+    check(table[9] == token(3, 13, 15, 0, 0), "the token word of the bottom");
+    made(BEGIN, 0, 0, 0);
+}
+
+/* Steps of a growth and of a shrink, and both kinds of recovery, with tags. */
+static void tagged_steps(void)
+{
+    const uint64_t key = tagged(13, 9), up[] = { 62, key, 63, 10, 64, 20, 61, token(1, 13, 0, 0, 0), 9, token(2, 0, 15, 0, 0) };
+    const uint64_t clears[] = { 9, token(2, 0, 15, 0, 0) }, down[] = { 10, key, 11, 10, 12, 20, 9, token(3, 13, 15, 0, 0), 61, 0 };
+    const uint64_t rewrites[] = { 37, 30, 38, 40, 5, 0 };
+    tagged_table_that_grows();
+    listed(STEP, 0, 0, 0, RAGANSILS_DONE, 5, up);
+    ragansils_make(table, WORDS, list, LENT_LIST, 4);
+    listed(RECOVER, 0, 0, 0, RAGANSILS_DONE, 1, clears);
+    made(RECOVER, 0, 0, 0);
+    made(BACK, 0, 0, 0);
+    found(key, 10, 20, 3, 62, RAGANSILS_INTERIM);
+    listed(STEP, 0, 0, 0, RAGANSILS_DONE, 5, down);
+    made(STEP, 0, 0, 0);
+    made(END, 0, 0, 0);
+    check(call_update(WORDS, LENT_LIST, tagged(5, 1), 30, 40) == RAGANSILS_DONE && stores == 7, "an update of a full bucket");
+    ragansils_make(table, WORDS, list, LENT_LIST, 5);
+    listed(RECOVER, 0, 0, 0, RAGANSILS_DONE, 3, rewrites);
+    made(RECOVER, 0, 0, 0);
+    found(tagged(5, 1), 30, 40, 1, 36, RAGANSILS_TOP);
+    check(table[35] == UINT64_C(47396095247), "no tag has changed");
+}
+
+/* A wrong tag hides its key: the calls go on as if it were absent, and recovery refuses the table. */
+static void damaged_tag(void)
+{
+    const uint64_t key = tagged(5, 1), again[] = { 39, key, 40, 10, 41, 20, 35, token(3, 4, 5, 0, 0) };
+    fresh_table();
+    made(INSERT, key, 10, 20);
+    table[35] = token(1, 4, 0, 0, 0);
+    not_found(key, RAGANSILS_KEY_ABSENT, 2);
+    refused(UPDATE, key, RAGANSILS_KEY_ABSENT);
+    refused(DELETE, key, RAGANSILS_KEY_ABSENT);
+    chained(key / 256, key % 256, 4, RAGANSILS_KEY_ABSENT, 2, NULL);
+    listed(INSERT, key, 10, 20, RAGANSILS_DONE, 4, again);
+    refused(RECOVER, 0, RAGANSILS_NO_KIND);
+    /* Both copies, and then their tags differ. */
+    made(INSERT, key, 10, 20);
+    found(key, 10, 20, 1, 39, RAGANSILS_TOP);
+    refused(RECOVER, 0, RAGANSILS_NO_KIND);
+}
+
+/* Bits that mean nothing, and tags of free slots: recovery refuses them, and the other calls keep them. */
+static void stray_bits(void)
+{
+    const uint64_t key = tagged(5, 1), stray[] = { 16, 128, UINT64_C(1) << 40, UINT64_C(1) << 63, token(0, 0, 0, 6, 0) };
+    for (size_t i = 0; i < sizeof stray / sizeof *stray; i++) {
+        fresh_table();
+        made(INSERT, key, 10, 20);
+        table[35] |= stray[i];
+        refused(RECOVER, 0, RAGANSILS_NO_KIND);
+        found(key, 10, 20, 1, 36, RAGANSILS_TOP);
+        last_store(INSERT, tagged(7, 3), 35, token(3, 5, 7, 0, 0) | stray[i]);
+        last_store(DELETE, key, 35, stray[i]);
+        /* In form 1 the same word is read modulo 16. */
+        table[0] = RAGANSILS_FORM_1;
+        last_store(DELETE, key, 35, 0);
+    }
+    /* What stood on the tag of a free slot is overwritten where the slot is taken. */
+    fresh_table();
+    table[35] = token(0, 255, 0, 0, 0);
+    last_store(INSERT, key, 35, 1281);
+}
+
+/* A form that there is not. */
+static void no_form(void)
+{
+    const struct change all[] = { INSERT, UPDATE, DELETE, BEGIN, SHRINK, BACK, STEP, STEP_FROM, END, RECOVER };
+    const uint64_t no_forms[] = { 0, 3, UINT64_C(1) << 32, UINT64_C(1) << 63, UINT64_MAX };
+    for (size_t i = 0; i < sizeof no_forms / sizeof *no_forms; i++) {
+        fresh_table();
+        made(INSERT, 1, 10, 20);
+        table[0] = no_forms[i];
+        for (size_t j = 0; j < sizeof all / sizeof *all; j++)
+            refused(all[j], 1, RAGANSILS_BAD_HEADER);
+        not_found(1, RAGANSILS_BAD_HEADER, 0);
+        chained(0, 1, 4, RAGANSILS_BAD_HEADER, 0, NULL);
+    }
+}
+
+static void rows_of_form_2(void)
+{
+    mixed_key();
+    one_tagged_position();
+    four_tagged_positions();
+    large_multipliers();
+    tagged_move();
+    tagged_steps();
+    damaged_tag();
+    stray_bits();
+    no_form();
+}
+
+static void rows_of_both_forms(void)
+{
     creation();
     one_position();
     cut_update();
@@ -521,6 +739,14 @@ int main(void)
     chain_while_resizing();
     longest_chain();
     lengths();
+}
+
+int main(void)
+{
+    sizes_and_keys();
+    for (form = RAGANSILS_FORM_1; form <= RAGANSILS_FORM_2; form++)
+        rows_of_both_forms();
+    rows_of_form_2();
     if (printf("%u checks of the fourteen functions from C, %u failed\n", checks, failures) < 0 || fflush(stdout) != 0) {
         fprintf(stderr, "calls: standard output could not be written\n");
         return 1;
