@@ -315,6 +315,12 @@ static uint64_t *map_words(int file, size_t words, const char *path)
     return mapped;
 }
 
+/* New tables are of form 2. A file of form 1, which an older collector made, is taken up as it is: every other call goes by its word 0. */
+static void create(uint64_t *table, size_t words)
+{
+    must("create", ragansils_create(table, words, RAGANSILS_FORM_2, CAPACITY, FIRST_TOP, RAGANSILS_MULTIPLIER_1, RAGANSILS_MULTIPLIER_2));
+}
+
 /* A cut in creation is not covered: so the table is made under another name, and gets its own once it is whole. */
 static void create_file(const char *path)
 {
@@ -327,7 +333,7 @@ static void create_file(const char *path)
     if (file < 0 || ftruncate(file, (off_t)(words * sizeof(uint64_t))) != 0)
         complain("cannot make", new_path);
     uint64_t *table = map_words(file, words, new_path);
-    must("create", ragansils_create(table, words, CAPACITY, FIRST_TOP, RAGANSILS_MULTIPLIER_1, RAGANSILS_MULTIPLIER_2));
+    create(table, words);
     if (msync(table, words * sizeof(uint64_t), MS_SYNC) != 0 || fsync(file) != 0 || rename(new_path, path) != 0)
         complain("cannot write", path);
     munmap(table, words * sizeof(uint64_t));
@@ -355,7 +361,7 @@ static struct collector in_memory(void)
 {
     static uint64_t table[RAGANSILS_WORDS(CAPACITY)];
     struct collector collector = { table, RAGANSILS_WORDS(CAPACITY), false, 0, 0, 0, false };
-    must("create", ragansils_create(table, collector.words, CAPACITY, FIRST_TOP, RAGANSILS_MULTIPLIER_1, RAGANSILS_MULTIPLIER_2));
+    create(table, collector.words);
     printf("made a table of %zu words\n", collector.words);
     return collector;
 }

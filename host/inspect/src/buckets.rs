@@ -3,6 +3,7 @@
 use ragansils_model::{Slot, Table, SLOTS_PER_BUCKET};
 
 use crate::faults::key_words;
+use crate::tags;
 
 /// How a slot is drawn.
 const FREE: char = '.';
@@ -20,10 +21,17 @@ pub fn picture(table: &Table, bucket: usize, marked: Option<usize>) -> String {
     format!("[{slots}]")
 }
 
-/// The token word as it stands, and as calls read it.
+/// The token word as it stands, and as calls read it: of form 1 the lowest four bits, of form 2 all of it.
 pub fn token_words(table: &Table, bucket: usize) -> String {
     let (token, read) = (table.raw_token(bucket), table.token(bucket));
     let at = Slot { bucket, number: 0 }.token_word();
+    if tags::are_kept(table) {
+        let stray = tags::stray_words(&tags::stray_bits(table, bucket));
+        let stray = stray.map_or(String::new(), |words| format!(", where {words}"));
+        // In hexadecimal digits the tags can be read off; without any the word is short.
+        let digits = if token == read { String::new() } else { format!(" ({token:#x})") };
+        return format!("its token, word {at}, is {token}{digits}{stray}");
+    }
     match token == read {
         true => format!("its token, word {at}, is {token}"),
         false => format!("its token, word {at}, is {token}, and read as {read}"),
@@ -35,14 +43,28 @@ pub fn slot_lines(table: &Table, bucket: usize, marked: Option<usize>) -> [Strin
     [0, 1, 2, 3].map(|number| {
         let slot = Slot { bucket, number };
         let mark = if marked == Some(slot.key_word()) { MARKED } else { ' ' };
-        format!("{mark} slot {number}, word {}: {}", slot.key_word(), content(table, slot))
+        let tag = tag_in(table, slot);
+        format!("{mark} slot {number}, word {}{tag}: {}", slot.key_word(), content(table, slot))
     })
+}
+
+/// The tag of a taken slot; of a free one only where there is one, which is wrong.
+fn tag_in(table: &Table, slot: Slot) -> String {
+    let is_told = tags::are_kept(table) && (table.is_taken(slot) || tags::is_left_over(table, slot));
+    match is_told {
+        true => format!(", tag {}", tags::hexadecimal(table.tag_in(slot))),
+        false => String::new(),
+    }
 }
 
 fn content(table: &Table, slot: Slot) -> String {
     let [key, function, place] = table.record(slot);
+    let own_tag = match tags::is_wrong(table, slot) {
+        true => format!("; the key's own tag is {}", tags::hexadecimal(table.tag_of(key))),
+        false => String::new(),
+    };
     match table.is_taken(slot) {
-        true => format!("{}, function {function}, place {place}", key_words(key)),
+        true => format!("{}, function {function}, place {place}{own_tag}", key_words(key)),
         false => "free".to_string(),
     }
 }

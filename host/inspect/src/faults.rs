@@ -5,7 +5,7 @@ use ragansils_model::{
     keys_in_several_slots, misplaced_items, untidy_buckets, update_target, word, Slot, Table,
 };
 
-use crate::levels;
+use crate::{levels, tags};
 
 /// So many of a kind are told one by one.
 const TOLD: usize = 8;
@@ -13,7 +13,7 @@ const TOLD: usize = 8;
 pub fn lines(table: &Table) -> Vec<String> {
     let mut lines = vec![];
     lines.extend(flag_line(table));
-    told(&mut lines, &untidy_buckets(table), |&bucket| token_line(table, bucket));
+    token_lines(&mut lines, table);
     told(&mut lines, &misplaced_items(table), |&slot| {
         format!(
             "{} stands in {}, which is none of its places",
@@ -58,10 +58,46 @@ fn flag_line(table: &Table) -> Option<String> {
     }
 }
 
+fn is_in_use(table: &Table, bucket: usize) -> bool {
+    table.levels_in_use().iter().any(|level| level.buckets().contains(&bucket))
+}
+
+/// Of form 2 a token word in a level in use can be wrong in three ways, each of which is told where it is.
+fn token_lines(lines: &mut Vec<String>, table: &Table) {
+    let by_tags = |bucket: &usize| tags::are_kept(table) && is_in_use(table, *bucket);
+    let (tagged, others): (Vec<usize>, Vec<usize>) = untidy_buckets(table).into_iter().partition(by_tags);
+    told(lines, &others, |&bucket| token_line(table, bucket));
+    let slots = || tagged.iter().flat_map(|&bucket| Slot::all_of(bucket));
+    let wrong: Vec<Slot> = slots().filter(|&slot| tags::is_wrong(table, slot)).collect();
+    told(lines, &wrong, |&slot| wrong_tag_line(table, slot));
+    let left_over: Vec<Slot> = slots().filter(|&slot| tags::is_left_over(table, slot)).collect();
+    told(lines, &left_over, |&slot| {
+        let tag = tags::hexadecimal(table.tag_in(slot));
+        format!("{} is free and has tag {tag}; a free slot has tag 0x00", slot_words(table, slot))
+    });
+    let with_stray_bits = |bucket: &usize| {
+        let words = tags::stray_words(&tags::stray_bits(table, *bucket));
+        words.map(|words| {
+            format!("of the token word of bucket {bucket}, {}, {words}", table.raw_token(*bucket))
+        })
+    };
+    let stray: Vec<String> = tagged.iter().filter_map(with_stray_bits).collect();
+    told(lines, &stray, String::clone);
+}
+
+fn wrong_tag_line(table: &Table, slot: Slot) -> String {
+    let key = table.key(slot);
+    let (tag, own) = (tags::hexadecimal(table.tag_in(slot)), tags::hexadecimal(table.tag_of(key)));
+    format!(
+        "{} has tag {tag} in {}, and its own tag is {own}: no call finds it there",
+        key_words(key),
+        slot_words(table, slot)
+    )
+}
+
 fn token_line(table: &Table, bucket: usize) -> String {
     let token = table.raw_token(bucket);
-    let in_use = table.levels_in_use().iter().any(|level| level.buckets().contains(&bucket));
-    if in_use {
+    if is_in_use(table, bucket) {
         format!("the token word of bucket {bucket} is {token}, which is above 15")
     } else {
         format!("the token word of bucket {bucket} is {token}, and its level is not in use")

@@ -1,17 +1,15 @@
 //! The header: what it says, and what is wrong with it.
 
+use ragansils::Form;
 use ragansils_model::{word, PHASE_UNIT};
 
 use crate::file::{table_lengths, Content};
-
-/// The one form that there is.
-const FORM: u64 = 1;
 
 /// The header's words, one to a line; as far as the file has them.
 pub fn lines(words: &[u64]) -> Vec<String> {
     let word = |index: usize| words.get(index).map_or("missing".to_string(), u64::to_string);
     vec![
-        format!("form         {}", word(word::FORM)),
+        format!("form         {}{}", word(word::FORM), words.first().map_or("", form_words)),
         format!("capacity     {}", word(word::CAPACITY)),
         format!("multipliers  {}, {}", word(word::MULTIPLIER_1), word(word::MULTIPLIER_2)),
         format!(
@@ -27,6 +25,14 @@ pub fn lines(words: &[u64]) -> Vec<String> {
             word(word::UPDATE_PLACE)
         ),
     ]
+}
+
+fn form_words(form: &u64) -> &'static str {
+    match Form::of_number(*form) {
+        Some(Form::Two) => ": keys are mixed before they are hashed, and taken slots have tags",
+        // What was told of form 1 before there was another.
+        Some(Form::One) | None => "",
+    }
 }
 
 fn state_words(state: &u64) -> String {
@@ -76,15 +82,16 @@ fn length_fault(length: u64) -> Option<String> {
 }
 
 fn form_fault(form: u64) -> Option<String> {
-    if form == FORM {
-        None
-    } else if form.swap_bytes() == FORM {
-        Some(format!(
-            "form {form} is 1 in the other byte order: the table was made on another kind of machine"
-        ))
-    } else {
-        Some(format!("form {form} is not known; known is 1"))
+    if Form::of_number(form).is_some() {
+        return None;
     }
+    Some(match Form::of_number(form.swap_bytes()) {
+        Some(other) => format!(
+            "form {form} is {} in the other byte order: the table was made on another kind of machine",
+            other.number()
+        ),
+        None => format!("form {form} is not known; known are 1 and 2"),
+    })
 }
 
 fn capacity_fault(capacity: u64, length: u64) -> Option<String> {

@@ -1,13 +1,14 @@
 //! What is told of a key: the answer of a query, and every bucket where the key may stand.
 
 use ragansils::{calls, Key, Lookup, Refusal};
-use ragansils_model::Table;
+use ragansils_model::{Slot, Table};
 
 use crate::buckets::{picture, slot_lines, token_words, MARKED};
-use crate::faults::key_words;
+use crate::faults::{key_words, slot_words};
 use crate::file::{Content, BYTES_PER_WORD};
 use crate::header;
 use crate::places::{places, Place};
+use crate::tags;
 use crate::text::{with_faults, Text};
 
 /// What a query of the key answers.
@@ -21,12 +22,18 @@ pub enum Verdict {
 
 pub fn report(name: &str, content: &Content, key: Key) -> (String, Verdict) {
     let mut text = Text::of_file(name, content);
-    text.part("key", vec![key_words(key.word())]);
-    let verdict = match Table::read(&content.words) {
-        Ok(table) if header::faults(content).is_empty() => search_parts(&mut text, &table, content, key),
-        _ => no_table(&mut text, content),
+    let table = Table::read(&content.words).ok().filter(|_| header::faults(content).is_empty());
+    let tag = table.filter(tags::are_kept).map(|table| tag_line(table.tag_of(key.word())));
+    text.part("key", std::iter::once(key_words(key.word())).chain(tag).collect());
+    let verdict = match table {
+        Some(table) => search_parts(&mut text, &table, content, key),
+        None => no_table(&mut text, content),
     };
     (text.finish(), verdict)
+}
+
+fn tag_line(tag: u64) -> String {
+    format!("its tag is {}: a query reads only the slots that have it", tags::hexadecimal(tag))
 }
 
 fn no_table(text: &mut Text, content: &Content) -> Verdict {
@@ -43,7 +50,7 @@ fn search_parts(text: &mut Text, table: &Table, content: &Content, key: Key) -> 
     let looked_at = answer.map_or(0, |lookup| lookup.buckets as usize);
     let marked = answer.ok().and_then(|lookup| lookup.found).map(|found| found.slot.word);
 
-    let (mut lines, verdict) = answer_lines(answer);
+    let (mut lines, verdict) = answer_lines(answer, hidden_by_tag(table, &places, key));
     lines.push(format!("buckets looked at: {looked_at} of {}", places.len()));
     lines.extend(unsound_line(&content.words));
     text.part("answer", lines);
@@ -53,11 +60,20 @@ fn search_parts(text: &mut Text, table: &Table, content: &Content, key: Key) -> 
     verdict
 }
 
-fn answer_lines(answer: Result<Lookup, Refusal>) -> (Vec<String>, Verdict) {
+/// Where the key stands in one of its places, with a tag that is not its own: in words.
+fn hidden_by_tag(table: &Table, places: &[Place], key: Key) -> Option<String> {
+    let mut slots = places.iter().flat_map(|place| Slot::all_of(place.bucket));
+    let hidden = slots.find(|&slot| table.key(slot) == key.word() && tags::is_wrong(table, slot))?;
+    let tag = tags::hexadecimal(table.tag_in(hidden));
+    Some(format!("absent: the key stands in {}, but its tag there is {tag}", slot_words(table, hidden)))
+}
+
+fn answer_lines(answer: Result<Lookup, Refusal>, hidden: Option<String>) -> (Vec<String>, Verdict) {
     let found = match answer {
         Ok(Lookup { found: Some(found), .. }) => found,
         Ok(Lookup { found: None, .. }) => {
-            return (vec!["absent: the key stands in none of its places".to_string()], Verdict::Absent)
+            let nowhere = || "absent: the key stands in none of its places".to_string();
+            return (vec![hidden.unwrap_or_else(nowhere)], Verdict::Absent);
         }
         Err(refusal) => return (vec![refusal_line(refusal)], Verdict::RecoveryFirst),
     };

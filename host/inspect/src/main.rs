@@ -10,6 +10,7 @@
 //! - `faults`: what is unsound;
 //! - `recovery`: the stores that recovery lists, in words;
 //! - `report`: all of it, and the verdict;
+//! - `tags`: the tags of form 2, and what is wrong with them;
 //! - `places`: where a key may stand; `buckets`: a bucket, drawn as text;
 //! - `key_report`: what a query of a key answers, with its places, and the verdict.
 
@@ -23,6 +24,7 @@ mod levels;
 mod places;
 mod recovery;
 mod report;
+mod tags;
 mod text;
 
 use std::io::Write;

@@ -21,7 +21,7 @@ pub fn places(table: &Table, key: Key) -> Vec<Place> {
 #[cfg(test)]
 mod tests {
     use super::*;
-    use ragansils::{Creation, Lookup, OrdinaryMemory, Record, MULTIPLIER_1, MULTIPLIER_2};
+    use ragansils::{Creation, Form, Lookup, OrdinaryMemory, Record, MULTIPLIER_1, MULTIPLIER_2};
     use ragansils_model::Slot;
 
     const EQUAL: u64 = 4294967297;
@@ -49,9 +49,15 @@ mod tests {
 
     type OwnTable = ragansils::Table<Vec<u64>, OrdinaryMemory>;
 
-    /// After some parts of a growth or a shrink.
-    fn check_table(multipliers: [u64; 2], resize: impl FnOnce(&mut OwnTable)) -> Vec<Option<Level>> {
-        let creation = Creation { capacity: 7, first_top: 6, multipliers };
+    /// After some parts of a growth or a shrink; the same levels are met in both forms.
+    fn check_table(multipliers: [u64; 2], resize: impl Fn(&mut OwnTable)) -> Vec<Option<Level>> {
+        let [of_form_1, of_form_2] = Form::ALL.map(|form| check_form(form, multipliers, &resize));
+        assert_eq!(of_form_1, of_form_2);
+        of_form_2
+    }
+
+    fn check_form(form: Form, multipliers: [u64; 2], resize: impl Fn(&mut OwnTable)) -> Vec<Option<Level>> {
+        let creation = Creation { form, multipliers, ..Creation::new(7, 6) };
         let words = vec![0; creation.words().unwrap()];
         let mut table = ragansils::Table::create(words, &creation, OrdinaryMemory).unwrap();
         let record = Record { function: 1, place: 2 };
@@ -82,7 +88,7 @@ mod tests {
             let levels = check_table([MULTIPLIER_1; 2], |table| assert_eq!(resize(table, 10), Ok(false)));
             assert!(levels.contains(&Some(Level::Interim)));
         }
-        let creation = Creation { capacity: 2, first_top: 1, multipliers: [EQUAL; 2] };
+        let creation = Creation { multipliers: [EQUAL; 2], ..Creation::new(2, 1) };
         let words = vec![0; creation.words().unwrap()];
         let table = ragansils::Table::create(words, &creation, OrdinaryMemory).unwrap();
         let places = places(&Table::read(table.words()).unwrap(), 3.into());

@@ -149,10 +149,10 @@ fn where_an_update_was_cut_the_places_are_drawn_and_none_is_marked() {
 
 #[test]
 fn of_what_is_no_table_nothing_is_drawn() {
-    let told = told_of_key("key-no-table", &with(table([1]), &[(0, 2)]), 1);
+    let told = told_of_key("key-no-table", &with(table([1]), &[(0, 3)]), 1);
     assert!(!told.0.contains("bucket"), "{}", told.0);
     let refused = format!("refused: {}", Refusal::BadHeader);
-    has(told, NO_TABLE, &[&refused, "this is no table:", "- form 2 is not known; known is 1"]);
+    has(told, NO_TABLE, &[&refused, "this is no table:", "- form 3 is not known; known are 1 and 2"]);
 }
 
 /// Whatever the words, the slot that is marked is the one that the library tells, and nothing is marked where it tells none.

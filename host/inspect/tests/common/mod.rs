@@ -5,10 +5,12 @@ use std::fs;
 use std::path::{Path, PathBuf};
 use std::process::Output;
 
-use ragansils::{bytes_of, calls, Creation, Record};
+use ragansils::{bytes_of, calls, Creation, Form, Record};
 use ragansils_compare::runner::built;
 
-pub const MARKED: Creation = Creation { capacity: 2, first_top: 1, multipliers: [4294967297, 12884901889] };
+/// In form 1; the tests of form 2 say so.
+pub const MARKED: Creation =
+    Creation { form: Form::One, multipliers: [4294967297, 12884901889], ..Creation::new(2, 1) };
 
 /// A file of its own for each test.
 pub fn path(name: &str) -> PathBuf {
@@ -48,7 +50,11 @@ pub fn empty(creation: &Creation) -> Vec<u64> {
 
 /// A table with these keys, each with a record of its own.
 pub fn table(keys: impl IntoIterator<Item = u64>) -> Vec<u64> {
-    let mut words = empty(&MARKED);
+    table_of(Form::One, keys)
+}
+
+pub fn table_of(form: Form, keys: impl IntoIterator<Item = u64>) -> Vec<u64> {
+    let mut words = empty(&Creation { form, ..MARKED });
     for key in keys {
         let list =
             calls::insert(&words, key.into(), Record { function: 100 + key, place: 200 + key }).unwrap();
