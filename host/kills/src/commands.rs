@@ -2,6 +2,7 @@
 
 use std::path::{Path, PathBuf};
 
+use ragansils::Form;
 use ragansils_compare::random::Random;
 use ragansils_compare::say;
 
@@ -16,8 +17,8 @@ use crate::wrong::Wrong;
 const USAGE: &str = "\
 usage: kills run FOLDER SEED TABLES MOMENTS
        kills self-test FOLDER SEED
-run kills a collector at every store of every kind of change, on so many tables of each kind, and at so many random moments; self-test
-checks that collectors with a mistake are caught. Files are kept in FOLDER.";
+run kills a collector at every store of every kind of change, on so many tables of each kind, and at so many random moments, all that in
+each form of a table; self-test checks that collectors with a mistake are caught. Files are kept in FOLDER.";
 
 type Answer = Result<(), String>;
 
@@ -49,14 +50,19 @@ fn kill(path: &Path, seed: u64, tables: usize, moments: u64) -> Answer {
     say!("kills: seed {seed}");
     let mut random = Random::new(seed);
     let mut kills = Kills::default();
-    for prepared in &prepare(&mut random, tables)? {
-        Exact { path, random: &mut random, kills: &mut kills, wrong: None }.every_store(prepared)?;
+    for form in Form::ALL {
+        for prepared in &prepare(&mut random, form, tables)? {
+            Exact { path, random: &mut random, kills: &mut kills, wrong: None }.every_store(prepared)?;
+        }
     }
     kills.print();
-    let mut at_moments = Moments::default();
-    at_moments.run(&mut random, path, moments)?;
-    at_moments.print();
-    let total = kills.total() + at_moments.kills;
+    let mut total = kills.total();
+    for form in Form::ALL {
+        let mut at_moments = Moments::of(form);
+        at_moments.run(&mut random, path, moments)?;
+        at_moments.print();
+        total += at_moments.kills;
+    }
     if total == 0 {
         return Err("nothing was killed".to_string());
     }

@@ -34,7 +34,7 @@ impl Kills {
         say!("kills after so many stores of a change (the numbers of kills):");
         for (kind, by_made) in &self.counts {
             let cells: Vec<String> = by_made.iter().map(|(made, kills)| format!("{made}: {kills}")).collect();
-            say!("  {kind:<24} {}", cells.join("  "));
+            say!("  {kind:<32} {}", cells.join("  "));
         }
     }
 }

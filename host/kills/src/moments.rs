@@ -3,7 +3,7 @@
 use std::path::Path;
 use std::time::Duration;
 
-use ragansils::{Creation, MappedFile, Phase};
+use ragansils::{Creation, Form, MappedFile, Phase};
 use ragansils_compare::plain_map::PlainMap;
 use ragansils_compare::random::Random;
 use ragansils_compare::say;
@@ -22,8 +22,9 @@ const KILLS_PER_FILE: u64 = 50;
 const MOST_LINES: u64 = 32;
 const LONGEST_REST: u64 = 2500;
 
-#[derive(Default)]
+/// Of tables of one form.
 pub struct Moments {
+    form: Form,
     pub kills: u64,
     pub changes: u64,
     pub in_a_change: u64,
@@ -34,11 +35,15 @@ pub struct Moments {
 }
 
 impl Moments {
+    pub fn of(form: Form) -> Moments {
+        Moments { form, kills: 0, changes: 0, in_a_change: 0, to_mend: 0, growing: 0, shrinking: 0 }
+    }
+
     pub fn print(&self) {
+        let Moments { form, kills, changes, in_a_change, to_mend, growing, shrinking } = self;
         say!(
-            "kills at random moments: {}, of which {} in the middle of a change and {} with something to mend; {} of tables that grew and \
-             {} of tables that shrank; changes acknowledged: {}",
-            self.kills, self.in_a_change, self.to_mend, self.growing, self.shrinking, self.changes
+            "kills at random moments, {form}: {kills}, of which {in_a_change} in the middle of a change and {to_mend} with something to \
+             mend; {growing} of tables that grew and {shrinking} of tables that shrank; changes acknowledged: {changes}"
         );
     }
 
@@ -53,8 +58,8 @@ impl Moments {
 
     fn one_file(&mut self, random: &mut Random, path: &Path, kills: u64) -> Result<(), String> {
         let setting = small_setting(random);
-        let creation =
-            Creation { capacity: setting.c, first_top: setting.k, multipliers: [setting.mul1, setting.mul2] };
+        let multipliers = [setting.mul1, setting.mul2];
+        let creation = Creation { form: self.form, multipliers, ..Creation::new(setting.c, setting.k) };
         // There is none before the first file.
         let _ = std::fs::remove_file(path);
         drop(MappedFile::create(path, &creation).map_err(|error| error.to_string())?);
@@ -64,7 +69,11 @@ impl Moments {
             map = self.one_life(random, path, keys_seed, map)?;
         }
         Collector::start(path, None, Task::Open)?.finish()?;
-        which_map(&read_words(path)?, &[map]).map(drop)
+        let words = read_words(path)?;
+        if words[word::FORM] != self.form.number() {
+            return Err(format!("a table of {} has become one of form {}", self.form, words[word::FORM]));
+        }
+        which_map(&words, &[map]).map(drop)
     }
 
     /// A collector lives for a while and is killed; answers the map that its file has then.

@@ -2,7 +2,7 @@
 
 use std::fmt::{self, Display};
 
-use ragansils::Phase;
+use ragansils::{Form, Phase};
 use ragansils_compare::case::event_name;
 use ragansils_compare::history::{next_event, Keys, Mood, Setting};
 use ragansils_compare::plain_map::{self, PlainMap};
@@ -12,9 +12,10 @@ use ragansils_model::{create, table_words, word, Event};
 use crate::judge::{made, stores_of};
 use crate::records::sealed;
 
-/// A kind of change: the phase of the table before it, the call, and its number of stores.
+/// A kind of change: the form of the table, its phase before the change, the call, and its number of stores.
 #[derive(Clone, Copy, Debug, PartialEq, Eq, PartialOrd, Ord)]
 pub struct Kind {
+    pub form: Form,
     pub phase: Phase,
     pub call: &'static str,
     pub stores: u64,
@@ -22,15 +23,17 @@ pub struct Kind {
 
 impl Kind {
     pub fn of(words: &[u64], event: Event, stores: u64) -> Result<Kind, String> {
+        let form = words.get(word::FORM).and_then(|&form| Form::of_number(form));
+        let form = form.ok_or("the table has no form")?;
         let phase = words.get(word::STATE).and_then(|&state| Phase::of_state(state));
         let phase = phase.ok_or("the state has no phase")?;
-        Ok(Kind { phase, call: event_name(event), stores })
+        Ok(Kind { form, phase, call: event_name(event), stores })
     }
 }
 
 impl Display for Kind {
     fn fmt(&self, f: &mut fmt::Formatter) -> fmt::Result {
-        f.pad(&format!("{:<9}  {} of {}", self.phase, self.call, self.stores))
+        f.pad(&format!("{}  {:<9}  {} of {}", self.form, self.phase, self.call, self.stores))
     }
 }
 
@@ -45,8 +48,8 @@ fn calls_in(phase: Phase) -> impl Iterator<Item = (&'static str, u64)> {
     anywhere.into_iter().chain(own.iter().copied())
 }
 
-fn kinds() -> Vec<Kind> {
-    let in_phase = |phase| calls_in(phase).map(move |(call, stores)| Kind { phase, call, stores });
+fn kinds(form: Form) -> Vec<Kind> {
+    let in_phase = |phase| calls_in(phase).map(move |(call, stores)| Kind { form, phase, call, stores });
     Phase::ALL.into_iter().flat_map(in_phase).collect()
 }
 
@@ -69,9 +72,9 @@ pub fn small_setting(random: &mut Random) -> Setting {
 /// Histories are given up after so many events in all; far fewer will do.
 const MOST_EVENTS: u64 = 50_000_000;
 
-/// So many tables of each kind.
-pub fn prepare(random: &mut Random, of_each: usize) -> Result<Vec<Prepared>, String> {
-    let kinds = kinds();
+/// So many tables of each kind, in one form.
+pub fn prepare(random: &mut Random, form: Form, of_each: usize) -> Result<Vec<Prepared>, String> {
+    let kinds = kinds(form);
     let mut found: Vec<Prepared> = vec![];
     let mut events = 0;
     let wanted = |found: &[Prepared], kind: Kind| {
@@ -80,7 +83,7 @@ pub fn prepare(random: &mut Random, of_each: usize) -> Result<Vec<Prepared>, Str
     while found.len() < of_each * kinds.len() {
         // One of a kind from a history, so that tables differ.
         let mut kinds_of_history = vec![];
-        let mut history = History::start(random);
+        let mut history = History::start(random, form);
         for _ in 0..2000 {
             let next = history.next(random)?;
             events += 1;
@@ -107,11 +110,11 @@ struct History {
 }
 
 impl History {
-    fn start(random: &mut Random) -> History {
+    fn start(random: &mut Random, form: Form) -> History {
         let setting = small_setting(random);
-        let Setting { c, k, mul1, mul2 } = setting;
+        let Setting { c, k, mul1, mul2, .. } = setting;
         let mut words = vec![0; table_words(c).unwrap_or(0)];
-        create(&mut words, c, k, mul1, mul2);
+        create(&mut words, form.number(), c, k, mul1, mul2);
         let keys = Keys::random(random, setting);
         History { words, map: PlainMap::new(), keys, mood: Mood::random(random), last: 0 }
     }
