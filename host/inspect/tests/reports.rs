@@ -204,20 +204,14 @@ fn many_faults_of_a_kind_are_counted() {
 #[test]
 fn a_bad_header_is_named() {
     let good = table([1]);
-    let rows: [(&str, Vec<u64>, &str); 14] = [
+    let rows: [(&str, Vec<u64>, &str); 12] = [
         ("length", good[..47].to_vec(), "the length 376 bytes is no table's length; a table of c = 1 has 384"),
         ("tiny", good[..3].to_vec(), "the file is too short for a header of 9 words"),
         ("form", with(good.clone(), &[(0, 3)]), "form 3 is not known; known are 1 and 2"),
-        ("no-form", with(good.clone(), &[(0, 0)]), "form 0 is not known; known are 1 and 2"),
         (
             "order",
             with(good.clone(), &[(0, 1 << 56)]),
             "form 72057594037927936 is 1 in the other byte order: the table was made on another kind of machine",
-        ),
-        (
-            "order-2",
-            with(good.clone(), &[(0, 2 << 56)]),
-            "form 144115188075855872 is 2 in the other byte order: the table was made on another kind of machine",
         ),
         ("capacity", with(good.clone(), &[(1, 21)]), "the capacity exponent 21 is not 1 to 20"),
         ("other", with(good.clone(), &[(1, 3)]), "a table of c = 3 has 1632 bytes, and the file has 800"),

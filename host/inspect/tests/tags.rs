@@ -36,6 +36,15 @@ fn the_form_is_told() {
 }
 
 #[test]
+fn a_form_that_there_is_not_is_named() {
+    let other_order = "form 144115188075855872 is 2 in the other byte order: the table was made on another kind of machine";
+    for (form, fault) in [(0, "form 0 is not known; known are 1 and 2"), (2 << 56, other_order)] {
+        let told = told_of("no-form", &with(tagged(&KEYS), &[(0, form)]));
+        has(told, REFUSED, &["this is no table:", &format!("- {fault}")]);
+    }
+}
+
+#[test]
 fn a_key_is_shown_with_its_tag_and_those_of_its_neighbours() {
     has(
         told_of_key("tag-found", &tagged(&KEYS), KEYS[1]),
