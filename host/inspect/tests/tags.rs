@@ -37,7 +37,8 @@ fn the_form_is_told() {
 
 #[test]
 fn a_form_that_there_is_not_is_named() {
-    let other_order = "form 144115188075855872 is 2 in the other byte order: the table was made on another kind of machine";
+    let other_order =
+        "form 144115188075855872 is 2 in the other byte order: the table was made on another kind of machine";
     for (form, fault) in [(0, "form 0 is not known; known are 1 and 2"), (2 << 56, other_order)] {
         let told = told_of("no-form", &with(tagged(&KEYS), &[(0, form)]));
         has(told, REFUSED, &["this is no table:", &format!("- {fault}")]);
