@@ -23,7 +23,8 @@ pub enum Check {
 #[derive(Debug)]
 pub struct Finding {
     pub check: Check,
-    pub case: Case,
+    /// In a box, since errors are handed on through many calls.
+    pub case: Box<Case>,
     pub what: String,
 }
 
@@ -43,7 +44,7 @@ impl<'t> Both<'t> {
     }
 
     pub fn run(&mut self, case: &Case) -> Result<Outcome, Finding> {
-        let finding = |what| Finding { check: Check::Call, case: case.clone(), what };
+        let finding = |what| Finding { check: Check::Call, case: Box::new(case.clone()), what };
         let model = run_model(case);
         if let Some(file) = self.trace {
             let written = std::fs::write(file, write_case(Check::Call, case));
@@ -59,6 +60,7 @@ impl<'t> Both<'t> {
                 told_slots::check(&case.table, key, library.number, &library.answer).map_err(finding)?;
             level.into_iter().for_each(|level| self.tally.levels.count(level));
         }
+        self.tally.tags.look_at(case, &library).map_err(finding)?;
         Ok(model)
     }
 
@@ -68,7 +70,7 @@ impl<'t> Both<'t> {
         let outcome = self.run(&case)?;
         if outcome.number != 0 {
             let what = format!("making listed stores is refused with {}", outcome.number);
-            return Err(Finding { check: Check::Call, case, what });
+            return Err(Finding { check: Check::Call, case: Box::new(case), what });
         }
         Ok(outcome.table)
     }

@@ -8,7 +8,7 @@ use crate::chain::Chain;
 
 #[derive(Clone, Copy, Debug, PartialEq, Eq)]
 pub enum Call {
-    Create { c: u64, k: u64, mul1: u64, mul2: u64 },
+    Create { form: u64, c: u64, k: u64, mul1: u64, mul2: u64 },
     Query { key: u64 },
     Chain(Chain),
     Change(Event),
@@ -97,7 +97,9 @@ impl Outcome {
 pub fn run_model(case: &Case) -> Outcome {
     let (mut table, mut list) = (case.table.clone(), case.list.clone());
     let (number, answer) = match case.call {
-        Call::Create { c, k, mul1, mul2 } => (model::create(&mut table, c, k, mul1, mul2), vec![]),
+        Call::Create { form, c, k, mul1, mul2 } => {
+            (model::create(&mut table, form, c, k, mul1, mul2), vec![])
+        }
         Call::Make { n } => (model::make(&mut table, &list, n), vec![]),
         Call::Query { key } => {
             let (number, answer) = model::query(&table, key);

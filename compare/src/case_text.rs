@@ -30,8 +30,8 @@ pub fn write_case(check: Check, case: &Case) -> String {
 /// The names are those of scripts, where scripts have one.
 fn arguments(call: Call) -> Vec<(&'static str, u64)> {
     match call {
-        Call::Create { c, k, mul1, mul2 } => {
-            vec![("cap", c), ("top", k), ("mul1", mul1), ("mul2", mul2)]
+        Call::Create { form, c, k, mul1, mul2 } => {
+            vec![("form", form), ("cap", c), ("top", k), ("mul1", mul1), ("mul2", mul2)]
         }
         Call::Make { n } => vec![("n", n)],
         Call::Query { key } => vec![("key", key)],
@@ -78,8 +78,8 @@ pub fn read_case(text: &str) -> Result<(Check, Case), String> {
 pub fn read_call(op: &str, number: impl Fn(&str) -> Result<u64, String>) -> Result<Call, String> {
     let event = match op {
         "create" => {
-            let (c, k) = (number("cap")?, number("top")?);
-            return Ok(Call::Create { c, k, mul1: number("mul1")?, mul2: number("mul2")? });
+            let (form, c, k) = (number("form")?, number("cap")?, number("top")?);
+            return Ok(Call::Create { form, c, k, mul1: number("mul1")?, mul2: number("mul2")? });
         }
         "make" => return Ok(Call::Make { n: number("n")? }),
         "query" => return Ok(Call::Query { key: number("key")? }),
@@ -107,7 +107,7 @@ mod tests {
     fn what_is_written_can_be_read() {
         let insert = Event::Insert { key: u64::MAX, function: 0, place: 7 };
         let calls = [
-            Call::Create { c: 1, k: 2, mul1: 3, mul2: 4 },
+            Call::Create { form: 9, c: 1, k: 2, mul1: 3, mul2: 4 },
             Call::Make { n: 5 },
             Call::Query { key: 6 },
             Call::Chain(Chain { address: u64::MAX, depth: 7 }),

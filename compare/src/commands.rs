@@ -11,6 +11,7 @@ use crate::case::Case;
 use crate::case_text::{read_case, write_case};
 use crate::corners;
 use crate::demands::{demand_calls, demand_ledgers, demand_scripts, demand_some};
+use crate::layout::FORMS;
 use crate::ledgers;
 use crate::long_ledger::LongLedger;
 use crate::outputs::{self, Disagreement};
@@ -24,21 +25,22 @@ use crate::tally::Tally;
 use crate::words;
 
 const USAGE: &str = "\
-compare words --seed S --calls N [--trace FILE]
+compare words --seed S --calls N [--form F] [--trace FILE]
 compare scripts --seed S --scripts N --program PATH
 compare ledgers --seed S --ledgers N --program PATH
-compare long MINUTES [--seed S] [--program PATH] [--ledger-program PATH]
+compare long MINUTES [--seed S] [--form F] [--program PATH] [--ledger-program PATH]
 compare long-ledger --samples N --seed S --program PATH --model PATH [--folder DIR] [--most RATIO]
 compare case FILE
 compare script FILE --program PATH
 compare ledger FILE --program PATH
 compare corners <INPUT
-(FILE after --trace keeps the case the library was given last, for when it crashes;
+(F is 1 or 2: tables of that form only, and without it half of the calls for each form;
+ FILE after --trace keeps the case the library was given last, for when it crashes;
  a long run without --program makes no scripts, and without --ledger-program no ledgers;
  RATIO is the most that the ledger program's time may be of the model's)";
 
-/// From this size on, a run fails where it has not seen what it must have seen.
-const FULL_SIZE_CALLS: u64 = 300_000;
+/// From this size on, a run fails where it has not seen what it must have seen, in each form.
+const FULL_SIZE_CALLS: u64 = 150_000;
 const FULL_SIZE_TEXTS: u64 = 1_000;
 
 /// One round of a long run.
@@ -83,7 +85,7 @@ pub fn run(arguments: &[String]) -> Answer {
     match words[..] {
         ["words", ..] => {
             let trace = options.value("--trace").map(Path::new);
-            words_run(options.number("--seed")?, options.number("--calls")?, trace)
+            words_run(options.number("--seed")?, options.number("--calls")?, &options.forms()?, trace)
         }
         ["scripts", ..] => {
             texts_run(&SCRIPTS, options.number("--seed")?, options.number("--scripts")?, options.program()?)
@@ -97,7 +99,8 @@ pub fn run(arguments: &[String]) -> Answer {
                 Some(_) => options.number("--seed")?,
                 None => clock_seed(),
             };
-            long_run(minutes, seed, options.path("--program").ok(), options.path("--ledger-program").ok())
+            let programs = ["--program", "--ledger-program"].map(|name| options.path(name).ok());
+            long_run(minutes, seed, &options.forms()?, programs)
         }
         ["long-ledger", ..] => long_ledger_run(&options),
         ["case", file] => one_case(file),
@@ -134,6 +137,15 @@ impl Options<'_> {
         self.needed(name).map(Path::new)
     }
 
+    /// The one that is named, or both.
+    fn forms(&self) -> Result<Vec<u64>, String> {
+        if self.value("--form").is_none() {
+            return Ok(FORMS.to_vec());
+        }
+        let form = self.number("--form")?;
+        FORMS.contains(&form).then(|| vec![form]).ok_or(format!("there is no form {form}\n{USAGE}"))
+    }
+
     fn program(&self) -> Result<&Path, String> {
         self.path("--program")
     }
@@ -143,15 +155,19 @@ fn clock_seed() -> u64 {
     SystemTime::now().duration_since(UNIX_EPOCH).map_or(0, |time| time.as_nanos() as u64)
 }
 
-fn words_run(seed: u64, calls: u64, trace: Option<&Path>) -> Answer {
-    say!("words: seed {seed}, at least {calls} calls");
-    let mut tally = Tally::default();
-    let result = words::run(seed, calls, &mut Both::traced(&mut tally, trace));
-    tally.print();
-    result.map_err(|finding| report_finding(seed, finding))?;
-    demand_some(tally.total_calls, "calls")?;
-    if calls >= FULL_SIZE_CALLS {
-        demand_calls(&tally)?;
+/// The calls are shared out evenly to the forms. What one form has met shows nothing of the other, so each has its own tally.
+fn words_run(seed: u64, calls: u64, forms: &[u64], trace: Option<&Path>) -> Answer {
+    let calls = (calls + forms.len() as u64 - 1) / forms.len() as u64;
+    for &form in forms {
+        say!("words: form {form}, seed {seed}, at least {calls} calls");
+        let mut tally = Tally::default();
+        let result = words::run(seed, calls, form, &mut Both::traced(&mut tally, trace));
+        tally.print();
+        result.map_err(|finding| report_finding(seed, finding))?;
+        demand_some(tally.calls_of_form(form), &format!("calls on tables of form {form}"))?;
+        if calls >= FULL_SIZE_CALLS {
+            demand_calls(&tally, form)?;
+        }
     }
     say_alike();
     Ok(())
@@ -172,36 +188,53 @@ fn texts_run(texts: &Texts, seed: u64, count: u64, program: &Path) -> Answer {
 }
 
 /// Round after round, each from its own seed, until the time is over.
-fn long_run(minutes: u32, seed: u64, script_program: Option<&Path>, ledger_program: Option<&Path>) -> Answer {
+fn long_run(minutes: u32, seed: u64, forms: &[u64], programs: [Option<&Path>; 2]) -> Answer {
     say!("long: seed {seed}, {minutes} minutes");
     let end = Instant::now() + Duration::from_secs(60 * u64::from(minutes));
     let mut seeds = Random::new(seed);
-    let mut tally = Tally::default();
+    let mut by_form: Vec<(u64, Tally)> = forms.iter().map(|&form| (form, Tally::default())).collect();
+    let mut of_texts = Tally::default();
     let mut rounds = 0;
     while Instant::now() < end {
         rounds += 1;
         let words_seed = seeds.word();
-        say!("round {rounds}: words seed {words_seed}");
-        words::run(words_seed, ROUND_CALLS, &mut Both::new(&mut tally))
-            .map_err(|finding| report_finding(words_seed, finding))?;
-        let programs = [(&SCRIPTS, ROUND_SCRIPTS, script_program), (&LEDGERS, ROUND_LEDGERS, ledger_program)];
-        for (texts, count, program) in programs {
-            // drawn where there is no program too, so that the other rounds stay the same
-            let seed = seeds.word();
-            if let Some(program) = program {
-                say!("round {rounds}: {} seed {seed}", texts.names);
-                (texts.run)(seed, count, program, &mut tally)
-                    .map_err(|disagreement| report_disagreement(texts, seed, program, disagreement))?;
-            }
+        for (form, tally) in &mut by_form {
+            say!("round {rounds}: words of form {form}, seed {words_seed}");
+            words::run(words_seed, ROUND_CALLS / forms.len() as u64, *form, &mut Both::new(tally))
+                .map_err(|finding| report_finding(words_seed, finding))?;
         }
+        round_of_texts(rounds, &mut seeds, programs, &mut of_texts)?;
     }
     say!("rounds: {rounds}");
-    tally.print();
-    demand_calls(&tally)?;
-    if ledger_program.is_some() {
-        demand_ledgers(&tally)?;
+    for (form, tally) in &by_form {
+        say!("form {form}:");
+        tally.print();
+        demand_calls(tally, *form)?;
+    }
+    of_texts.print();
+    if programs[1].is_some() {
+        demand_ledgers(&of_texts)?;
     }
     say_alike();
+    Ok(())
+}
+
+fn round_of_texts(
+    round: u64,
+    seeds: &mut Random,
+    [script_program, ledger_program]: [Option<&Path>; 2],
+    tally: &mut Tally,
+) -> Answer {
+    let programs = [(&SCRIPTS, ROUND_SCRIPTS, script_program), (&LEDGERS, ROUND_LEDGERS, ledger_program)];
+    for (texts, count, program) in programs {
+        // drawn where there is no program too, so that the other rounds stay the same
+        let seed = seeds.word();
+        if let Some(program) = program {
+            say!("round {round}: {} seed {seed}", texts.names);
+            (texts.run)(seed, count, program, tally)
+                .map_err(|disagreement| report_disagreement(texts, seed, program, disagreement))?;
+        }
+    }
     Ok(())
 }
 
@@ -263,7 +296,7 @@ fn report_finding(seed: u64, finding: Finding) -> String {
     say!("seed {seed}: {}", finding.what);
     // Made smaller by the check that can be run again; a failure only the history sees stays as it is.
     let fails = |case: &Case| check_case(finding.check, case).is_err();
-    let smallest = smallest_case(finding.case, fails);
+    let smallest = smallest_case(*finding.case, fails);
     let what = check_case(finding.check, &smallest).map_or_else(|smaller| smaller.what, |()| finding.what);
     let text = write_case(finding.check, &smallest);
     say!("the smallest case found: {what}\n{text}");

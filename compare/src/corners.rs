@@ -7,6 +7,7 @@ use std::str::FromStr;
 use ragansils_model::{Event, Slot, Table};
 
 use crate::case::{run_model, Call, Case, Outcome};
+use crate::script_text::SCRIPT_FORM;
 
 /// What lent words hold before a call, so that a word which the call has written is seen.
 const UNWRITTEN: u64 = 77;
@@ -64,7 +65,11 @@ impl Lent {
         Some(match (word, numbers) {
             ("view", &[from, to]) => words_text(in_range(&self.table, from, to)),
             ("pairs", []) => words_text(&self.list),
-            ("create", &[c, k, mul1, mul2]) => self.made(Call::Create { c, k, mul1, mul2 }),
+            // Without a form it is form 1, as in scripts.
+            ("create", &[c, k, mul1, mul2]) => {
+                self.made(Call::Create { form: SCRIPT_FORM, c, k, mul1, mul2 })
+            }
+            ("create", &[form, c, k, mul1, mul2]) => self.made(Call::Create { form, c, k, mul1, mul2 }),
             ("make", &[n]) => self.made(Call::Make { n }),
             ("query", &[key]) => self.queried(key),
             ("all", &[key, function, place]) => self.every(key, function, place),
@@ -206,6 +211,14 @@ mod tests {
         let lines = "Table 48\nList 20\ncreate 1 1 4294967297 4294967297\ninsert 3 7 8\nmake 4\nquery 3\n";
         let told = answers(lines).unwrap();
         assert_eq!(told.lines().last(), Some("query 3: 0 7 8 1 36 0"));
+    }
+
+    #[test]
+    fn a_creation_may_name_its_form() {
+        let told = |create: &str| answers(&format!("Table 48\nList 20\n{create}\nview 0 1\n")).unwrap();
+        assert!(told("create 1 1 1 1").ends_with("view 0 1: 1\n"));
+        assert!(told("create 2 1 1 1 1").ends_with("view 0 1: 2\n"));
+        assert!(told("create 3 1 1 1 1").ends_with("create 3 1 1 1 1: 13\nview 0 1: 77\n"));
     }
 
     #[test]

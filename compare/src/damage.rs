@@ -1,5 +1,6 @@
 //! Damage to tables: every way we know for a table to be other than sound.
-//! Each kind takes any words at all; where it does not fit it does nothing.
+//! Each kind takes any words at all; where it does not fit it does nothing. The tags of what is put in are right; `tag_damage` has what
+//! damages them.
 
 use ragansils_model::{
     make, word, Event, Level, Phase, Slot, State, Table, LEAST_LIST_WORDS, SLOTS_PER_BUCKET,
@@ -7,7 +8,9 @@ use ragansils_model::{
 
 use crate::chain::{key_of, Chain};
 use crate::history::any_item;
+use crate::layout::{token_word, TAGGED};
 use crate::random::Random;
+use crate::tag_damage;
 
 type Kind = fn(&mut Random, &mut [u64]);
 
@@ -38,10 +41,29 @@ const KINDS: [Kind; 24] = [
     few_depths_of_one_address,
 ];
 
+/// What only a table of form 2 has.
+const KINDS_OF_TAGS: [Kind; 10] = [
+    tag_damage::wrong_tag,
+    tag_damage::wrong_tags_of_bucket,
+    tag_damage::wrong_tags_everywhere,
+    tag_damage::tags_of_free_slots,
+    tag_damage::bits_4_to_7,
+    tag_damage::bits_40_and_up,
+    tag_damage::two_tags_of_one_key,
+    tag_damage::two_tags_of_one_key,
+    tag_damage::whole_word,
+    tag_damage::right_word_in_unused_level,
+];
+
+/// One kind of damage in so many, to a table of form 2, is one of tags.
+const TAGS_ONE_IN: u64 = 3;
+
 pub fn damage(random: &mut Random, words: &mut Vec<u64>) {
     let times = random.pick(&[1, 1, 1, 1, 1, 1, 2, 2, 2, 3]);
     for _ in 0..times {
-        random.pick(&KINDS)(random, words);
+        let has_tags = words.first() == Some(&TAGGED);
+        let kinds = if has_tags && random.one_in(TAGS_ONE_IN) { &KINDS_OF_TAGS[..] } else { &KINDS };
+        random.pick(kinds)(random, words);
     }
     if random.one_in(20) {
         bad_length(random, words);
@@ -151,6 +173,16 @@ fn flagged_update(random: &mut Random, words: &mut [u64]) {
     };
 }
 
+/// A table that is sound but for an update that was cut.
+pub fn flagged_item(random: &mut Random, words: &mut [u64]) {
+    if let Some(item) = any_item(random, words) {
+        words[word::FLAG] = 1;
+        words[word::UPDATE_TARGET] = item.key_word() as u64;
+        words[word::UPDATE_FUNCTION] = random.any_word();
+        words[word::UPDATE_PLACE] = random.any_word();
+    }
+}
+
 fn odd_flag(random: &mut Random, words: &mut [u64]) {
     if words.len() > word::FLAG {
         flagged_update(random, words);
@@ -251,6 +283,7 @@ fn crowd(random: &mut Random, words: &mut [u64]) {
         }
         words[token_word(bucket)] = if random.one_in(room) { random.below(16) } else { 15 };
     }
+    mend_tags_often(random, words);
 }
 
 /// All keys are of one address and of few depths, so that many a chain is whole, with keys that stand twice or out of place.
@@ -263,6 +296,14 @@ pub fn few_depths_of_one_address(random: &mut Random, words: &mut [u64]) {
         for slot in Slot::all_of(bucket) {
             words[slot.key_word()] = key_of(address, lowest + random.below(depths));
         }
+    }
+    mend_tags_often(random, words);
+}
+
+/// Without their tags the keys are there, and no call finds them; that is seen too.
+fn mend_tags_often(random: &mut Random, words: &mut [u64]) {
+    if !random.one_in(4) {
+        tag_damage::mend_tags(words);
     }
 }
 
@@ -287,6 +328,7 @@ fn room_for_one_item(random: &mut Random, words: &mut [u64]) {
     for bucket in places {
         words[token_word(bucket)] = random.below(15);
     }
+    mend_tags_often(random, words);
 }
 
 /// A change whose recovery was forgotten.
@@ -301,19 +343,15 @@ fn half_made_change(random: &mut Random, words: &mut [u64]) {
     make(words, &list, random.below(stores + 1));
 }
 
-fn token_word(bucket: usize) -> usize {
-    Slot { bucket, number: 0 }.token_word()
-}
-
 fn put(words: &mut [u64], slot: Slot, [key, function, place]: [u64; 3]) {
     words[slot.key_word()] = key;
     words[slot.function_word()] = function;
     words[slot.place_word()] = place;
-    words[slot.token_word()] |= slot.token_bit();
+    tag_damage::show(words, slot);
 }
 
 /// Copies an item to another slot where its key may stand, a free one by preference.
-fn copy_item(random: &mut Random, words: &mut [u64], item: Slot) -> Option<Slot> {
+pub fn copy_item(random: &mut Random, words: &mut [u64], item: Slot) -> Option<Slot> {
     let table = Table::read(words).ok()?;
     let record = table.record(item);
     let level = random.pick(&table.levels_in_use());

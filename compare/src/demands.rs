@@ -4,6 +4,7 @@ use ragansils::Phase;
 
 use crate::chain::DEPTH_LIMIT;
 use crate::chain_tally::{KINDS_OF_SOUND_TABLES, MORE_KINDS_OF_OTHER_WORDS};
+use crate::layout::TAGGED;
 use crate::phases::{possible_in_other_words, possible_in_scripts, possible_in_sound_tables, PhaseTally};
 use crate::starts::{rare_numbers, while_resizing};
 use crate::stuck_items::Way;
@@ -30,18 +31,25 @@ const LEAST_OF_EACH_LEDGER: u64 = 3;
 /// So often at least a query finds its key in each level.
 const LEAST_OF_EACH_LEVEL: u64 = 30;
 
+/// So often at least each call is met with each kind of damaged token words, and each effect of theirs.
+const LEAST_OF_EACH_WITH_TAGS: u64 = 3;
+
 /// So often at least each phase meets what it can.
 const LEAST_OF_EACH_IN_A_PHASE: u64 = 3;
 
-/// Of a run over words.
-pub fn demand_calls(tally: &Tally) -> Answer {
+/// Of a run over words with tables of one form.
+pub fn demand_calls(tally: &Tally, form: u64) -> Answer {
     demand_refusals(tally, REFUSALS_OF_CALLS)?;
     demand_levels(tally)?;
     demand_phases("sound tables", &tally.phases_of_sound_tables, &possible_in_sound_tables())?;
     demand_phases("other words", &tally.phases_of_other_words, &possible_in_other_words())?;
     demand_chains(tally)?;
     demand_steps(tally)?;
-    demand_starts(tally)
+    demand_starts(tally)?;
+    if form == TAGGED {
+        demand_tags(tally)?;
+    }
+    Ok(())
 }
 
 pub fn demand_scripts(tally: &Tally) -> Answer {
@@ -107,6 +115,15 @@ fn demand_chains(tally: &Tally) -> Answer {
         return Err(format!("the longest whole chain of a sound table had only {} depths", sound.longest));
     }
     Ok(())
+}
+
+/// A run without damaged tags would show nothing of them.
+fn demand_tags(tally: &Tally) -> Answer {
+    let rare = tally.tags.rare(LEAST_OF_EACH_WITH_TAGS);
+    match rare[..] {
+        [] => Ok(()),
+        _ => Err(format!("seldom or never met with damaged token words: {rare:?}")),
+    }
 }
 
 /// Steps that take the first item show nothing of those that pass stuck ones.

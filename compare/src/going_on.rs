@@ -24,19 +24,20 @@ pub struct Sound<'a> {
     pub map: &'a PlainMap,
 }
 
-/// What leads to a table whose next step is of a kind.
-type HistoryTo = fn(&mut Random, Kind) -> (Setting, Vec<Event>);
+/// What leads to a table of a form whose next step is of a kind.
+type HistoryTo = fn(&mut Random, u64, Kind) -> (Setting, Vec<Event>);
 
 /// A pass over tables that are made for each kind of step, so many of each, and a step from each kind of start before and after it. The
 /// model makes the tables, so that this costs few calls.
 pub fn try_made_tables(
     random: &mut Random,
     both: &mut Both,
+    form: u64,
     history_to: HistoryTo,
     of_each_kind: u64,
 ) -> Result<(), Finding> {
     for kind in (0..of_each_kind).flat_map(|_| KINDS) {
-        let (setting, events) = history_to(random, kind);
+        let (setting, events) = history_to(random, form, kind);
         let table = made_by_model(setting, &events);
         let map = plain_map::of_table(&table).unwrap_or_default();
         let passed = try_pass(random, both, Sound { table: &table, map: &map })?;
@@ -48,9 +49,9 @@ pub fn try_made_tables(
 }
 
 /// The table after events; those that it refuses change nothing.
-pub fn made_by_model(Setting { c, k, mul1, mul2 }: Setting, events: &[Event]) -> Vec<u64> {
+pub fn made_by_model(Setting { form, c, k, mul1, mul2 }: Setting, events: &[Event]) -> Vec<u64> {
     let mut table = vec![0; table_words(c).unwrap_or(0)];
-    create(&mut table, c, k, mul1, mul2);
+    create(&mut table, form, c, k, mul1, mul2);
     for &event in events {
         change_by_model(&mut table, event);
     }
@@ -144,7 +145,7 @@ pub fn try_pass(random: &mut Random, both: &mut Both, sound: Sound) -> Result<Pa
         let goes_on = stepped.number == SUCCESS;
         let is_ascending = !goes_on || (from..buckets).contains(&stepped.bucket);
         if !is_ascending || goes_on != (number_by_steps == SUCCESS) || stepped.table != by_steps {
-            let case = case_of(random, Event::StepFrom { from }, &table);
+            let case = Box::new(case_of(random, Event::StepFrom { from }, &table));
             return Err(Finding {
                 check: Check::SoundTable,
                 case,
@@ -169,6 +170,7 @@ fn change_by_model(table: &mut [u64], event: Event) -> u64 {
 #[cfg(test)]
 mod tests {
     use super::*;
+    use crate::layout::FORMS;
     use crate::starts::{rare_numbers, while_resizing};
     use crate::tally::Tally;
     use crate::{stuck_shrinks, stuck_tables};
@@ -178,7 +180,9 @@ mod tests {
         let mut tally = Tally::default();
         let (mut random, mut both) = (Random::new(1), Both::new(&mut tally));
         for history_to in [stuck_tables::history_to, stuck_shrinks::history_to] {
-            try_made_tables(&mut random, &mut both, history_to, 20).unwrap();
+            for form in FORMS {
+                try_made_tables(&mut random, &mut both, form, history_to, 10).unwrap();
+            }
         }
         let starts = &tally.starts;
         assert_eq!((starts.rare(1), starts.passes), (vec![], 2 * 20 * KINDS.len() as u64));
@@ -194,7 +198,7 @@ mod tests {
         for (history_to, kind) in
             both_ways.into_iter().flat_map(|history_to| KINDS.map(|kind| (history_to, kind)))
         {
-            let (setting, events) = history_to(&mut random, kind);
+            let (setting, events) = history_to(&mut random, 2, kind);
             let table = made_by_model(setting, &events);
             let step = Event::StepFrom { from: 0 };
             try_starts_after_a_cut(&mut random, &mut both, &table, step, 1).unwrap();
@@ -206,7 +210,7 @@ mod tests {
 
     #[test]
     fn at_rest_there_is_nothing_to_try() {
-        let (setting, _) = stuck_tables::history_to(&mut Random::new(1), KINDS[0]);
+        let (setting, _) = stuck_tables::history_to(&mut Random::new(1), 1, KINDS[0]);
         let (table, map) = (made_by_model(setting, &[]), PlainMap::new());
         let mut tally = Tally::default();
         let (mut random, mut both) = (Random::new(1), Both::new(&mut tally));

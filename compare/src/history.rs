@@ -12,6 +12,7 @@ pub const MARKED_2: u64 = 12884901889;
 /// The arguments of a creation.
 #[derive(Clone, Copy, Debug)]
 pub struct Setting {
+    pub form: u64,
     pub c: u64,
     pub k: u64,
     pub mul1: u64,
@@ -19,16 +20,16 @@ pub struct Setting {
 }
 
 impl Setting {
-    pub fn random(random: &mut Random) -> Setting {
+    pub fn random(random: &mut Random, form: u64) -> Setting {
         let c = if random.one_in(40) { 8 } else { 1 + random.below(5) };
-        Setting::of_capacity(random, c)
+        Setting::of_capacity(random, form, c)
     }
 
-    pub fn of_capacity(random: &mut Random, c: u64) -> Setting {
+    pub fn of_capacity(random: &mut Random, form: u64, c: u64) -> Setting {
         // Histories that start small have room to grow.
         let k = if random.one_in(3) { 1 + random.below(c) } else { 1 };
         let (mul1, mul2) = multipliers(random);
-        Setting { c, k, mul1, mul2 }
+        Setting { form, c, k, mul1, mul2 }
     }
 
     /// Then every key has one place in each level.

@@ -8,7 +8,7 @@ use ragansils_model::{
 use crate::case::is_resizing;
 use crate::history::{any_item, Setting};
 use crate::random::Random;
-use crate::script_text::{any_cut, random_script, Script};
+use crate::script_text::{any_cut, random_script, Script, SCRIPT_FORM};
 
 /// So many functions are counted at most.
 pub const MOST_COUNTED: usize = 512;
@@ -32,7 +32,7 @@ pub fn random_ledger(random: &mut Random) -> Vec<u8> {
 fn many_functions(random: &mut Random) -> Script {
     let c = LARGEST_PROGRAM_CAPACITY;
     let mut script = Script::default();
-    script.header(Setting { c, k: c, mul1: random.word() | 1, mul2: random.word() | 1 });
+    script.header(Setting { form: SCRIPT_FORM, c, k: c, mul1: random.word() | 1, mul2: random.word() | 1 });
     let bound = MOST_COUNTED as u64;
     let functions = random.pick(&[bound - 1, bound, bound, bound, bound + 1, bound + 2, bound + 200]);
     let function = function_names(random);

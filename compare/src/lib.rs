@@ -3,15 +3,17 @@
 //!
 //! From the bottom up:
 //! - `random`: numbers from a seed;
+//! - `layout`: where words stand and what keys hash to, without the model;
 //! - `chain`: the chain of an address;
 //! - `case`, `case_text`: one call over given words, and its text form;
 //! - `library`: the proved library behind its C interface;
 //! - `told_slots`: where a query tells that its key stands;
 //! - `stuck_items`: which interim item a step takes; `starts`: where a step that goes on starts;
+//! - `tags`: what calls do with damaged token words of form 2;
 //! - `tally`: what a run has seen; `chain_tally`: of chains; `phases`: in each phase;
 //! - `both`: a case through library and model;
 //! - `plain_map`, `sound_tables`: sound tables against a plain map, with every cut;
-//! - `history`, `damage`: where tables come from; `random_chains`: which chains are put in and asked for;
+//! - `history`, `damage`, `tag_damage`: where tables come from; `random_chains`: which chains are put in and asked for;
 //! - `stuck_tables`, `stuck_shrinks`: growing and shrinking tables whose first interim items have no place; `going_on`: steps from every
 //!   start, and whole passes;
 //! - `wild`: cases over words that no history made;
@@ -39,6 +41,7 @@ pub mod damage;
 mod demands;
 mod going_on;
 pub mod history;
+pub mod layout;
 mod ledger_damage;
 mod ledger_lines;
 mod ledger_tally;
@@ -62,6 +65,8 @@ pub mod starts;
 pub mod stuck_items;
 pub mod stuck_shrinks;
 pub mod stuck_tables;
+mod tag_damage;
+pub mod tags;
 mod tally;
 #[cfg(test)]
 mod test_table;

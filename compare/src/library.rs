@@ -97,7 +97,9 @@ fn call_library(call: Call, lent: &mut Lent) -> u64 {
     // the words the call writes, and no two of them overlap.
     unsafe {
         match call {
-            Call::Create { c, k, mul1, mul2 } => raw::ragansils_create(table, words, c, k, mul1, mul2),
+            Call::Create { form, c, k, mul1, mul2 } => {
+                raw::ragansils_create(table, words, form, c, k, mul1, mul2)
+            }
             Call::Query { key } => raw::ragansils_query(table, words, key, answer.cast()),
             Call::Chain(Chain { address, depth }) => {
                 raw::ragansils_chain(table, words, address, depth, list, list_words, answer)

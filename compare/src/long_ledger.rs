@@ -16,7 +16,7 @@ use crate::outputs::difference;
 use crate::random::Random;
 use crate::runner::{built, is_emulated};
 use crate::say;
-use crate::script_text::Script;
+use crate::script_text::{Script, SCRIPT_FORM};
 
 /// Runs of each program; the middle one counts.
 const RUNS: usize = 3;
@@ -128,7 +128,7 @@ fn write_ledger(file: &Path, samples: u64, seed: u64) -> io::Result<()> {
     let mut random = Random::new(seed);
     let mut script = Script::default();
     let c = LARGEST_PROGRAM_CAPACITY;
-    script.header(Setting { c, k: c, mul1: random.word() | 1, mul2: random.word() | 1 });
+    script.header(Setting { form: SCRIPT_FORM, c, k: c, mul1: random.word() | 1, mul2: random.word() | 1 });
     for index in 0..KEYS {
         let event = Event::Insert { key: position(&mut random), function: index % FUNCTIONS, place: index };
         script.event(event, None);

@@ -177,7 +177,7 @@ mod tests {
 
     fn shrinking() -> Vec<u64> {
         let insert = Event::Insert { key: 3, function: 5, place: 5 };
-        table_after(Setting { c: 2, k: 2, mul1: MARKED_1, mul2: MARKED_1 }, [insert, Event::Shrink])
+        table_after(Setting { form: 1, c: 2, k: 2, mul1: MARKED_1, mul2: MARKED_1 }, [insert, Event::Shrink])
     }
 
     fn met(call: Call, table: Vec<u64>, number: u64, answer: &[u64]) -> Vec<(Phase, String)> {

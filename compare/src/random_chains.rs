@@ -122,7 +122,7 @@ mod tests {
     fn chains_of_all_lengths_are_put_in_where_they_fit() {
         let mut random = Random::new(1);
         let mut depths = |c| -> BTreeSet<u64> {
-            let setting = Setting { c, k: 1, mul1: 1, mul2: 1 };
+            let setting = Setting { form: 1, c, k: 1, mul1: 1, mul2: 1 };
             (0..1000).flat_map(|_| chains_of_history(&mut random, setting)).map(|chain| chain.depth).collect()
         };
         assert_eq!(depths(1), (0..=5).collect());

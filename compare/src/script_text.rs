@@ -11,6 +11,9 @@ use crate::random::Random;
 use crate::stuck_items::{Kind, KINDS};
 use crate::{stuck_shrinks, stuck_tables};
 
+/// "scripts make form 1"
+pub const SCRIPT_FORM: u64 = 1;
+
 /// The most stores an event has is 10; a cut is tried just beyond that, too.
 const CUTS_TO_TRY: u64 = 12;
 
@@ -26,8 +29,8 @@ pub fn random_script(random: &mut Random) -> Script {
     }
     let grows_large = random.one_in(40);
     let setting = match grows_large {
-        true => Setting::of_capacity(random, LARGEST_PROGRAM_CAPACITY),
-        false => Setting::random(random),
+        true => Setting::of_capacity(random, SCRIPT_FORM, LARGEST_PROGRAM_CAPACITY),
+        false => Setting::random(random, SCRIPT_FORM),
     };
     let story = Story {
         events: if grows_large { 1500 + random.below(1500) } else { random.below(200) },
@@ -41,7 +44,7 @@ pub fn random_script(random: &mut Random) -> Script {
 
 /// A good script whose creation is refused, with events that are not read.
 fn refused_creation(random: &mut Random) -> Script {
-    let mut setting = Setting::random(random);
+    let mut setting = Setting::random(random, SCRIPT_FORM);
     match random.below(5) {
         0 => setting.c = random.pick(&[0, 9, 20, 21, u64::MAX]),
         1 => setting.k = random.pick(&[0, setting.c + 1, 257, u64::MAX]),
@@ -58,7 +61,7 @@ fn refused_creation(random: &mut Random) -> Script {
 /// Growth goes on as far as it can, past stuck items.
 fn stuck_growth(random: &mut Random) -> Script {
     let kind = random.pick(&KINDS);
-    let (setting, events) = stuck_tables::history_to(random, kind);
+    let (setting, events) = stuck_tables::history_to(random, SCRIPT_FORM, kind);
     let mut script = Script::of_events(setting, events);
     steps_past_stuck_items(random, &mut script);
     script
@@ -69,7 +72,7 @@ fn stuck_shrink(random: &mut Random) -> Script {
     // Tables for steps past many buckets take long to find; the run over words has them.
     let kinds: Vec<Kind> = KINDS.into_iter().filter(|kind| !kind.passes_many_buckets()).collect();
     let kind = random.pick(&kinds);
-    let (setting, events) = stuck_shrinks::history_to(random, kind);
+    let (setting, events) = stuck_shrinks::history_to(random, SCRIPT_FORM, kind);
     let mut script = Script::of_events(setting, events);
     steps_past_stuck_items(random, &mut script);
     if let Some(slot) = any_item(random, &script.table) {
@@ -178,13 +181,14 @@ impl Script {
         self.text.extend_from_slice(format!("{name}={}\n", value.to_string()).as_bytes());
     }
 
-    pub fn header(&mut self, Setting { c, k, mul1, mul2 }: Setting) {
+    /// The form is not told: a script's table is of form 1.
+    pub fn header(&mut self, Setting { c, k, mul1, mul2, .. }: Setting) {
         for (name, value) in [("cap", c), ("top", k), ("mul1", mul1), ("mul2", mul2)] {
             self.line(name, value);
         }
         let words = table_words(c).filter(|_| c <= LARGEST_PROGRAM_CAPACITY);
         self.table = vec![0; words.unwrap_or(0)];
-        create(&mut self.table, c, k, mul1, mul2);
+        create(&mut self.table, SCRIPT_FORM, c, k, mul1, mul2);
     }
 
     fn query(&mut self, key: u64) {

@@ -7,6 +7,7 @@ use ragansils_model::{Event, LEAST_LIST_WORDS, SUCCESS};
 use crate::both::{Both, Check, Finding};
 use crate::case::{is_resizing, phase_of, Call, Case, Outcome};
 use crate::chain::Chain;
+use crate::layout::check_tokens;
 use crate::plain_map::{self, PlainMap};
 use crate::stuck_items::{step_by_inserts, step_from_by_inserts, Kind, Step};
 
@@ -146,7 +147,7 @@ pub fn check_alone(both: &mut Both, case: &Case) -> Result<(), Finding> {
 }
 
 fn finding(case: &Case, what: String) -> Finding {
-    Finding { check: Check::SoundTable, case: case.clone(), what }
+    Finding { check: Check::SoundTable, case: Box::new(case.clone()), what }
 }
 
 struct Change<'a, 't> {
@@ -166,12 +167,13 @@ impl Change<'_, '_> {
         self.both.make(&self.case.table, &self.outcome.list, kept)
     }
 
-    /// The table with all stores made; it must hold exactly the map after.
+    /// The table with all stores made; it must hold exactly the map after, under the right token words.
     fn whole(&mut self) -> Result<Vec<u64>, Finding> {
         let table = self.make(self.outcome.stores())?;
         if plain_map::of_table(&table).as_ref() != Some(self.after) {
             return Err(self.finding("the whole change does not give the plain map".to_string()));
         }
+        check_tokens(&table).map_err(|what| self.finding(what))?;
         Ok(table)
     }
 
@@ -251,7 +253,7 @@ mod tests {
     /// Whatever library and model agree on.
     #[test]
     fn a_step_of_another_item_is_found() {
-        let (setting, events) = history_to(&mut Random::new(1), KINDS[2]);
+        let (setting, events) = history_to(&mut Random::new(1), 1, KINDS[2]);
         let table = table_after(setting, events);
         let case = Case { call: Call::Change(Event::Step), table, list: vec![0; LEAST_LIST_WORDS] };
         let mut tally = Tally::default();
@@ -271,7 +273,7 @@ mod tests {
 
     #[test]
     fn a_wrong_bucket_is_found() {
-        let (setting, events) = history_to(&mut Random::new(1), KINDS[6]);
+        let (setting, events) = history_to(&mut Random::new(1), 2, KINDS[6]);
         let table = table_after(setting, events);
         let step = step_by_inserts(&table).unwrap();
         let case = Case { call: Call::Change(Event::StepFrom { from: 0 }), table, list: vec![] };

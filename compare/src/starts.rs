@@ -221,7 +221,7 @@ mod tests {
     /// Growing, with four interim buckets of four items each; none is stuck. With both multipliers alike a key has one place in each level.
     fn growing() -> Vec<u64> {
         let insert = |key| Event::Insert { key, function: 5, place: 5 };
-        let setting = Setting { c: 4, k: 3, mul1: MARKED_1, mul2: MARKED_1 };
+        let setting = Setting { form: 1, c: 4, k: 3, mul1: MARKED_1, mul2: MARKED_1 };
         table_after(setting, (0..48).map(insert).chain([Event::Begin]))
     }
 

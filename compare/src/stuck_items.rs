@@ -5,6 +5,8 @@ use std::fmt::{self, Display};
 
 use ragansils_model::{Event, Slot, Table, LEAST_LIST_WORDS, SLOTS_PER_BUCKET, SUCCESS};
 
+use crate::layout::without_slot;
+
 /// What a step meets in an interim level that is not empty.
 #[derive(Clone, Copy, Debug, PartialEq, Eq, PartialOrd, Ord)]
 pub enum Kind {
@@ -141,7 +143,7 @@ pub fn step_from_by_inserts(words: &[u64], from: u64) -> Option<Step> {
 
 /// The answer of an interim item's insert into the table without it, and the list of the step that it makes.
 fn insert_of(words: &[u64], table: &Table, item: Slot) -> (u64, Vec<u64>) {
-    let token_without = table.token(item.bucket) & !item.token_bit();
+    let token_without = without_slot(table.form(), table.raw_token(item.bucket), item.number);
     let mut without = words.to_vec();
     without[item.token_word()] = token_without;
     let [key, function, place] = table.record(item);
@@ -203,7 +205,7 @@ mod tests {
     fn growing(mul2: u64, at_rest: impl Iterator<Item = u64>, later: impl Iterator<Item = u64>) -> Vec<u64> {
         let insert = |key| Event::Insert { key, function: 5, place: 5 };
         let events = at_rest.map(insert).chain([Event::Begin]).chain(later.map(insert));
-        table_after(Setting { c: 2, k: 1, mul1: MARKED_1, mul2 }, events)
+        table_after(Setting { form: 1, c: 2, k: 1, mul1: MARKED_1, mul2 }, events)
     }
 
     fn every_fourth(from: u64, to: u64) -> impl Iterator<Item = u64> {

@@ -11,13 +11,13 @@ use crate::stuck_items::{passed, Kind, Way};
 const MOST_TRIES: u64 = 10_000;
 
 /// The creation of a table, and the events that bring it to where a step of a shrink is of this kind. The table refuses none of them.
-pub fn history_to(random: &mut Random, kind: Kind) -> (Setting, Vec<Event>) {
-    let mut making = Making::random(random, kind);
+pub fn history_to(random: &mut Random, form: u64, kind: Kind) -> (Setting, Vec<Event>) {
+    let mut making = Making::random(random, form, kind);
     for _ in 1..MOST_TRIES {
         if making.comes_to(kind) {
             break;
         }
-        making = Making::random(random, kind);
+        making = Making::random(random, form, kind);
     }
     (making.setting, making.events)
 }
@@ -31,14 +31,14 @@ struct Making {
 
 impl Making {
     /// The table shrinks from half full or more; then inserts fill the new bottom, which is empty, or leave it so.
-    fn random(random: &mut Random, kind: Kind) -> Making {
+    fn random(random: &mut Random, form: u64, kind: Kind) -> Making {
         // Many buckets of the interim level are passed only where it has many, and they are full.
         let passes_many = kind.passes_many_buckets();
         let k = if passes_many { 4 + random.below(3) } else { 2 + random.below(3) };
         let c = k + random.below(2);
-        let setting = Setting { k, ..Setting::of_capacity(random, c) };
+        let setting = Setting { k, ..Setting::of_capacity(random, form, c) };
         let mut table = vec![0; table_words(c).unwrap_or(0)];
-        create(&mut table, c, k, setting.mul1, setting.mul2);
+        create(&mut table, form, c, k, setting.mul1, setting.mul2);
         let mut making = Making { setting, table, events: vec![] };
         let (slots, bottom_slots) = (6 << k, 1 << k);
         making.fill(random, slots, if passes_many { &[90, 100] } else { &[50, 60, 75, 90, 100] });
@@ -120,6 +120,7 @@ impl Making {
 mod tests {
     use super::*;
     use crate::case::phase_of;
+    use crate::layout::FORMS;
     use crate::stuck_items::{step_by_inserts, KINDS};
     use crate::test_table::table_after;
     use ragansils::Phase;
@@ -127,10 +128,10 @@ mod tests {
     #[test]
     fn each_history_leads_to_its_kind_of_step_in_a_shrink() {
         let mut random = Random::new(1);
-        for kind in (0..20).flat_map(|_| KINDS) {
-            let (setting, events) = history_to(&mut random, kind);
+        for (form, kind) in (0..20).flat_map(|time| KINDS.map(|kind| (FORMS[time % 2], kind))) {
+            let (setting, events) = history_to(&mut random, form, kind);
             let table = table_after(setting, events);
-            assert_eq!(phase_of(&table), Some(Phase::Shrinking));
+            assert_eq!((table[0], phase_of(&table)), (form, Some(Phase::Shrinking)));
             assert_eq!(step_by_inserts(&table).unwrap().kind, Some(kind), "{setting:?}");
         }
     }

@@ -9,6 +9,7 @@
 use ragansils_model::{Event, SLOTS_PER_BUCKET};
 
 use crate::history::{Setting, MARKED_1, MARKED_2};
+use crate::layout::hash;
 use crate::random::Random;
 use crate::stuck_items::{Kind, Passed, Way, KINDS, MANY_BUCKETS};
 
@@ -42,7 +43,7 @@ pub fn kinds_before(history: u64) -> impl Iterator<Item = Kind> {
 }
 
 /// The creation of a table, and the events that bring it to where a step is of this kind.
-pub fn history_to(random: &mut Random, kind: Kind) -> (Setting, Vec<Event>) {
+pub fn history_to(random: &mut Random, form: u64, kind: Kind) -> (Setting, Vec<Event>) {
     let used = fates_for(random, kind);
     let least_exponent = (0..).find(|&exponent| 1 << exponent >= used.len()).unwrap_or(0);
     let largest = if kind.passes_many_buckets() { LARGEST_EXPONENT_OF_MANY } else { LARGEST_EXPONENT };
@@ -51,7 +52,7 @@ pub fn history_to(random: &mut Random, kind: Kind) -> (Setting, Vec<Event>) {
     // While growing, the top has four times as many buckets as the interim level.
     let c = exponent + 2 + random.below(2);
     let (mul1, mul2) = multipliers(random);
-    let setting = Setting { c, k: exponent + 1, mul1, mul2 };
+    let setting = Setting { form, c, k: exponent + 1, mul1, mul2 };
     let mut making = Making { random, setting, events: vec![] };
     making.make(fates);
     (setting, making.events)
@@ -246,8 +247,8 @@ impl Making<'_> {
     /// A key with these first and second places in the top of the growing table. Where none is found, the table is perhaps of another
     /// kind; what a run has seen is told by the table itself.
     fn insert(&mut self, first: u64, second: u64) {
-        let Setting { k, mul1, mul2, .. } = self.setting;
-        let place = |key: u64, multiplier| (key.wrapping_mul(multiplier) >> 32) % (2 << k);
+        let Setting { form, k, mul1, mul2, .. } = self.setting;
+        let place = |key: u64, multiplier| hash(form, multiplier, key) % (2 << k);
         let fits = |&key: &u64| place(key, mul1) == first && place(key, mul2) == second;
         let key = (0..MOST_TRIES).map(|_| self.random.word()).find(fits).unwrap_or(0);
         let (function, place) = (self.random.any_word(), self.random.any_word());
@@ -258,6 +259,7 @@ impl Making<'_> {
 #[cfg(test)]
 mod tests {
     use super::*;
+    use crate::layout::FORMS;
     use crate::stuck_items::step_by_inserts;
     use crate::test_table::table_after;
     use ragansils_model::Table;
@@ -268,11 +270,18 @@ mod tests {
         assert_eq!(kinds_before(0).collect::<Vec<_>>(), KINDS);
     }
 
+    /// Tables come with every fourth history, and with every sixteenth those past many buckets: both forms have them all.
+    fn form_of(history: u64) -> u64 {
+        FORMS[history as usize / 16 % 2]
+    }
+
     #[test]
     fn each_history_leads_to_its_kind() {
         let mut random = Random::new(1);
-        for kind in (0..400).flat_map(kinds_before) {
-            let (setting, events) = history_to(&mut random, kind);
+        for (form, kind) in
+            (0..400).flat_map(|number| kinds_before(number).map(move |kind| (form_of(number), kind)))
+        {
+            let (setting, events) = history_to(&mut random, form, kind);
             let step = step_by_inserts(&table_after(setting, events)).unwrap();
             assert_eq!(step.kind, Some(kind), "{setting:?}");
         }
@@ -284,7 +293,7 @@ mod tests {
         let mut random = Random::new(1);
         let (mut settings, mut taken) = (BTreeSet::new(), BTreeSet::new());
         for kind in (0..640).flat_map(kinds_before) {
-            let (setting, events) = history_to(&mut random, kind);
+            let (setting, events) = history_to(&mut random, 2, kind);
             settings.insert((setting.k, setting.c, setting.has_equal_multipliers()));
             let words = table_after(setting, events);
             let table = Table::read(&words).unwrap();

@@ -5,13 +5,15 @@ use std::fmt::Display;
 
 use ragansils::Phase;
 
-use crate::case::{Case, Outcome};
+use crate::case::{Call, Case, Outcome};
 use crate::chain_tally::ChainTally;
+use crate::layout::FORMS;
 use crate::ledger_tally::LedgerTally;
 use crate::phases::PhaseTally;
 use crate::say;
 use crate::starts::{Numbers, StartTally};
 use crate::stuck_items::StepTally;
+use crate::tags::{TagTally, KINDS};
 use crate::told_slots::LevelTally;
 
 type Counts = BTreeMap<String, u64>;
@@ -19,6 +21,8 @@ type Counts = BTreeMap<String, u64>;
 #[derive(Default)]
 pub struct Tally {
     calls: Counts,
+    /// Calls by the form of the table that they were made on.
+    forms: Counts,
     /// Store lists by call and length.
     lists: Counts,
     refusals: BTreeMap<u64, u64>,
@@ -36,6 +40,8 @@ pub struct Tally {
     pub phases_of_other_words: PhaseTally,
     pub phases_of_scripts: PhaseTally,
     pub starts: StartTally,
+    /// Of damaged token words of form 2.
+    pub tags: TagTally,
     pub ledgers: LedgerTally,
     pub total_calls: u64,
     pub cuts: u64,
@@ -48,6 +54,7 @@ pub struct Tally {
 impl Tally {
     pub fn count_call(&mut self, case: &Case, outcome: &Outcome) {
         self.total_calls += 1;
+        add(&mut self.forms, &form_name(case));
         self.count_answered(case.call.name(), outcome.number, outcome.stores());
     }
 
@@ -61,6 +68,11 @@ impl Tally {
             _ if number == 0 => add(&mut self.lists, &format!("{name} of {stores}")),
             _ => {}
         }
+    }
+
+    /// The calls on tables of this form, and the creations of them.
+    pub fn calls_of_form(&self, form: u64) -> u64 {
+        self.forms.get(&form.to_string()).copied().unwrap_or(0)
     }
 
     pub fn count_refusal(&mut self, number: u64) {
@@ -81,6 +93,7 @@ impl Tally {
     pub fn print(&self) {
         say!("calls: {}; scripts: {}; ledgers: {}", self.total_calls, self.scripts, self.ledgers.ledgers);
         say!("scripts with a shrink and a turning back: {}", self.scripts_with_shrink_and_back);
+        print_counts("calls by the form of their table", &self.forms);
         print_counts("calls and script events by name", &self.calls);
         print_counts("store lists", &self.lists);
         print_counts("refusals", &self.refusals);
@@ -96,6 +109,7 @@ impl Tally {
         print_counts("steps of other words", &self.steps_of_other_words.kinds);
         self.print_starts();
         self.print_chains();
+        self.print_tags();
         print_counts("ledgers by what they show", &self.ledgers.kinds);
     }
 
@@ -111,6 +125,15 @@ impl Tally {
                 starts.passes, starts.steps_of_passes, starts.moves
             );
         }
+    }
+
+    fn print_tags(&self) {
+        for kind in KINDS {
+            let of_kind = self.tags.met.iter().filter(|((met, _), _)| *met == kind);
+            let counts: Counts = of_kind.map(|((_, what), &count)| (what.clone(), count)).collect();
+            print_counts(&format!("met with {kind}"), &counts);
+        }
+        print_counts("slots and bits of damaged token words", &self.tags.effects);
     }
 
     fn print_chains(&self) {
@@ -134,6 +157,15 @@ fn print_phases(title: &str, tally: &PhaseTally) {
         let counts: Counts = of_phase.map(|((_, what), &count)| (what.clone(), count)).collect();
         print_counts(&format!("{title}, {phase}"), &counts);
     }
+}
+
+/// Of a creation, the form that it is asked for.
+fn form_name(case: &Case) -> String {
+    let form = match case.call {
+        Call::Create { form, .. } => Some(form),
+        _ => case.table.first().copied(),
+    };
+    form.filter(|form| FORMS.contains(form)).map_or("none".to_string(), |form| form.to_string())
 }
 
 fn by_phase(numbers: &Numbers) -> Counts {

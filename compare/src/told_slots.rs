@@ -1,18 +1,15 @@
-//! Checks where a query says that its key stands against the words of the table, by the layout of document 01, and counts the levels. The
-//! layout is written here once more, so that the model is not asked.
+//! Checks where a query says that its key stands against the words of the table, and counts the levels. Layout and hashes are those of
+//! `layout`, so that the model is not asked.
 
 use std::collections::BTreeMap;
 
 use ragansils::Level;
 use ragansils_model::SUCCESS;
 
-const STATE: usize = 4;
-const HEADER_WORDS: usize = 9;
-const BUCKET_WORDS: usize = 13;
-const SLOT_WORDS: usize = 3;
-const SLOTS: usize = 4;
-/// "state: k + 256·phase"; a table grows in phase 1 and shrinks in phase 2.
-const PHASE_UNIT: u64 = 256;
+use crate::layout::{
+    bucket_and_offset, is_in_level, is_place, is_taken, tag_in, tag_of, token_word, FORM, PHASE_UNIT, SLOTS,
+    SLOT_WORDS, STATE, TAGGED,
+};
 
 /// The level in which a query found its key; none with a refusal. Or says what is wrong with where it tells the key to stand.
 pub fn check(table: &[u64], key: u64, number: u64, answer: &[u64]) -> Result<Option<Level>, String> {
@@ -25,14 +22,20 @@ pub fn check(table: &[u64], key: u64, number: u64, answer: &[u64]) -> Result<Opt
         return if is_none { Ok(None) } else { Err(format!("word {word} and level {level} with a refusal")) };
     }
     let level = level_of(level).ok_or_else(|| format!("there is no level {level}"))?;
-    let words = slot_words(table, word).ok_or_else(|| format!("word {word} is no taken slot's key word"))?;
-    if *words != [key, function, place] {
-        return Err(format!("at word {word} stand {words:?}, and not the key and its record"));
+    let slot =
+        Slot::of_key_word(table, word).ok_or_else(|| format!("word {word} is no taken slot's key word"))?;
+    if slot.words != [key, function, place] {
+        return Err(format!("at word {word} stand {:?}, and not the key and its record", slot.words));
     }
-    match is_in_level(table, word, level) {
-        true => Ok(Some(level)),
-        false => Err(format!("word {word} is not in the {level} level")),
+    let buckets = buckets_of(table[STATE], level).filter(|&buckets| is_in_level(slot.bucket, buckets));
+    let buckets = buckets.ok_or_else(|| format!("word {word} is not in the {level} level"))?;
+    if !is_place(table, key, slot.bucket, buckets) {
+        return Err(format!("word {word} is in no place of its key"));
     }
+    if table[FORM] == TAGGED && slot.tag != tag_of(table, key) {
+        return Err(format!("the slot of word {word} has tag {}, and not its key's", slot.tag));
+    }
+    Ok(Some(level))
 }
 
 /// The level of a number, as answers tell it.
@@ -40,31 +43,25 @@ pub fn level_of(number: u64) -> Option<Level> {
     Level::ALL.into_iter().find(|level| level.number() == number)
 }
 
-/// The three words of a taken slot, by the index of the first: "Bucket j starts at word 9 + 13j: one token word, then four slots of three
-/// words", and "Token bit s is 1 when slot s is taken".
-fn slot_words(table: &[u64], word: u64) -> Option<&[u64]> {
-    let word = usize::try_from(word).ok()?;
-    let (bucket, offset) = bucket_and_offset(word)?;
-    let slot = offset.checked_sub(1)? / SLOT_WORDS;
-    let is_key_word = slot < SLOTS && offset == 1 + SLOT_WORDS * slot;
-    let is_taken = table.get(HEADER_WORDS + BUCKET_WORDS * bucket)? >> slot & 1 == 1;
-    table.get(word..word + SLOT_WORDS).filter(|_| is_key_word && is_taken)
+/// A taken slot.
+struct Slot<'t> {
+    bucket: usize,
+    words: &'t [u64],
+    /// What stands in the token word where form 2 has the tag.
+    tag: u64,
 }
 
-/// The bucket of a word, and its place in it.
-fn bucket_and_offset(word: usize) -> Option<(usize, usize)> {
-    let behind_header = word.checked_sub(HEADER_WORDS)?;
-    Some((behind_header / BUCKET_WORDS, behind_header % BUCKET_WORDS))
-}
-
-/// "A level of M buckets is always buckets M - 1 to 2M - 2."
-fn is_in_level(table: &[u64], word: u64, level: Level) -> bool {
-    let buckets = match buckets_of(table[STATE], level) {
-        Some(buckets) => buckets,
-        None => return false,
-    };
-    let bucket = bucket_and_offset(word as usize).map(|(bucket, _)| bucket);
-    bucket.map_or(false, |bucket| (buckets - 1..2 * buckets - 1).contains(&bucket))
+impl<'t> Slot<'t> {
+    /// By the index of the first of its three words.
+    fn of_key_word(table: &'t [u64], word: u64) -> Option<Slot<'t>> {
+        let word = usize::try_from(word).ok()?;
+        let (bucket, offset) = bucket_and_offset(word)?;
+        let slot = offset.checked_sub(1)? / SLOT_WORDS;
+        let is_key_word = slot < SLOTS && offset == 1 + SLOT_WORDS * slot;
+        let token = *table.get(token_word(bucket))?;
+        let words = table.get(word..word + SLOT_WORDS).filter(|_| is_key_word && is_taken(token, slot))?;
+        Some(Slot { bucket, words, tag: tag_in(token, slot) })
+    }
 }
 
 /// "The top has 2^k buckets, the bottom half that; while growing, an interim level has a quarter." In a shrink "the old top becomes the
@@ -103,6 +100,7 @@ impl LevelTally {
 mod tests {
     use super::*;
     use crate::history::{Setting, MARKED_1};
+    use crate::layout::FORMS;
     use crate::test_table::{change, table_after, table_of};
     use ragansils_model::Event;
 
@@ -131,7 +129,7 @@ mod tests {
     /// The interim level of a shrink is the largest: buckets 3 to 6, of which the last has words 87 to 99.
     #[test]
     fn a_slot_of_a_shrinking_table_is_told() {
-        let setting = Setting { c: 2, k: 2, mul1: MARKED_1, mul2: MARKED_1 };
+        let setting = Setting { form: 1, c: 2, k: 2, mul1: MARKED_1, mul2: MARKED_1 };
         let insert = Event::Insert { key: 3, function: 103, place: 203 };
         let table = table_after(setting, [insert, Event::Shrink]);
         assert_eq!(told(&table, 3, 88, 2), Ok(Some(Level::Interim)));
@@ -152,6 +150,37 @@ mod tests {
         let mut free = table.clone();
         free[35] = 13;
         assert!(told(&free, 3, 39, 0).is_err() && told(&free, 5, 42, 0).is_ok());
+    }
+
+    /// Each key is where the other form would have it: 12968787970 hashes to 2 in form 1, where its upper half does not count, and to 1 in
+    /// form 2. Both multipliers are alike, so that a key has one place in each level.
+    #[test]
+    fn a_wrong_place_is_found() {
+        for form in FORMS {
+            let setting = Setting { form, c: 2, k: 1, mul1: MARKED_1, mul2: MARKED_1 };
+            let key = 12968787970;
+            let table = table_after(setting, [Event::Insert { key, function: 5, place: 5 }]);
+            let word = 10 + table[10..].iter().position(|&word| word == key).unwrap() as u64;
+            let told = |table: &[u64]| check(table, key, SUCCESS, &[5, 5, 1, word, 0]);
+            assert_eq!(told(&table), Ok(Some(Level::Top)), "form {form}");
+            let mut of_other_form = table.clone();
+            of_other_form[FORM] = 3 - form;
+            assert!(told(&of_other_form).is_err(), "form {form}");
+        }
+    }
+
+    #[test]
+    fn a_wrong_tag_is_found() {
+        let setting = Setting { form: 2, c: 2, k: 1, mul1: MARKED_1, mul2: MARKED_1 };
+        let key = 5 << 24 | 1;
+        let mut table = table_after(setting, [Event::Insert { key, function: 5, place: 5 }]);
+        let told = |table: &[u64]| check(table, key, SUCCESS, &[5, 5, 1, 36, 0]);
+        assert_eq!(told(&table), Ok(Some(Level::Top)));
+        // A tag of another slot is of no matter.
+        table[35] ^= 1 << 16;
+        assert_eq!(told(&table), Ok(Some(Level::Top)));
+        table[35] ^= 1 << 15;
+        assert!(told(&table).is_err());
     }
 
     #[test]

@@ -9,12 +9,13 @@ use crate::history::any_item;
 use crate::random::Random;
 use crate::random_chains::{chain_near, lent_words};
 use crate::starts::{any_start, count_number};
+use crate::tag_damage::mend_tags;
 
 /// Creations, makings and all other calls.
-pub fn wild_calls(random: &mut Random, both: &mut Both) -> Result<(), Finding> {
-    both.run(&wild_creation(random))?;
+pub fn wild_calls(random: &mut Random, both: &mut Both, form: u64) -> Result<(), Finding> {
+    both.run(&wild_creation(random, form))?;
     both.run(&wild_making(random))?;
-    let table = wild_table(random);
+    let table = wild_table(random, form);
     let (key, function, place) = (random.any_word(), random.any_word(), random.any_word());
     let call = random.pick(&[
         Call::Query { key },
@@ -31,23 +32,24 @@ pub fn wild_calls(random: &mut Random, both: &mut Both) -> Result<(), Finding> {
     let case = Case { call, table, list: any_list(random) };
     let outcome = both.run(&case)?;
     both.tally.phases_of_other_words.count_case(&case, &outcome);
-    let step = wild_step(random);
+    both.tally.tags.count_case(&case, &outcome);
+    let step = wild_step(random, form);
     let number = both.run(&step)?.number;
     count_number(&mut both.tally.starts.of_other_words, &step.table, number);
-    let chain = wild_chain(random);
+    let chain = wild_chain(random, form);
     let number = both.run(&chain)?.number;
     both.tally.chains_of_other_words.count(&chain, number);
     Ok(())
 }
 
-fn wild_step(random: &mut Random) -> Case {
-    let table = wild_table(random);
+fn wild_step(random: &mut Random, form: u64) -> Case {
+    let table = wild_table(random, form);
     let from = any_start(random, &table);
     Case { call: Call::Change(Event::StepFrom { from }), list: any_list(random), table }
 }
 
-fn wild_chain(random: &mut Random) -> Case {
-    let mut table = wild_table(random);
+fn wild_chain(random: &mut Random, form: u64) -> Case {
+    let mut table = wild_table(random, form);
     if random.one_in(2) {
         few_depths_of_one_address(random, &mut table);
     }
@@ -56,7 +58,13 @@ fn wild_chain(random: &mut Random) -> Case {
     Case { call: Call::Chain(chain), list: lent_words(random, chain), table }
 }
 
-fn wild_creation(random: &mut Random) -> Case {
+fn wild_creation(random: &mut Random, own_form: u64) -> Case {
+    let form = match random.below(6) {
+        0 => random.below(4),
+        1 => random.any_word(),
+        2 => own_form + (1 << random.pick(&[8, 32, 63])),
+        _ => own_form,
+    };
     let c = match random.below(8) {
         0 => 0,
         1 => 9 + random.below(14),
@@ -74,7 +82,7 @@ fn wild_creation(random: &mut Random) -> Case {
     // Right lengths of large tables would cost more than they show.
     let right = table_words(c).filter(|_| c <= 10).unwrap_or(22);
     let length = if random.one_in(5) { nearby_length(random, right) } else { right };
-    Case { call: Call::Create { c, k, mul1, mul2 }, table: random.words(length), list: vec![] }
+    Case { call: Call::Create { form, c, k, mul1, mul2 }, table: random.words(length), list: vec![] }
 }
 
 fn wild_making(random: &mut Random) -> Case {
@@ -102,18 +110,22 @@ fn wild_making(random: &mut Random) -> Case {
     Case { call: Call::Make { n }, table, list }
 }
 
-/// Garbage of any length, or of a right length behind a header that is nearly good.
-fn wild_table(random: &mut Random) -> Vec<u64> {
+/// Garbage of any length, or of a right length behind a header that is nearly good. In form 2 half of them have right tags, or no key
+/// would be found.
+fn wild_table(random: &mut Random, form: u64) -> Vec<u64> {
     let c = 1 + random.below(5);
     let right = table_words(c).unwrap_or(0);
     let length = if random.one_in(4) { nearby_length(random, right) } else { right };
     let mut table = random.words(length);
     let state = 1 + random.below(c) + 256 * random.below(3);
-    let header = [1, c, random.word() | 1, random.word() | 1, state, 0];
+    let header = [form, c, random.word() | 1, random.word() | 1, state, 0];
     for (table_word, good) in table.iter_mut().zip(header) {
         if !random.one_in(20) {
             *table_word = good;
         }
+    }
+    if random.one_in(2) {
+        mend_tags(&mut table);
     }
     table
 }

@@ -18,6 +18,7 @@ use crate::starts::{any_start, count_number};
 use crate::stuck_items::{step_by_inserts, Kind, KINDS};
 use crate::stuck_shrinks;
 use crate::stuck_tables::{self, kinds_before};
+use crate::tags::key_under_wrong_tag;
 use crate::wild::{any_list, wild_calls};
 
 /// At this capacity a single cut costs as much as a small history.
@@ -32,7 +33,7 @@ const EVENTS_OF_LONGEST_CHAIN: u64 = 20;
 /// A run begins with so many tables made for each kind of step: few histories would not meet every kind of start.
 const FIRST_TABLES_OF_EACH_KIND: u64 = 10;
 /// The same in a shrink, which has more steps.
-const FIRST_SHRINKS_OF_EACH_KIND: u64 = 4;
+const FIRST_SHRINKS_OF_EACH_KIND: u64 = 10;
 
 /// One event in so many is followed by steps from every start, or by a pass, of tables that grow or shrink.
 const STARTS_ONE_IN: u64 = 8;
@@ -46,33 +47,39 @@ const EVENTS_OF_WHOLE_SHRINKS: u64 = 60;
 /// So many keys are put in while a stuck shrink is under way, and as many once it has turned back.
 const INSERTS_OF_STUCK_SHRINKS: u64 = 6;
 
+/// So many inserts by a move are cut everywhere, and so many tables have a cut update, in each phase.
+const MOVES_OF_EACH_PHASE: u64 = 2;
+const FLAGGED_TABLES_OF_EACH_PHASE: u64 = 2;
+const STORES_OF_MOVING_INSERT: u64 = 9;
+
 /// So often room is made for stuck items.
 const ROOM_MADE: u64 = 3;
 const EVENTS_OF_STUCK_ITEMS: u64 = 5;
 
-/// Makes at least `calls` more calls of the library.
-pub fn run(seed: u64, calls: u64, both: &mut Both) -> Result<(), Finding> {
+/// Makes at least `calls` more calls of the library, with tables of this form.
+pub fn run(seed: u64, calls: u64, form: u64, both: &mut Both) -> Result<(), Finding> {
     let mut random = Random::new(seed);
     let enough = both.tally.total_calls + calls;
-    try_made_tables(&mut random, both, stuck_tables::history_to, FIRST_TABLES_OF_EACH_KIND)?;
-    try_made_tables(&mut random, both, stuck_shrinks::history_to, FIRST_SHRINKS_OF_EACH_KIND)?;
+    try_made_tables(&mut random, both, form, stuck_tables::history_to, FIRST_TABLES_OF_EACH_KIND)?;
+    try_made_tables(&mut random, both, form, stuck_shrinks::history_to, FIRST_SHRINKS_OF_EACH_KIND)?;
     for number in 0.. {
         if both.tally.total_calls >= enough {
             break;
         }
         if number % LONGEST_CHAIN_ONE_IN == 0 {
-            history_of_longest_chain(&mut random, both, enough)?;
+            history_of_longest_chain(&mut random, both, form, enough)?;
         }
         for kind in kinds_before(number) {
-            history_of_stuck_items(&mut random, both, kind, enough)?;
+            history_of_stuck_items(&mut random, both, form, kind, enough)?;
         }
         if number % SHRINKS_ONE_IN == 0 {
             for kind in KINDS {
-                history_of_stuck_shrink(&mut random, both, kind, enough)?;
-                history_of_whole_shrinks(&mut random, both)?;
+                history_of_stuck_shrink(&mut random, both, form, kind, enough)?;
+                history_of_whole_shrinks(&mut random, both, form)?;
             }
+            history_of_moves(&mut random, both, form)?;
         }
-        let setting = Setting::random(&mut random);
+        let setting = Setting::random(&mut random, form);
         let chains = chains_of_history(&mut random, setting);
         // Long enough to grow to the top and be full there, most times.
         let events = 10 + random.below(40 << setting.c);
@@ -82,11 +89,16 @@ pub fn run(seed: u64, calls: u64, both: &mut Both) -> Result<(), Finding> {
 }
 
 /// The table grows while the chain is put in, or once it is whole.
-fn history_of_longest_chain(random: &mut Random, both: &mut Both, enough_calls: u64) -> Result<(), Finding> {
+fn history_of_longest_chain(
+    random: &mut Random,
+    both: &mut Both,
+    form: u64,
+    enough_calls: u64,
+) -> Result<(), Finding> {
     let c = random.pick(&CAPACITIES_OF_LONGEST_CHAIN);
     // By the upper bit the depths go through all buckets; else some multipliers would have no room for them.
     let mut multiplier = || random.word() | 1 << 32 | 1;
-    let setting = Setting { c, k: c - 1, mul1: multiplier(), mul2: multiplier() };
+    let setting = Setting { form, c, k: c - 1, mul1: multiplier(), mul2: multiplier() };
     let chain = longest_chain(random);
     let mut history = History::start(random, setting, vec![chain], both)?;
     history.put_chain(both, chain)?;
@@ -106,10 +118,11 @@ fn history_of_longest_chain(random: &mut Random, both: &mut Both, enough_calls: 
 fn history_of_stuck_items(
     random: &mut Random,
     both: &mut Both,
+    form: u64,
     kind: Kind,
     enough_calls: u64,
 ) -> Result<(), Finding> {
-    let (setting, events) = stuck_tables::history_to(random, kind);
+    let (setting, events) = stuck_tables::history_to(random, form, kind);
     let chains = chains_of_history(random, setting);
     let mut history = History::start(random, setting, chains, both)?;
     for event in events {
@@ -130,10 +143,11 @@ fn history_of_stuck_items(
 fn history_of_stuck_shrink(
     random: &mut Random,
     both: &mut Both,
+    form: u64,
     kind: Kind,
     enough_calls: u64,
 ) -> Result<(), Finding> {
-    let (setting, events) = stuck_shrinks::history_to(random, kind);
+    let (setting, events) = stuck_shrinks::history_to(random, form, kind);
     let chains = chains_of_history(random, setting);
     let at_rest = events.iter().take_while(|event| **event != Event::Shrink).count();
     let table = made_by_model(setting, &events[..at_rest]);
@@ -154,9 +168,9 @@ fn history_of_stuck_shrink(
 }
 
 /// A small table with few items shrinks to its least size, with other events between.
-fn history_of_whole_shrinks(random: &mut Random, both: &mut Both) -> Result<(), Finding> {
+fn history_of_whole_shrinks(random: &mut Random, both: &mut Both, form: u64) -> Result<(), Finding> {
     let c = 2 + random.below(2);
-    let setting = Setting { k: c, ..Setting::of_capacity(random, c) };
+    let setting = Setting { k: c, ..Setting::of_capacity(random, form, c) };
     let chains = chains_of_history(random, setting);
     let mut history = History::start(random, setting, chains, both)?;
     for _ in 0..setting.most_items() / 4 {
@@ -183,6 +197,25 @@ fn history_of_whole_shrinks(random: &mut Random, both: &mut Both) -> Result<(), 
     Ok(())
 }
 
+/// In each phase, inserts that need a move, with every cut of them; and a table that a cut update leaves.
+fn history_of_moves(random: &mut Random, both: &mut Both, form: u64) -> Result<(), Finding> {
+    for phase in Phase::ALL {
+        let (mul1, mul2) = (random.word() | 1, random.word() | 1);
+        let setting = Setting { form, c: 4, k: 3, mul1, mul2 };
+        let chains = chains_of_history(random, setting);
+        let mut history = History::start(random, setting, chains, both)?;
+        history.fill_until_moves(both, phase)?;
+        // It has an interim item, or no interim level.
+        history.change(both, Event::End, Depth::WholeOnly)?;
+        for _ in 0..FLAGGED_TABLES_OF_EACH_PHASE {
+            let mut flagged = history.table.clone();
+            damage::flagged_item(&mut history.random, &mut flagged);
+            history.calls_on(both, flagged)?;
+        }
+    }
+    Ok(())
+}
+
 /// A sound table in the middle of its life, with the plain map beside it.
 struct History {
     random: Random,
@@ -205,9 +238,9 @@ impl History {
         chains: Vec<Chain>,
         both: &mut Both,
     ) -> Result<History, Finding> {
-        let Setting { c, k, mul1, mul2 } = setting;
+        let Setting { form, c, k, mul1, mul2 } = setting;
         let garbage = random.words(table_words(c).unwrap_or(0));
-        let case = Case { call: Call::Create { c, k, mul1, mul2 }, table: garbage, list: vec![] };
+        let case = Case { call: Call::Create { form, c, k, mul1, mul2 }, table: garbage, list: vec![] };
         let table = both.run(&case)?.table;
         Ok(History::from_table(random, setting, chains, table))
     }
@@ -233,7 +266,7 @@ impl History {
             self.some_starts(both)?;
             if self.random.one_in(4) {
                 self.damaged_calls(both)?;
-                wild_calls(&mut self.random, both)?;
+                wild_calls(&mut self.random, both, self.setting.form)?;
             }
             if self.random.one_in(50) {
                 self.mood = Mood::random(&mut self.random);
@@ -278,6 +311,32 @@ impl History {
         }
         self.update_some_item(both)?;
         self.update_some_item(both)
+    }
+
+    /// Inserts until some of them needed a move. The table is half full when it begins to grow or to shrink.
+    fn fill_until_moves(&mut self, both: &mut Both, phase: Phase) -> Result<(), Finding> {
+        let mut moves = 0;
+        for number in 0..2 * self.setting.most_items() {
+            if number == self.setting.most_items() / 4 {
+                self.update_some_item(both)?;
+                match phase {
+                    Phase::AtRest => {}
+                    Phase::Growing => self.change(both, Event::Begin, Depth::WholeOnly)?,
+                    Phase::Shrinking => self.change(both, Event::Shrink, Depth::WholeOnly)?,
+                }
+            }
+            let (key, function, place) = (self.random.word(), self.random.any_word(), self.random.any_word());
+            let insert = Event::Insert { key, function, place };
+            let (_, stores) = insert.list_stores(&self.table, &mut [0; LEAST_LIST_WORDS]);
+            let needs_move = stores == STORES_OF_MOVING_INSERT;
+            let depth = if needs_move { Depth::EveryCut } else { Depth::WholeOnly };
+            self.change(both, insert, depth)?;
+            moves += u64::from(needs_move);
+            if moves == MOVES_OF_EACH_PHASE {
+                break;
+            }
+        }
+        Ok(())
     }
 
     fn update_some_item(&mut self, both: &mut Both) -> Result<(), Finding> {
@@ -472,6 +531,10 @@ impl History {
     fn damaged_calls(&mut self, both: &mut Both) -> Result<(), Finding> {
         let mut table = self.table.clone();
         damage::damage(&mut self.random, &mut table);
+        self.calls_on(both, table)
+    }
+
+    fn calls_on(&mut self, both: &mut Both, mut table: Vec<u64>) -> Result<(), Finding> {
         for call in self.every_call(&table) {
             let list = match call {
                 Call::Chain(chain) => lent_words(&mut self.random, chain),
@@ -481,6 +544,7 @@ impl History {
             let outcome = both.run(&case)?;
             both.tally.chains_of_other_words.count(&case, outcome.number);
             both.tally.phases_of_other_words.count_case(&case, &outcome);
+            both.tally.tags.count_case(&case, &outcome);
             if call == Call::Change(Event::Step) && [SUCCESS, 6].contains(&outcome.number) {
                 step_by_inserts(&table).iter().for_each(|step| both.tally.steps_of_other_words.count(step));
             }
@@ -500,10 +564,12 @@ impl History {
     fn every_call(&mut self, table: &[u64]) -> Vec<Call> {
         let (absent, also_absent) = (self.random.word(), self.random.word());
         let chains = [self.likely_chain(table), self.likely_chain(table)];
+        let under_wrong_tag = key_under_wrong_tag(&mut self.random, table);
         let (from, also_from) = (any_start(&mut self.random, table), any_start(&mut self.random, table));
         let mut key = || self.keys.pick_likely(&mut self.random, table);
         let (function, place) = (key(), key());
-        let mut calls = vec![Call::Query { key: key() }, Call::Query { key: key() }];
+        let queried = [key(), key(), under_wrong_tag.unwrap_or_else(&mut key)];
+        let mut calls = queried.map(|key| Call::Query { key }).to_vec();
         let events = [
             Event::Recover,
             Event::Insert { key: key(), function, place },
