@@ -6,13 +6,13 @@
 #include "table.h"
 #include "twin.h"
 
-uint64_t twin_create(uint64_t *table, size_t words, uint64_t c, uint64_t k, uint64_t mul1, uint64_t mul2)
+uint64_t twin_create(uint64_t *table, size_t words, uint64_t form, uint64_t c, uint64_t k, uint64_t mul1, uint64_t mul2)
 {
-    if (words == 0 || words != RAGANSILS_WORDS(c) || k < 1 || k > c || !both_odd(mul1, mul2))
+    if (!form_good(form) || words == 0 || words != RAGANSILS_WORDS(c) || k < 1 || k > c || !both_odd(mul1, mul2))
         return RAGANSILS_BAD_CREATION;
     memset(table, 0, words * sizeof *table);
     struct table *t = (struct table *)table;
-    t->form = 1;
+    t->form = form;
     t->c = c;
     t->mul1 = mul1;
     t->mul2 = mul2;
@@ -57,13 +57,15 @@ uint64_t twin_insert(uint64_t *table, size_t words, uint64_t key, uint64_t funct
     return place_item(t, (struct slot){key, function, place}, x) ? RAGANSILS_DONE : RAGANSILS_NO_PLACE;
 }
 
-/* The first tests, then 5 where the key stands nowhere. */
-static inline enum ragansils_refusal find_present(const struct table *t, size_t words, uint64_t key, struct found *found)
+/* The first tests, then 5 where the key stands nowhere; else where it stands, and its hashes. */
+static inline enum ragansils_refusal find_present(const struct table *t, size_t words, uint64_t key, struct found *found,
+                                                  struct hashes *x)
 {
     enum ragansils_refusal refusal = first_tests(t, words);
     if (refusal != RAGANSILS_DONE)
         return refusal;
-    *found = find(t, key, hashes_of(t, key));
+    *x = hashes_of(t, key);
+    *found = find(t, key, *x);
     return found->bucket == NULL ? RAGANSILS_KEY_ABSENT : RAGANSILS_DONE;
 }
 
@@ -83,15 +85,16 @@ uint64_t twin_update(uint64_t *table, size_t words, uint64_t key, uint64_t funct
 {
     struct table *t = (struct table *)table;
     struct found found;
-    enum ragansils_refusal refusal = find_present(t, words, key, &found);
+    struct hashes x;
+    enum ragansils_refusal refusal = find_present(t, words, key, &found, &x);
     if (refusal != RAGANSILS_DONE)
         return refusal;
     struct bucket *b = (struct bucket *)found.bucket;
     if (is_full(b)) {
         update_logged(t, &b->slots[found.slot], function, place);
     } else {
-        fill_slot(b, lowest_free(b), (struct slot){key, function, place});
-        clear_slot(b, found.slot);
+        fill_slot(t, b, lowest_free(b), (struct slot){key, function, place}, x.tag);
+        clear_slot(t, b, found.slot);
     }
     return RAGANSILS_DONE;
 }
@@ -100,9 +103,10 @@ uint64_t twin_delete(uint64_t *table, size_t words, uint64_t key)
 {
     struct table *t = (struct table *)table;
     struct found found;
-    enum ragansils_refusal refusal = find_present(t, words, key, &found);
+    struct hashes x;
+    enum ragansils_refusal refusal = find_present(t, words, key, &found, &x);
     if (refusal != RAGANSILS_DONE)
         return refusal;
-    clear_slot((struct bucket *)found.bucket, found.slot);
+    clear_slot(t, (struct bucket *)found.bucket, found.slot);
     return RAGANSILS_DONE;
 }

@@ -7,11 +7,11 @@
 #include "twin.h"
 
 /* "key, function, place, token", as pairs of word index and new word; answers how many. */
-static uint64_t list_item(const struct table *t, struct spot to, struct slot item, uint64_t *list)
+static uint64_t list_item(const struct table *t, struct spot to, struct slot item, uint64_t tag, uint64_t *list)
 {
     uint64_t token = &to.bucket->token - &t->form, key = &to.bucket->slots[to.slot].key - &t->form;
-    uint64_t taken = taken_in(to.bucket) | 1u << to.slot;
-    const uint64_t pairs[] = {key, item.key, key + 1, item.function, key + 2, item.place, token, taken};
+    uint64_t shown = token_with(t, to.bucket, to.slot, tag);
+    const uint64_t pairs[] = {key, item.key, key + 1, item.function, key + 2, item.place, token, shown};
     memcpy(list, pairs, sizeof pairs);
     return sizeof pairs / sizeof pairs[0] / 2;
 }
@@ -29,6 +29,6 @@ uint64_t twin_list_insert(uint64_t *table, size_t words, uint64_t key, uint64_t 
     struct spot to = free_slot(t, x);
     if (to.bucket == NULL)
         return place_item(t, item, x) ? RAGANSILS_DONE : RAGANSILS_NO_PLACE;
-    *stores = list_item(t, to, item, list);
+    *stores = list_item(t, to, item, x.tag, list);
     return RAGANSILS_DONE;
 }

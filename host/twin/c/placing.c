@@ -45,7 +45,8 @@ static inline unsigned move_from(struct table *t, const struct bucket *from, goa
     for (unsigned s = 0; s < SLOTS; s++) {
         struct bucket *to = goal_of(t, from->slots[s].key, from, e);
         if (to != NULL) {
-            fill_slot(to, lowest_free(to), from->slots[s]);
+            /* Its tag comes from its key, whatever tag it stood under. */
+            fill_slot(t, to, lowest_free(to), from->slots[s], hashes_of(t, from->slots[s].key).tag);
             return s;
         }
     }
@@ -93,6 +94,6 @@ bool place_item(struct table *t, struct slot item, struct hashes x)
         to = move_one(t, x, top_exponent(t));
     if (to.bucket == NULL)
         return false;
-    fill_slot(to.bucket, to.slot, item);
+    fill_slot(t, to.bucket, to.slot, item, x.tag);
     return true;
 }

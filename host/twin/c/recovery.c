@@ -21,15 +21,25 @@ static unsigned greatest_exponent(const struct table *t)
     return phase_of(t) == SHRINKING ? interim_exponent(t) : top_exponent(t);
 }
 
-/* "every token word at most 15, and 0 in levels not in use" */
+/* The bits that a token word may have in a level in use: those of its taken slots, with their tags, or any of the four token bits. */
+static inline uint64_t allowed_bits(const struct table *t, const struct bucket *b)
+{
+    if (!is_tagged(t))
+        return ALL_TAKEN;
+    uint64_t allowed = taken_in(b);
+    for (unsigned s = 0; s < SLOTS; s++)
+        allowed |= (is_taken(b, s) ? (uint64_t)LARGEST_TAG : 0) << tag_shift(s);
+    return allowed;
+}
+
+/* "every token word at most 15, and 0 in levels not in use"; with tags, which scan_item tests, the words have no bits besides. */
 static bool tokens_good(const struct table *t)
 {
     for (unsigned e = 0; e <= t->c; e++) {
         bool in_use = least_exponent(t) <= e && e <= greatest_exponent(t);
-        uint64_t greatest = in_use ? ALL_TAKEN : 0;
         size_t size = (size_t)1 << e;
         for (size_t i = size - 1; i < 2 * size - 1; i++)
-            if (t->buckets[i].token > greatest)
+            if ((t->buckets[i].token & ~(in_use ? allowed_bits(t, &t->buckets[i]) : 0)) != 0)
                 return false;
     }
     return true;
@@ -52,11 +62,14 @@ static bool comes_before(const struct table *t, struct spot x, struct spot y)
 }
 
 /* One taken slot of the level of 2^e buckets. Where the lookup of its key ends at the slot itself, it is in a place of its key, and no slot
- * that comes before it there has the key; so where every slot's does, no key stands twice. False where it is in no place of its key. */
+ * that comes before it there has the key; so where every slot's does, no key stands twice. False where it is in no place of its key, or
+ * has another tag: then the lookup passes over it, and may end at a copy. */
 static bool scan_item(struct scan *scan, struct table *t, struct spot x, unsigned e)
 {
     uint64_t key = x.bucket->slots[x.slot].key;
     struct hashes h = hashes_of(t, key);
+    if (tag_in(x.bucket, x.slot) != h.tag)
+        return false;
     struct found found = find(t, key, h);
     if (found.bucket == x.bucket && found.slot == x.slot)
         return true;
@@ -126,6 +139,6 @@ uint64_t twin_recover(uint64_t *table, size_t words)
         return RAGANSILS_DONE;
     if (!same_record(scan.earlier, scan.later))
         return RAGANSILS_NO_KIND;
-    clear_slot(scan.later.bucket, scan.later.slot);
+    clear_slot(t, scan.later.bucket, scan.later.slot);
     return RAGANSILS_DONE;
 }

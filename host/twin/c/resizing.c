@@ -107,7 +107,7 @@ uint64_t twin_step_from(uint64_t *table, size_t words, uint64_t from, uint64_t *
     do {
         struct slot item = spot.bucket->slots[spot.slot];
         /* Read before the item is stored: where that goes is known only once its top buckets have come out of memory. */
-        unsigned left = taken_in(spot.bucket) & ~(1u << spot.slot);
+        uint64_t left = token_without(t, spot.bucket, spot.slot);
         if (place_item(t, item, hashes_of(t, item.key))) {
             spot.bucket->token = left;
             *bucket = spot.bucket - first_interim_bucket(t);

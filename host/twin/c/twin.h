@@ -1,8 +1,8 @@
 /*
- * The twin: a plain level table in the words of document 01, the paper that fixes the table, with the layout, the answers and the
- * refusals of the proved library `collector`, but no proof and no list: a changing call writes the table itself, and leaves the words
- * that making the library's list would leave. It is there to be measured beside, and is no table to be used: a compiler may turn its
- * stores round.
+ * The twin: a plain level table in the words of document 01, the paper that fixes the table, in both forms, with the layout, the answers
+ * and the refusals of the proved library `collector`, but no proof and no list: a changing call writes the table itself, and leaves the
+ * words that making the library's list would leave. It is there to be measured beside, and is no table to be used: a compiler may turn
+ * its stores round.
  *
  * Every call answers document 01's refusal number (enum ragansils_refusal), 0 for success. Without a list there is no refusal 2 or 14.
  * A pointer must be valid for the words handed over with it.
@@ -15,7 +15,8 @@
 
 #include "ragansils.h"
 
-uint64_t twin_create(uint64_t *table, size_t words, uint64_t c, uint64_t k, uint64_t mul1, uint64_t mul2);
+/* Form 1 or 2; every other call is the same for both, and is told the form by the table's first word. */
+uint64_t twin_create(uint64_t *table, size_t words, uint64_t form, uint64_t c, uint64_t k, uint64_t mul1, uint64_t mul2);
 
 uint64_t twin_query(const uint64_t *table, size_t words, uint64_t key, uint64_t answer[RAGANSILS_ANSWER_WORDS]);
 

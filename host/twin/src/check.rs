@@ -9,6 +9,7 @@ use ragansils_compare::random::Random;
 use ragansils_compare::starts::{interim_buckets, Start};
 use ragansils_compare::stuck_items::{step_by_inserts, Kind, StepTally};
 use ragansils_compare::stuck_tables::{history_to, kinds_before};
+use ragansils_compare::tags::{self, key_under_wrong_tag, kinds_in};
 use ragansils_compare::told_slots::LevelTally;
 use ragansils_model::{table_words, Event, SUCCESS};
 use ragansils_twin::{ListingTwin, Proved, Side, Twin};
@@ -24,6 +25,8 @@ pub struct Seen {
     pub numbers: BTreeSet<u64>,
     /// In which levels queries found their keys.
     pub levels: LevelTally,
+    /// How the token words of form 2 were damaged.
+    pub damaged_tags: BTreeSet<tags::Kind>,
     /// Recoveries that mended a table: by one store, and by three.
     pub doubled: u64,
     pub flagged: u64,
@@ -35,8 +38,8 @@ pub struct Seen {
     pub phases: PhaseTally,
 }
 
-/// Makes at least so many calls of each side, or says where they differ.
-pub fn run(seed: u64, calls: u64) -> Result<Seen, String> {
+/// Makes at least so many calls of each side, with tables of one form, or says where they differ.
+pub fn run(seed: u64, calls: u64, form: u64) -> Result<Seen, String> {
     let mut random = Random::new(seed);
     let mut seen = Seen::default();
     for number in 0.. {
@@ -44,17 +47,17 @@ pub fn run(seed: u64, calls: u64) -> Result<Seen, String> {
             break;
         }
         for kind in kinds_before(number) {
-            play_past_stuck_items(&mut random, kind, &mut seen)?;
+            play_past_stuck_items(&mut random, form, kind, &mut seen)?;
         }
-        let setting = Setting::random(&mut random);
+        let setting = Setting::random(&mut random, form);
         History::start(&mut random, setting, &mut seen)?.play(&mut seen, calls)?;
     }
     Ok(seen)
 }
 
 /// A table made for a kind of step grows as far as it can.
-fn play_past_stuck_items(random: &mut Random, kind: Kind, seen: &mut Seen) -> Result<(), String> {
-    let (setting, events) = history_to(random, kind);
+fn play_past_stuck_items(random: &mut Random, form: u64, kind: Kind, seen: &mut Seen) -> Result<(), String> {
+    let (setting, events) = history_to(random, form, kind);
     let mut history = History::start(random, setting, seen)?;
     for event in events {
         history.change(seen, event)?;
@@ -106,8 +109,10 @@ struct History {
 impl History {
     fn start(random: &mut Random, setting: Setting, seen: &mut Seen) -> Result<History, String> {
         let garbage = random.words(table_words(setting.c).unwrap_or(0));
-        let bad = Setting { k: setting.c + 1, ..setting };
-        both_create(seen, bad, &garbage)?;
+        let (no_form, form_3) = (Setting { form: 0, ..setting }, Setting { form: 3, ..setting });
+        for bad in [Setting { k: setting.c + 1, ..setting }, no_form, form_3] {
+            both_create(seen, bad, &garbage)?;
+        }
         let table = both_create(seen, setting, &garbage)?;
         let keys = Keys::random(random, setting);
         let mut own_random = Random::new(random.word());
@@ -182,6 +187,7 @@ impl History {
     fn damaged(&mut self, seen: &mut Seen) -> Result<(), String> {
         let mut table = self.table.clone();
         damage(&mut self.random, &mut table);
+        seen.damaged_tags.extend(kinds_in(&table));
         let key = self.keys.pick_likely(&mut self.random, &table);
         let (function, place) = (self.random.any_word(), self.random.any_word());
         let events = [
@@ -201,16 +207,17 @@ impl History {
         }
         let (start, from) = random_start(&mut self.random, &table);
         both_step_from(seen, &table, start, from)?;
-        both_query(seen, &table, key)
+        both_query(seen, &table, key)?;
+        let hidden = key_under_wrong_tag(&mut self.random, &table);
+        hidden.map_or(Ok(()), |key| both_query(seen, &table, key))
     }
 }
 
 fn both_create(seen: &mut Seen, setting: Setting, garbage: &[u64]) -> Result<Vec<u64>, String> {
-    let Setting { c, k, mul1, mul2 } = setting;
-    let what = || format!("create c={c} k={k} mul1={mul1} mul2={mul2}");
+    let what = || format!("create with {setting:?}");
     let (mut by_library, mut by_twin) = (garbage.to_vec(), garbage.to_vec());
-    let number = Proved::default().create(&mut by_library, c, k, mul1, mul2);
-    let twin_number = Twin.create(&mut by_twin, c, k, mul1, mul2);
+    let number = Proved::default().create(&mut by_library, setting);
+    let twin_number = Twin.create(&mut by_twin, setting);
     seen.note(number);
     same(what, garbage, (number, by_library), (twin_number, by_twin)).map(|(_, table)| table)
 }

@@ -11,6 +11,7 @@ pub use proved::Proved;
 pub use twin::{ListingTwin, Twin};
 
 use ragansils::{Lookup, Refusal};
+use ragansils_compare::history::Setting;
 use ragansils_model::Event;
 
 /// The compiler of the twin, with its options.
@@ -18,7 +19,7 @@ pub const TWIN_COMPILER: &str = env!("RAGANSILS_TWIN_CC");
 
 /// A side of the comparison. Every answer is a number of document 01, the paper that fixes the table; 0 is success.
 pub trait Side {
-    fn create(&mut self, table: &mut [u64], c: u64, k: u64, mul1: u64, mul2: u64) -> u64;
+    fn create(&mut self, table: &mut [u64], setting: Setting) -> u64;
 
     /// The words of the answer are those of `include/ragansils.h`.
     fn query(&self, table: &[u64], key: u64, answer: &mut [u64; Lookup::WORDS]) -> u64;

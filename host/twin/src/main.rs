@@ -1,4 +1,4 @@
-//! `twin-check SEED CALLS`: the twin answers and writes as the proved library does.
+//! `twin-check SEED CALLS`: the twin answers and writes as the proved library does, with half of the calls for each form.
 
 mod check;
 mod phases;
@@ -6,8 +6,9 @@ mod starts;
 
 use std::process::ExitCode;
 
+use ragansils_compare::layout::{FORMS, TAGGED};
 use ragansils_compare::stuck_items::Way;
-use ragansils_compare::{program, say};
+use ragansils_compare::{program, say, tags};
 use ragansils_twin::TWIN_COMPILER;
 
 use crate::check::Seen;
@@ -31,12 +32,19 @@ fn run(arguments: &[String]) -> Result<String, String> {
         Ok(&[seed, calls]) => (seed, calls),
         _ => return Err("usage: twin-check SEED CALLS".to_string()),
     };
-    let seen = check::run(seed, calls).and_then(|seen| demand(&seen, calls).map(|()| seen));
-    let seen = seen.map_err(|what| format!("seed {seed}: {what}"))?;
+    // What one form has met shows nothing of the other.
+    let reports: Result<Vec<String>, String> =
+        FORMS.into_iter().map(|form| run_of_form(seed, calls / 2, form)).collect();
+    reports.map(|reports| reports.join("\n"))
+}
+
+fn run_of_form(seed: u64, calls: u64, form: u64) -> Result<String, String> {
+    let seen = check::run(seed, calls, form).and_then(|seen| demand(&seen, calls, form).map(|()| seen));
+    let seen = seen.map_err(|what| format!("form {form}, seed {seed}: {what}"))?;
     let levels: Vec<String> =
         seen.levels.found.iter().map(|(level, keys)| format!("{keys} {level}")).collect();
     Ok(format!(
-        "{} calls of the twin ({TWIN_COMPILER}) and of the proved library: the same answers and words; seed {seed}; \
+        "form {form}: {} calls of the twin ({TWIN_COMPILER}) and of the proved library: the same answers and words; seed {seed}; \
          keys found by level: {}; {} doubled and {} flagged tables recovered; steps past stuck items: {} to a free slot, {} by a move; \
          {} steps from some start; passes that went on: {} to the end, {} with stuck items left; {}",
         seen.calls,
@@ -53,13 +61,18 @@ fn run(arguments: &[String]) -> Result<String, String> {
 }
 
 /// Says what a run of so many calls should have met.
-fn demand(seen: &Seen, calls: u64) -> Result<(), String> {
+fn demand(seen: &Seen, calls: u64, form: u64) -> Result<(), String> {
     if seen.calls == 0 {
         return Err("no calls were compared".to_string());
     }
     let missing: Vec<u64> = possible_answers().filter(|number| !seen.numbers.contains(number)).collect();
     if calls >= TELLING_CALLS && (!missing.is_empty() || seen.doubled == 0 || seen.flagged == 0) {
         return Err(format!("never met: answers {missing:?}, or a kind of recovery"));
+    }
+    let missing_damage: Vec<tags::Kind> =
+        tags::KINDS.into_iter().filter(|kind| !seen.damaged_tags.contains(kind)).collect();
+    if calls >= TELLING_CALLS && form == TAGGED && !missing_damage.is_empty() {
+        return Err(format!("never met: token words with {missing_damage:?}"));
     }
     let missing_steps = seen.steps.unseen();
     if calls >= TELLING_CALLS && !missing_steps.is_empty() {

@@ -1,6 +1,7 @@
 //! The proved library's side.
 
 use ragansils::{raw, Lookup};
+use ragansils_compare::history::Setting;
 use ragansils_compare::library::list_event;
 use ragansils_model::{Event, LEAST_LIST_WORDS, SUCCESS};
 
@@ -61,9 +62,10 @@ impl Proved {
 }
 
 impl Side for Proved {
-    fn create(&mut self, table: &mut [u64], c: u64, k: u64, mul1: u64, mul2: u64) -> u64 {
+    fn create(&mut self, table: &mut [u64], setting: Setting) -> u64 {
+        let Setting { form, c, k, mul1, mul2 } = setting;
         // SAFETY: the pointer is valid for the length beside it.
-        unsafe { raw::ragansils_create(table.as_mut_ptr(), table.len(), c, k, mul1, mul2) }
+        unsafe { raw::ragansils_create(table.as_mut_ptr(), table.len(), form, c, k, mul1, mul2) }
     }
 
     #[inline(always)]

@@ -2,6 +2,7 @@
 
 use ragansils::raw::ragansils_make;
 use ragansils::Lookup;
+use ragansils_compare::history::Setting;
 use ragansils_model::{Event, LEAST_LIST_WORDS, SUCCESS};
 
 use crate::Side;
@@ -12,7 +13,15 @@ mod raw {
     use ragansils_model::LEAST_LIST_WORDS;
 
     extern "C" {
-        pub fn twin_create(table: *mut u64, words: usize, c: u64, k: u64, mul1: u64, mul2: u64) -> u64;
+        pub fn twin_create(
+            table: *mut u64,
+            words: usize,
+            form: u64,
+            c: u64,
+            k: u64,
+            mul1: u64,
+            mul2: u64,
+        ) -> u64;
         pub fn twin_query(
             table: *const u64,
             words: usize,
@@ -44,9 +53,10 @@ mod raw {
 pub struct Twin;
 
 impl Side for Twin {
-    fn create(&mut self, table: &mut [u64], c: u64, k: u64, mul1: u64, mul2: u64) -> u64 {
+    fn create(&mut self, table: &mut [u64], setting: Setting) -> u64 {
+        let Setting { form, c, k, mul1, mul2 } = setting;
         // SAFETY: the pointer is valid for the length beside it.
-        unsafe { raw::twin_create(table.as_mut_ptr(), table.len(), c, k, mul1, mul2) }
+        unsafe { raw::twin_create(table.as_mut_ptr(), table.len(), form, c, k, mul1, mul2) }
     }
 
     #[inline(always)]
@@ -96,8 +106,8 @@ pub struct ListingTwin {
 }
 
 impl Side for ListingTwin {
-    fn create(&mut self, table: &mut [u64], c: u64, k: u64, mul1: u64, mul2: u64) -> u64 {
-        Twin.create(table, c, k, mul1, mul2)
+    fn create(&mut self, table: &mut [u64], setting: Setting) -> u64 {
+        Twin.create(table, setting)
     }
 
     fn query(&self, table: &[u64], key: u64, answer: &mut [u64; Lookup::WORDS]) -> u64 {
