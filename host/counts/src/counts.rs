@@ -3,6 +3,7 @@
 use ragansils_compare::random::Random;
 
 use crate::fillings::Fillings;
+use crate::forms::{Spread, SOURCES};
 use crate::growths::{growths, Growth};
 use crate::keys::Kind;
 use crate::plan::CountPlan;
@@ -15,6 +16,7 @@ pub struct Counts {
     pub growths: Vec<(Kind, Vec<Growth>)>,
     pub probes: Vec<Probes>,
     pub shrinks: Vec<Shrinks>,
+    pub spreads: Vec<Spread>,
 }
 
 impl Counts {
@@ -39,6 +41,7 @@ impl Counts {
         }
         // Last, so that the counts above are those of before there were shrinks.
         counts.count_shrinks(&mut random, plan, &say)?;
+        counts.count_spreads(&mut random, plan, &say)?;
         Ok(counts)
     }
 
@@ -59,6 +62,20 @@ impl Counts {
         }
         for &c in plan.collector_capacities {
             self.probes.push(shrinking(random, c, Kind::Collector, plan.queries)?);
+        }
+        Ok(())
+    }
+
+    /// After the shrinks, for the same reason.
+    fn count_spreads(
+        &mut self,
+        random: &mut Random,
+        plan: &CountPlan,
+        say: impl Fn(&str),
+    ) -> Result<(), String> {
+        for (&k, source) in plan.spread.iter().flat_map(|k| SOURCES.map(|source| (k, source))) {
+            say(&format!("both forms, k = {k}, {source}"));
+            self.spreads.extend(Spread::count(random, k, source, plan.spreads)?);
         }
         Ok(())
     }

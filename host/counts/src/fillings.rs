@@ -5,7 +5,7 @@ use ragansils_model::Event;
 use ragansils_twin::Proved;
 
 use crate::keys::{Keys, Kind};
-use crate::level::{full_size, slots, LevelTable};
+use crate::level::{full_size, slots, LevelTable, OLD_FORM};
 use crate::middle::Middle;
 use crate::stores::Stores;
 
@@ -50,7 +50,7 @@ impl Fillings {
         let mut fillings =
             Fillings { k, kind, first_refusal: vec![], bottom_share: vec![], bins: [Bin::default(); BINS] };
         for _ in 0..tables {
-            let mut table = LevelTable::new(Proved::default(), full_size(random, k));
+            let mut table = LevelTable::new(Proved::default(), full_size(random, OLD_FORM, k));
             let keys = Keys::new(random, kind, slots(k) + 1, 0);
             fillings.fill(random, &mut table, keys.present())?;
         }

@@ -1,12 +1,12 @@
 //! Tables that grow where an insert finds no place: what each growth moved and stored.
 
-use ragansils::Creation;
+use ragansils_compare::history::Setting;
 use ragansils_compare::random::Random;
 use ragansils_model::{Event, Refusal, SUCCESS};
 use ragansils_twin::{Proved, Side};
 
 use crate::keys::{Keys, Kind};
-use crate::level::{full_size, slots, LevelTable};
+use crate::level::{full_size, slots, LevelTable, OLD_FORM};
 use crate::stores::Stores;
 
 /// A table's top has 2^k buckets for this k before its first growth.
@@ -50,8 +50,8 @@ impl Growth {
 
 /// A table that grows to capacity `c`, again and again, until an insert finds no place in the largest top.
 pub fn growths(random: &mut Random, kind: Kind, c: u64) -> Result<Vec<Growth>, String> {
-    let creation = Creation { first_top: FIRST_K, ..full_size(random, c) };
-    let mut table = LevelTable::new(Proved::default(), creation);
+    let setting = Setting { k: FIRST_K, ..full_size(random, OLD_FORM, c) };
+    let mut table = LevelTable::new(Proved::default(), setting);
     let keys = Keys::new(random, kind, slots(c), 0);
     let mut growths = vec![];
     let mut k = FIRST_K;
@@ -101,8 +101,8 @@ mod tests {
     #[test]
     fn a_growth_moves_the_items_of_the_bottom() {
         let mut random = Random::new(3);
-        let creation = Creation { first_top: FIRST_K, ..full_size(&mut random, FIRST_K + 1) };
-        let mut table = LevelTable::new(Proved::default(), creation);
+        let setting = Setting { k: FIRST_K, ..full_size(&mut random, OLD_FORM, FIRST_K + 1) };
+        let mut table = LevelTable::new(Proved::default(), setting);
         let items = slots(FIRST_K) * 3 / 4;
         table.fill(Keys::new(&mut random, Kind::Random, items, 0).present()).unwrap();
         let in_bottom = table.items_in_bottom();
@@ -127,8 +127,8 @@ mod tests {
     /// The table of docs/CUTS.md whose next step has to move another item first.
     #[test]
     fn a_step_that_moves_another_item() {
-        let creation = Creation { capacity: 2, first_top: 1, multipliers: [4294967297, 12884901889] };
-        let mut table = LevelTable::new(Proved::default(), creation);
+        let setting = Setting { form: OLD_FORM, c: 2, k: 1, mul1: 4294967297, mul2: 12884901889 };
+        let mut table = LevelTable::new(Proved::default(), setting);
         table.fill(&[29, 6, 28, 14, 8, 15, 10]).unwrap();
         assert!(table.change(Event::Begin));
         table.fill(&[5, 37, 35, 19, 36, 27, 21, 32, 22, 34, 3, 9, 18, 30, 11, 1, 24]).unwrap();
@@ -146,7 +146,7 @@ mod tests {
 
     #[test]
     fn a_table_at_its_capacity_does_not_grow() {
-        let mut table = LevelTable::new(Proved::default(), full_size(&mut Random::new(1), 4));
+        let mut table = LevelTable::new(Proved::default(), full_size(&mut Random::new(1), OLD_FORM, 4));
         let refused = grow(&mut table, 4, 0).map(|growth| growth.k);
         assert_eq!(refused, Err("a growth from k = 4 was refused with 9".to_string()));
     }

@@ -1,12 +1,12 @@
 //! Tables before their last growth, and in the middle of a growth or a shrink.
 
-use ragansils::Creation;
+use ragansils_compare::history::Setting;
 use ragansils_model::{Event, Table, SUCCESS};
 use ragansils_twin::{Proved, Side};
 
 /// The creation from which a table of capacity `c` grows for the last time.
-pub fn last_growth(creation: Creation) -> Creation {
-    Creation { first_top: creation.capacity - 1, ..creation }
+pub fn last_growth(setting: Setting) -> Setting {
+    Setting { k: setting.c - 1, ..setting }
 }
 
 /// Brings a level table into the middle of a growth or a shrink: begun by its event, and half of the interim items moved. A step is
@@ -32,13 +32,13 @@ pub fn half_way(words: &mut [u64], begin: Event) -> Result<(), String> {
 #[cfg(test)]
 mod tests {
     use super::*;
-    use crate::{full_size, LevelTable};
+    use crate::{full_size, LevelTable, OLD_FORM};
     use ragansils_compare::random::Random;
 
     #[test]
     fn half_of_the_bottom_is_left_in_the_interim() {
-        let creation = last_growth(full_size(&mut Random::new(1), 6));
-        let mut table = LevelTable::new(Proved::default(), creation);
+        let setting = last_growth(full_size(&mut Random::new(1), OLD_FORM, 6));
+        let mut table = LevelTable::new(Proved::default(), setting);
         table.fill(&(1..=150).collect::<Vec<u64>>()).unwrap();
         let in_bottom = table.items_in_bottom();
         assert!(in_bottom > 1);
@@ -48,7 +48,7 @@ mod tests {
 
     #[test]
     fn half_of_the_top_is_left_in_the_interim() {
-        let mut table = LevelTable::new(Proved::default(), full_size(&mut Random::new(1), 6));
+        let mut table = LevelTable::new(Proved::default(), full_size(&mut Random::new(1), OLD_FORM, 6));
         table.fill(&(1..=150).collect::<Vec<u64>>()).unwrap();
         let in_top = 150 - table.items_in_bottom();
         half_way(&mut table.words, Event::Shrink).unwrap();

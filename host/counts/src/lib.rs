@@ -6,12 +6,13 @@
 //! - `middle`: what is said of many numbers; `markdown`: how tables are written;
 //! - `keys`, `level`, `half_way`: the keys, the tables that take them, and tables in a growth or a shrink;
 //! - `plan`: how much is counted;
-//! - `stores`: the stores of calls; `fillings`, `growths`, `shrinks`, `probes`: what is counted;
+//! - `stores`: the stores of calls; `fillings`, `growths`, `shrinks`, `probes`, `forms`: what is counted;
 //! - `counts`: all of it; `article`, `sections`: what is written of it.
 
 mod article;
 mod counts;
 mod fillings;
+mod forms;
 mod growths;
 mod half_way;
 mod keys;
@@ -26,11 +27,13 @@ mod stores;
 
 pub use counts::Counts;
 pub use fillings::{Bin, Fillings, BINS};
+pub use forms::{Source, Spread};
 pub use growths::Growth;
 pub use half_way::{half_way, last_growth};
 pub use keys::{draw, sampled_addresses, shuffle, Keys, Kind};
-pub use level::{full_size, items_at, record_of, slots_of, LevelTable, Record};
+pub use level::{full_size, items_at, record_of, slots_of, LevelTable, Record, NEW_FORM, OLD_FORM};
 pub use middle::Middle;
 pub use probes::Probes;
+pub use sections::spread_table;
 pub use shrinks::{Shrinks, SHRINK_LOADS};
 pub use stores::Stores;

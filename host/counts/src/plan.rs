@@ -17,6 +17,9 @@ pub struct CountPlan {
     /// The k of tables that shrink at each load, and how many of each.
     pub shrunk: &'static [u64],
     pub shrinks: u64,
+    /// The k of tables that are filled in both forms, and how many of each.
+    pub spread: &'static [u64],
+    pub spreads: usize,
     /// The capacities of tables whose queries are counted; host/bench measures everything at these.
     pub capacities: &'static [u64],
     /// Those at which the keys of a collector are tried too.
@@ -31,6 +34,8 @@ pub const FULL: CountPlan = CountPlan {
     grown_again: 15,
     shrunk: &[4, 6, 8, 10, 12, 14, 16],
     shrinks: 100,
+    spread: &[8, 14, 18],
+    spreads: 9,
     capacities: &[8, 14, 18, 20],
     collector_capacities: &[14, 18],
     queries: 40_000,
@@ -42,6 +47,8 @@ pub const QUICK: CountPlan = CountPlan {
     grown_again: 10,
     shrunk: &[4, 8, 11],
     shrinks: 20,
+    spread: &[8, 12],
+    spreads: 5,
     capacities: &[8, 14],
     collector_capacities: &[14],
     queries: 10_000,

@@ -1,13 +1,13 @@
 //! The buckets that a query looks at.
 
-use ragansils::Creation;
+use ragansils_compare::history::Setting;
 use ragansils_compare::random::Random;
 use ragansils_model::Event;
 use ragansils_twin::{Proved, Side};
 
 use crate::half_way::{half_way, last_growth};
 use crate::keys::{Keys, Kind};
-use crate::level::{full_size, items_at, LevelTable};
+use crate::level::{full_size, items_at, LevelTable, OLD_FORM};
 use crate::plan::{HIGH_LOAD, LOADS, SHRINKING_LOAD};
 
 /// Buckets that a query looks at on average.
@@ -26,8 +26,8 @@ pub fn probes(random: &mut Random, c: u64, kind: Kind, queries: usize) -> Result
 }
 
 fn at_rest(random: &mut Random, c: u64, kind: Kind, queries: usize) -> Result<Vec<Probes>, String> {
-    let creation = full_size(random, c);
-    let mut filled = Filled::empty(random, creation, kind, queries);
+    let setting = full_size(random, OLD_FORM, c);
+    let mut filled = Filled::empty(random, setting, kind, queries);
     let mut all = vec![];
     for load in LOADS {
         filled.fill(load)?;
@@ -37,8 +37,8 @@ fn at_rest(random: &mut Random, c: u64, kind: Kind, queries: usize) -> Result<Ve
 }
 
 fn growing(random: &mut Random, c: u64, kind: Kind, queries: usize) -> Result<Probes, String> {
-    let creation = last_growth(full_size(random, c));
-    let mut filled = Filled::empty(random, creation, kind, queries);
+    let setting = last_growth(full_size(random, OLD_FORM, c));
+    let mut filled = Filled::empty(random, setting, kind, queries);
     filled.fill(HIGH_LOAD)?;
     half_way(&mut filled.table.words, Event::Begin)?;
     filled.probes(random, "growing")
@@ -46,8 +46,8 @@ fn growing(random: &mut Random, c: u64, kind: Kind, queries: usize) -> Result<Pr
 
 /// The same in the middle of a shrink.
 pub fn shrinking(random: &mut Random, c: u64, kind: Kind, queries: usize) -> Result<Probes, String> {
-    let creation = full_size(random, c);
-    let mut filled = Filled::empty(random, creation, kind, queries);
+    let setting = full_size(random, OLD_FORM, c);
+    let mut filled = Filled::empty(random, setting, kind, queries);
     filled.fill(SHRINKING_LOAD)?;
     half_way(&mut filled.table.words, Event::Shrink)?;
     filled.probes(random, "shrinking")
@@ -55,7 +55,7 @@ pub fn shrinking(random: &mut Random, c: u64, kind: Kind, queries: usize) -> Res
 
 /// A table that holds the first so many of some keys.
 struct Filled {
-    creation: Creation,
+    setting: Setting,
     table: LevelTable<Proved>,
     keys: Keys,
     items: usize,
@@ -64,15 +64,15 @@ struct Filled {
 
 impl Filled {
     /// None yet, of keys enough for the highest load and for so many queries of absent ones.
-    fn empty(random: &mut Random, creation: Creation, kind: Kind, queries: usize) -> Filled {
-        let table = LevelTable::new(Proved::default(), creation);
-        let keys = Keys::new(random, kind, items_at(creation, HIGH_LOAD), queries);
-        Filled { creation, table, keys, items: 0, queries }
+    fn empty(random: &mut Random, setting: Setting, kind: Kind, queries: usize) -> Filled {
+        let table = LevelTable::new(Proved::default(), setting);
+        let keys = Keys::new(random, kind, items_at(setting, HIGH_LOAD), queries);
+        Filled { setting, table, keys, items: 0, queries }
     }
 
     /// Fails where the table's multipliers spread the keys so badly that refusal 6 comes before the load.
     fn fill(&mut self, load: f64) -> Result<(), String> {
-        let items = items_at(self.creation, load);
+        let items = items_at(self.setting, load);
         let fresh = &self.keys.present()[self.items..items];
         let name = self.name(&format!("to load {load}"));
         self.table.fill(fresh).map_err(|what| format!("{name}: {what}"))?;
@@ -81,7 +81,7 @@ impl Filled {
     }
 
     fn name(&self, when: &str) -> String {
-        format!("c = {}, {when}, {}", self.creation.capacity, self.keys.kind.name())
+        format!("c = {}, {when}, {}", self.setting.c, self.keys.kind.name())
     }
 
     fn probes(&self, random: &mut Random, when: &str) -> Result<Probes, String> {
@@ -136,8 +136,8 @@ mod tests {
 
     #[test]
     fn an_answer_that_should_not_come() {
-        let creation = full_size(&mut Random::new(1), 3);
-        let filled = Filled::empty(&mut Random::new(2), creation, Kind::Collector, 5);
+        let setting = full_size(&mut Random::new(1), OLD_FORM, 3);
+        let filled = Filled::empty(&mut Random::new(2), setting, Kind::Collector, 5);
         assert_eq!(filled.looked_at(&[7], true), Err("a query finds None".to_string()));
         assert!(filled.looked_at(&[7], false).is_ok());
     }

@@ -3,6 +3,7 @@
 use crate::article;
 use crate::counts::Counts;
 use crate::fillings::Bin;
+use crate::forms::{Spread, LOAD_OF_BOTTOM, LOAD_OF_TOP};
 use crate::growths::Growth;
 use crate::keys::Kind;
 use crate::markdown::{heads, table};
@@ -19,6 +20,7 @@ impl Counts {
             growth_table(self),
             shrink_table(self),
             store_table(self),
+            spread_table(&self.spreads),
         ]
         .join("\n")
     }
@@ -145,6 +147,40 @@ fn store_table(counts: &Counts) -> String {
     table(title, &heads(&["change", "calls", "calls by their stores", "stores on average"]), rows)
 }
 
+/// How well each form spreads keys.
+pub fn spread_table(spreads: &[Spread]) -> String {
+    let rows = spreads.iter().map(|spread| {
+        let [top, bottom] = spread.fullest();
+        vec![
+            spread.k.to_string(),
+            spread.source.to_string(),
+            spread.form.to_string(),
+            spread.first_refusal.len().to_string(),
+            format!("{:.3}", spread.least_load()),
+            format!("**{:.3}**", spread.load()),
+            format!("**{top:.2}**"),
+            format!("**{bottom:.2}**"),
+        ]
+    });
+    let names = [
+        "k",
+        "keys",
+        "form",
+        "tables",
+        "least load",
+        "median load",
+        "fullest tenth, top",
+        "fullest tenth, bottom",
+    ];
+    let title = format!(
+        "### Both forms\n\nAll counts above are of tables of form 1. Here each table is filled in both forms, with the same keys and \
+         multipliers, until the first refusal 6. The fullest tenth of the buckets is looked at in the top at load {LOAD_OF_TOP} and in \
+         the bottom at load {LOAD_OF_BOTTOM}: how many of the four slots of such a bucket are taken on average, in the middle one of \
+         the tables."
+    );
+    table(&title, &heads(&names), rows)
+}
+
 #[cfg(test)]
 mod tests {
     use crate::plan::CountPlan;
@@ -156,6 +192,8 @@ mod tests {
         grown_again: 6,
         shrunk: &[6],
         shrinks: 4,
+        spread: &[4],
+        spreads: 3,
         capacities: &[5],
         collector_capacities: &[5],
         queries: 100,
@@ -182,6 +220,7 @@ mod tests {
             "Growths, each begun at the first refusal 6",
             "Shrinks",
             "Stores of a change",
+            "Both forms",
         ];
         assert_eq!(titles, expected);
         assert!(text.ends_with(" |\n") && !text.contains("NaN"), "{text}");

@@ -6,7 +6,7 @@ use ragansils_twin::{Proved, Side};
 
 use crate::growths::{change, MOVING_STEP};
 use crate::keys::{Keys, Kind};
-use crate::level::{full_size, slots, LevelTable};
+use crate::level::{full_size, slots, LevelTable, OLD_FORM};
 use crate::stores::Stores;
 
 /// The loads at which shrinks begin. Afterwards the table has half as many slots.
@@ -39,7 +39,7 @@ impl Shrinks {
         let mut shrinks =
             Shrinks { kind, k, load, items: items as u64, bounds, steps, ended, stuck, turns, grown_again };
         for _ in 0..tables {
-            let mut table = LevelTable::new(Proved::default(), full_size(random, k));
+            let mut table = LevelTable::new(Proved::default(), full_size(random, OLD_FORM, k));
             table.fill(Keys::new(random, kind, items, 0).present())?;
             shrinks.shrink(&mut table)?;
         }
@@ -112,7 +112,7 @@ mod tests {
     #[test]
     fn a_shrink_moves_the_items_of_the_top() {
         let mut random = Random::new(1);
-        let mut table = LevelTable::new(Proved::default(), full_size(&mut random, 5));
+        let mut table = LevelTable::new(Proved::default(), full_size(&mut random, OLD_FORM, 5));
         table.fill(Keys::new(&mut random, Kind::Random, slots(5) / 4, 0).present()).unwrap();
         let in_top = slots(5) / 4 - table.items_in_bottom();
         change(&mut table, Event::Shrink, &mut Stores::default()).unwrap();

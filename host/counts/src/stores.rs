@@ -73,12 +73,12 @@ impl Sum for Stores {
 #[cfg(test)]
 mod tests {
     use super::*;
-    use crate::level::full_size;
+    use crate::level::{full_size, OLD_FORM};
     use ragansils_compare::random::Random;
 
     #[test]
     fn a_listed_change_is_counted_and_not_made() {
-        let mut table = LevelTable::new(Proved::default(), full_size(&mut Random::new(1), 4));
+        let mut table = LevelTable::new(Proved::default(), full_size(&mut Random::new(1), OLD_FORM, 4));
         table.fill(&[5]).unwrap();
         let before = table.words.clone();
         let mut stores = Stores::default();
@@ -92,7 +92,7 @@ mod tests {
 
     #[test]
     fn a_refusal_is_no_call_with_stores() {
-        let mut table = LevelTable::new(Proved::default(), full_size(&mut Random::new(1), 4));
+        let mut table = LevelTable::new(Proved::default(), full_size(&mut Random::new(1), OLD_FORM, 4));
         let mut stores = Stores::default();
         let refused = stores.count_listed(&mut table, Event::Delete { key: 5 });
         assert_eq!(refused, Err("Delete { key: 5 } was refused with 5".to_string()));
