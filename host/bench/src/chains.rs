@@ -5,7 +5,7 @@ use std::path::Path;
 use ragansils::Record;
 use ragansils_compare::random::Random;
 use ragansils_counts::plan::HIGH_LOAD;
-use ragansils_counts::{draw, full_size, items_at, sampled_addresses, shuffle, LevelTable};
+use ragansils_counts::{draw, full_size, items_at, sampled_addresses, shuffle, LevelTable, NEW_FORM};
 use ragansils_model::SUCCESS;
 use ragansils_twin::{Proved, Side};
 
@@ -99,11 +99,11 @@ struct Frames {
 
 impl Frames {
     fn new(random: &mut Random, depths: u64) -> Result<Frames, String> {
-        let creation = full_size(random, C);
-        let addresses = sampled_addresses(random, items_at(creation, HIGH_LOAD) / depths as usize);
+        let setting = full_size(random, NEW_FORM, C);
+        let addresses = sampled_addresses(random, items_at(setting, HIGH_LOAD) / depths as usize);
         let mut keys: Vec<u64> = addresses.iter().flat_map(|&address| keys_of(address, depths)).collect();
         shuffle(random, &mut keys);
-        let mut table = LevelTable::new(Proved::default(), creation);
+        let mut table = LevelTable::new(Proved::default(), setting);
         table.fill(&keys)?;
         let sampled = draw(random, &addresses, KEYS / depths as usize);
         Ok(Frames { table, depths, sampled })

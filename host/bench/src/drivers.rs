@@ -1,6 +1,7 @@
 //! The ways through a whole growth or a whole shrink of a level table, from its beginning to its end, and the tables that go them.
 
-use ragansils::{calls, Creation, OrdinaryMemory, Refusal, Table};
+use ragansils::{calls, OrdinaryMemory, Refusal, Table};
+use ragansils_compare::history::Setting;
 use ragansils_compare::random::Random;
 use ragansils_counts::{items_at, Keys, Kind, LevelTable};
 use ragansils_model::{Event, SUCCESS};
@@ -98,9 +99,9 @@ pub struct Level {
 }
 
 impl Level {
-    pub fn new(random: &mut Random, creation: Creation, load: f64) -> Result<Level, String> {
-        let keys = Keys::new(random, Kind::Random, items_at(creation, load), 0);
-        let mut table = LevelTable::new(Proved::default(), creation);
+    pub fn new(random: &mut Random, setting: Setting, load: f64) -> Result<Level, String> {
+        let keys = Keys::new(random, Kind::Random, items_at(setting, load), 0);
+        let mut table = LevelTable::new(Proved::default(), setting);
         table.fill(keys.present())?;
         let items_in_bottom = table.items_in_bottom();
         Ok(Level { keys, words: table.words.clone(), before: table.words, items_in_bottom })

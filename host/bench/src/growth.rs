@@ -7,7 +7,7 @@ use std::path::Path;
 
 use ragansils_compare::random::Random;
 use ragansils_counts::plan::HIGH_LOAD;
-use ragansils_counts::{full_size, last_growth};
+use ragansils_counts::{full_size, last_growth, NEW_FORM};
 
 use crate::clock::timed;
 use crate::drivers::{repeats, Driver, Level, GOING_ON, OLD_WAY};
@@ -51,8 +51,8 @@ pub fn run_counted(side: &str, c: u64) -> Result<usize, String> {
 
 /// A level table that is about to grow for the last time.
 pub fn level(random: &mut Random, c: u64) -> Result<Level, String> {
-    let creation = last_growth(full_size(random, c));
-    Level::new(random, creation, HIGH_LOAD)
+    let setting = last_growth(full_size(random, NEW_FORM, c));
+    Level::new(random, setting, HIGH_LOAD)
 }
 
 /// All that grows to one capacity.

@@ -7,7 +7,7 @@ use std::path::Path;
 
 use ragansils_compare::random::Random;
 use ragansils_counts::plan::HIGH_LOAD;
-use ragansils_counts::{full_size, items_at, Keys, Kind};
+use ragansils_counts::{full_size, items_at, Keys, Kind, OLD_FORM};
 
 use crate::builds::{BuildCounts, BuildTimes, Builds, Part};
 use crate::instructions::{count_run, count_usual, counted_calls, SEED};
@@ -65,7 +65,7 @@ pub fn measure(
     let builds = Builds::with(before)?;
     say("instructions");
     let insert_counts =
-        builds.counts(|program, side| count_usual(program, Operation::Insert, side, folder))?;
+        builds.counts(|program, side| count_usual(program, Operation::Insert, side, OLD_FORM, folder))?;
     let c = COUNTED_C.to_string();
     let import_counts =
         builds.counts(|program, side| count_run(program, &["counted-import", side, &c], folder))?;
@@ -82,7 +82,7 @@ fn inserts_beside_the_twin(plan: &Plan, random: &mut Random) -> Result<Vec<Measu
     for (c, kind) in TARGET_CAPACITIES.into_iter().flat_map(|c| [(c, Kind::Random), (c, Kind::Collector)]) {
         // One seed in fifty or so draws multipliers that spread a collector's keys too badly for the high load.
         let at = |error| format!("inserts, c = {c}, {}: {error}; try another seed", kind.name());
-        measured.extend(inserts(plan, random, c, kind, two_sides).map_err(at)?);
+        measured.extend(inserts(plan, random, (OLD_FORM, c), kind, two_sides).map_err(at)?);
     }
     Ok(measured)
 }
@@ -100,9 +100,9 @@ fn import_times(builds: &Builds, random: &mut Random) -> Result<Vec<BuildTimes>,
 /// Fills one table by one side, under valgrind, and answers how many keys came in.
 pub fn run_counted(side: &str, c: u64) -> Result<usize, String> {
     let mut random = Random::new(SEED);
-    let creation = full_size(&mut random, c);
-    let keys = Keys::new(&mut random, Kind::Random, items_at(creation, HIGH_LOAD), 0);
-    let mut peer = one_side(creation, side)?;
+    let setting = full_size(&mut random, OLD_FORM, c);
+    let keys = Keys::new(&mut random, Kind::Random, items_at(setting, HIGH_LOAD), 0);
+    let mut peer = one_side(setting, side)?;
     let mut accepted = 0;
     counted_calls(&mut || peer.insert_all(keys.present()), &mut accepted);
     peer.check_accepted(accepted, keys.present())?;

@@ -6,7 +6,7 @@ use std::path::{Path, PathBuf};
 use std::process::Command;
 
 use ragansils_compare::random::Random;
-use ragansils_counts::{full_size, items_at, Keys, Kind};
+use ragansils_counts::{full_size, items_at, Keys, Kind, NEW_FORM};
 use ragansils_model::table_words;
 
 use crate::operations::{split_by_update, Filled, Operation};
@@ -44,19 +44,32 @@ pub fn count_all(folder: &Path) -> Result<Vec<Counted>, String> {
     let recoveries = RECOVERED.into_iter().map(|c| (Operation::Recovery, c));
     let all = calls.map(|operation| (operation, USUAL_C)).chain(recoveries);
     all.map(|(operation, c)| {
-        let count = |side| count(&program, operation, side, c, folder);
+        let count = |side| count(&program, operation, side, (NEW_FORM, c), folder);
         Ok(Counted { c, operation, library: count(LIBRARY)?, twin: count(TWIN)? })
     })
     .collect()
 }
 
-fn count(program: &Path, operation: Operation, side: &str, c: u64, folder: &Path) -> Result<Count, String> {
-    count_run(program, &["counted", operation.name(), side, &c.to_string()], folder)
+fn count(
+    program: &Path,
+    operation: Operation,
+    side: &str,
+    (form, c): (u64, u64),
+    folder: &Path,
+) -> Result<Count, String> {
+    let arguments = ["counted", operation.name(), side, &form.to_string(), &c.to_string()];
+    count_run(program, &arguments, folder)
 }
 
-/// One operation of one side, in the usual table, by a build of this program.
-pub fn count_usual(program: &Path, operation: Operation, side: &str, folder: &Path) -> Result<Count, String> {
-    count(program, operation, side, USUAL_C, folder)
+/// One operation of one side, in the usual table of a form, by a build of this program.
+pub fn count_usual(
+    program: &Path,
+    operation: Operation,
+    side: &str,
+    form: u64,
+    folder: &Path,
+) -> Result<Count, String> {
+    count(program, operation, side, (form, USUAL_C), folder)
 }
 
 /// The growths and shrinks whose instructions are counted: to and from capacities of tables that valgrind fills in some seconds.
@@ -129,14 +142,14 @@ fn call_all(operation: Operation, peer: &mut dyn Peer, keys: &[u64]) -> u64 {
 }
 
 /// Runs one operation of one side, under valgrind, and answers how many calls it was, or words that it recovered.
-pub fn run_counted(name: &str, side: &str, c: u64) -> Result<usize, String> {
+pub fn run_counted(name: &str, side: &str, form: u64, c: u64) -> Result<usize, String> {
     let operation = Operation::ALL.into_iter().find(|operation| operation.name() == name);
     let operation = operation.ok_or_else(|| format!("no operation {name}"))?;
     let mut random = Random::new(SEED);
-    let creation = full_size(&mut random, c);
-    let items = items_at(creation, LOAD);
+    let setting = full_size(&mut random, form, c);
+    let items = items_at(setting, LOAD);
     let keys = Keys::new(&mut random, Kind::Random, items + CALLS / 10, CALLS);
-    let peers = vec![one_side(creation, side)?];
+    let peers = vec![one_side(setting, side)?];
     let mut filled = Filled { c, peers, keys: &keys, items: 0, when: String::new() };
     filled.fill(items)?;
     let peer = &mut filled.peers[0];

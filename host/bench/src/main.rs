@@ -7,6 +7,7 @@
 //! - `drivers`: the ways through a growth or a shrink;
 //! - `operations`, `recovery`, `growth` and `shrink` with their limits, `chains`: what is timed; `instructions`: what valgrind counts of it;
 //! - `builds`: what is measured before a change of the library and after it; `import`, `queries`: this, with their limits;
+//! - `forms`: form 2 beside form 1, with its limits;
 //! - `plan`, `run`: how much, and all of it;
 //! - `svg`, `chart`, `plots`, `report`: what is written of it.
 //!
@@ -18,6 +19,7 @@ mod chains;
 mod chart;
 mod clock;
 mod drivers;
+mod forms;
 mod growth;
 mod import;
 mod instructions;
@@ -47,7 +49,7 @@ use crate::rounds::Measured;
 use crate::run::{Results, Run};
 
 const USAGE: &str =
-    "usage: ragansils-bench quick|full SEED OUT-FOLDER LMDB-FOLDER   or   ragansils-bench chains|growth|shrink SEED OUT-FOLDER   or   \
+    "usage: ragansils-bench quick|full SEED OUT-FOLDER LMDB-FOLDER   or   ragansils-bench chains|growth|shrink|forms SEED OUT-FOLDER   or   \
     ragansils-bench import|query SEED OUT-FOLDER BUILD-WITH-THE-LIBRARY-BEFORE";
 
 fn main() -> ExitCode {
@@ -60,6 +62,7 @@ fn command(arguments: &[String]) -> Result<(), String> {
         ["chains", seed, out] => chains_alone(number(seed)?, Path::new(out)),
         ["growth", seed, out] => growth_alone(number(seed)?, Path::new(out)),
         ["shrink", seed, out] => shrink_alone(number(seed)?, Path::new(out)),
+        ["forms", seed, out] => forms_alone(number(seed)?, Path::new(out)),
         ["import", seed, out, before] => import_alone(number(seed)?, Path::new(out), Path::new(before)),
         ["query", seed, out, before] => query_alone(number(seed)?, Path::new(out), Path::new(before)),
         ["quick", seed, out, lmdb] => bench(&plan::QUICK, number(seed)?, Path::new(out), Path::new(lmdb)),
@@ -72,8 +75,9 @@ fn command(arguments: &[String]) -> Result<(), String> {
 fn by_itself(words: &[&str]) -> Result<String, String> {
     match *words {
         // These five under valgrind.
-        ["counted", operation, side, c] => {
-            instructions::run_counted(operation, side, number(c)?).map(|calls| calls.to_string())
+        ["counted", operation, side, form, c] => {
+            instructions::run_counted(operation, side, number(form)?, number(c)?)
+                .map(|calls| calls.to_string())
         }
         ["counted-frames", way, depths] => {
             chains::run_counted(way, number(depths)?).map(|calls| calls.to_string())
@@ -87,6 +91,7 @@ fn by_itself(words: &[&str]) -> Result<String, String> {
         ["query-round", when, c, seed] => {
             queries::run_round(when, number(c)?, number(seed)?).map(|times| times.to_string())
         }
+        ["form-round", c, seed] => forms::run_round(number(c)?, number(seed)?).map(|times| times.to_string()),
         _ => Err(USAGE.to_string()),
     }
 }
@@ -118,6 +123,14 @@ fn shrink_alone(seed: u64, out: &Path) -> Result<(), String> {
     let shrinks = shrink::measure(&plan::FULL, seed, out, |part| note(begun, part))?;
     write_section("shrink", out, report::shrinks(&shrinks, seed), shrinks.times.iter())?;
     shrinks.check()
+}
+
+/// Writes the section, and then says where form 2 costs more than it may.
+fn forms_alone(seed: u64, out: &Path) -> Result<(), String> {
+    let begun = Instant::now();
+    let forms = forms::measure(&plan::FULL.counts, seed, out, |part| note(begun, part))?;
+    write_section("forms", out, report::forms(&forms, seed), forms.times.iter())?;
+    forms.check()
 }
 
 /// Writes the section, and then says where an insert or an import costs more than it may.

@@ -1,6 +1,6 @@
 //! Queries, inserts, updates and deletes of all peers at a load.
 
-use ragansils::Creation;
+use ragansils_compare::history::Setting;
 use ragansils_compare::random::Random;
 use ragansils_counts::plan::{HIGH_LOAD, LOADS};
 use ragansils_counts::{draw, full_size, half_way, items_at, record_of, slots_of, Keys, Kind};
@@ -57,26 +57,26 @@ impl Operation {
 }
 
 /// How many keys inserts bring in by turns with deletes.
-pub fn few_of(creation: Creation) -> usize {
-    (slots_of(creation) / FEW_SHARE).max(FEW_AT_LEAST)
+pub fn few_of(setting: Setting) -> usize {
+    (slots_of(setting) / FEW_SHARE).max(FEW_AT_LEAST)
 }
 
-/// Inserts alone, at each load, by the peers that `peers` makes.
+/// Inserts alone into tables of a form and a capacity, at each load, by the peers that `peers` makes.
 pub fn inserts(
     plan: &Plan,
     random: &mut Random,
-    c: u64,
+    (form, c): (u64, u64),
     kind: Kind,
-    peers: fn(Creation) -> Vec<Box<dyn Peer>>,
+    peers: fn(Setting) -> Vec<Box<dyn Peer>>,
 ) -> Result<Vec<Measured>, String> {
-    let creation = full_size(random, c);
-    let (rounds, calls, few) = (plan.rounds_at(c), plan.calls, few_of(creation));
-    let keys = Keys::new(random, kind, items_at(creation, HIGH_LOAD) + 4 * few, 0);
-    let mut filled = Filled { c, peers: peers(creation), keys: &keys, items: 0, when: String::new() };
+    let setting = full_size(random, form, c);
+    let (rounds, calls, few) = (plan.rounds_at(c), plan.calls, few_of(setting));
+    let keys = Keys::new(random, kind, items_at(setting, HIGH_LOAD) + 4 * few, 0);
+    let mut filled = Filled { c, peers: peers(setting), keys: &keys, items: 0, when: String::new() };
     let mut measured = vec![];
     for load in LOADS {
         filled.when = format!("load {load}");
-        filled.fill(items_at(creation, load))?;
+        filled.fill(items_at(setting, load))?;
         let [inserts, _deletes] = filled.inserts_and_deletes(random, rounds, calls, few)?;
         measured.push(inserts);
     }

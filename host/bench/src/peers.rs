@@ -12,8 +12,8 @@ use std::path::Path;
 
 pub use level::swap_words;
 
-use ragansils::Creation;
-use ragansils_counts::{record_of, Record};
+use ragansils_compare::history::Setting;
+use ragansils_counts::{record_of, Record, NEW_FORM, OLD_FORM};
 use ragansils_twin::{ListingTwin, Proved, Twin};
 
 use level::LevelPeer;
@@ -21,6 +21,9 @@ use level::LevelPeer;
 /// Names of the two sides, which are always the first two peers.
 pub const LIBRARY: &str = "library";
 pub const TWIN: &str = "twin";
+/// The library's tables of each form, where both are measured.
+pub const FORM_1: &str = "form 1";
+pub const FORM_2: &str = "form 2";
 /// The limits of a growth.
 pub const CUCKOO: &str = "libcuckoo";
 /// The twin whose inserts are listed, and made as the library's are.
@@ -86,23 +89,41 @@ fn sum(answers: impl Iterator<Item = u64>) -> u64 {
 }
 
 /// The library and the twin alone, empty.
-pub fn two_sides(creation: Creation) -> Vec<Box<dyn Peer>> {
+pub fn two_sides(setting: Setting) -> Vec<Box<dyn Peer>> {
     vec![
-        Box::new(LevelPeer::new(LIBRARY, Proved::default(), creation)),
-        Box::new(LevelPeer::new(TWIN, Twin, creation)),
+        Box::new(LevelPeer::new(LIBRARY, Proved::default(), setting)),
+        Box::new(LevelPeer::new(TWIN, Twin, setting)),
     ]
 }
 
 /// One of the two, by its name.
-pub fn one_side(creation: Creation, name: &str) -> Result<Box<dyn Peer>, String> {
-    let found = two_sides(creation).into_iter().find(|peer| peer.name() == name);
+pub fn one_side(setting: Setting, name: &str) -> Result<Box<dyn Peer>, String> {
+    let found = two_sides(setting).into_iter().find(|peer| peer.name() == name);
     found.ok_or_else(|| format!("no side {name}"))
 }
 
+/// The library's table in both forms, and libcuckoo's, empty, with room for so many items. Of the library's either may be the first to get
+/// its memory.
+pub fn both_forms(setting: Setting, items: usize, second_first: bool) -> Vec<Box<dyn Peer>> {
+    let of_form = |(name, form)| -> Box<dyn Peer> {
+        Box::new(LevelPeer::new(name, Proved::default(), Setting { form, ..setting }))
+    };
+    let mut forms = [(FORM_1, OLD_FORM), (FORM_2, NEW_FORM)];
+    if second_first {
+        forms.reverse();
+    }
+    let mut peers: Vec<Box<dyn Peer>> = forms.map(of_form).into();
+    if second_first {
+        peers.reverse();
+    }
+    peers.push(foreign::cuckoo(items));
+    peers
+}
+
 /// The two sides, and between them a twin with a list.
-pub fn two_sides_and_a_list(creation: Creation) -> Vec<Box<dyn Peer>> {
-    let mut peers = two_sides(creation);
-    peers.push(Box::new(LevelPeer::new(LISTING_TWIN, ListingTwin::default(), creation)));
+pub fn two_sides_and_a_list(setting: Setting) -> Vec<Box<dyn Peer>> {
+    let mut peers = two_sides(setting);
+    peers.push(Box::new(LevelPeer::new(LISTING_TWIN, ListingTwin::default(), setting)));
     peers
 }
 
@@ -114,8 +135,8 @@ pub fn growing(items: usize) -> Vec<Box<dyn Peer>> {
 }
 
 /// All peers, empty, with room for so many items.
-pub fn all(creation: Creation, items: usize, folder: &Path) -> Vec<Box<dyn Peer>> {
-    let mut peers = two_sides(creation);
+pub fn all(setting: Setting, items: usize, folder: &Path) -> Vec<Box<dyn Peer>> {
+    let mut peers = two_sides(setting);
     peers.extend(foreign::all(items, folder));
     peers.extend(standard::all(items));
     peers

@@ -6,7 +6,7 @@ use std::path::Path;
 
 use ragansils_compare::random::Random;
 use ragansils_counts::plan::HIGH_LOAD;
-use ragansils_counts::{full_size, items_at, last_growth, Keys, Kind};
+use ragansils_counts::{full_size, items_at, last_growth, Keys, Kind, OLD_FORM};
 
 use crate::builds::{Answer, BuildCounts, BuildTimes, Builds, Part};
 use crate::instructions::count_usual;
@@ -61,7 +61,7 @@ impl Queries {
 pub fn about() -> String {
     format!(
         "\"before\" is by the library of the commit that the command names, \"after\" by the library of the commit that was measured, in two \
-         builds of one driver; both must give the same answers. Random keys. \"growing\" is a table whose last growth was begun at load \
+         builds of one driver; both must give the same answers. Tables of form 1, which every commit has; random keys. \"growing\" is a table whose last growth was begun at load \
          {HIGH_LOAD}, with half of the interim items moved."
     )
 }
@@ -72,7 +72,8 @@ pub fn measure(seed: u64, before: &Path, folder: &Path, say: impl Fn(&str)) -> R
     let builds = Builds::with(before)?;
     say("instructions");
     let count = |operation| {
-        let counts = builds.counts(|program, side| count_usual(program, operation, side, folder))?;
+        let counts =
+            builds.counts(|program, side| count_usual(program, operation, side, OLD_FORM, folder))?;
         Ok((operation, counts))
     };
     let counts = KINDS.into_iter().map(count).collect::<Result<_, String>>()?;
@@ -101,12 +102,12 @@ pub fn run_round(when: &str, c: u64, seed: u64) -> Result<Answer<4>, String> {
     let state = State::ALL.into_iter().find(|state| state.when() == when);
     let state = state.ok_or_else(|| format!("no table {when}"))?;
     let mut random = Random::new(seed);
-    let creation = match state {
-        State::AtRest => full_size(&mut random, c),
-        State::Growing => last_growth(full_size(&mut random, c)),
+    let setting = match state {
+        State::AtRest => full_size(&mut random, OLD_FORM, c),
+        State::Growing => last_growth(full_size(&mut random, OLD_FORM, c)),
     };
-    let keys = Keys::new(&mut random, Kind::Random, items_at(creation, HIGH_LOAD), CALLS);
-    let mut filled = Filled { c, peers: two_sides(creation), keys: &keys, items: 0, when: String::new() };
+    let keys = Keys::new(&mut random, Kind::Random, items_at(setting, HIGH_LOAD), CALLS);
+    let mut filled = Filled { c, peers: two_sides(setting), keys: &keys, items: 0, when: String::new() };
     filled.fill(keys.present().len())?;
     if state == State::Growing {
         filled.grow_half_way()?;

@@ -1,7 +1,7 @@
 //! The recovery of a whole table, by the library and by the twin: of a sound one, of one with a key that stands twice, and
 //! of one with a cut update.
 
-use ragansils::Creation;
+use ragansils_compare::history::Setting;
 use ragansils_compare::random::Random;
 use ragansils_counts::{items_at, Keys, Kind};
 use ragansils_model::{word, Slot, Table};
@@ -28,15 +28,15 @@ pub fn operation(table: &str, load: f64) -> String {
 /// Nanoseconds for one whole table.
 pub fn measure(
     random: &mut Random,
-    creation: Creation,
+    setting: Setting,
     load: f64,
     rounds: usize,
     kinds: Kinds,
 ) -> Result<Vec<Measured>, String> {
-    let items = items_at(creation, load);
+    let items = items_at(setting, load);
     let keys = Keys::new(random, Kind::Random, items, 0);
-    let peers = two_sides(creation);
-    let mut filled = Filled { c: creation.capacity, peers, keys: &keys, items: 0, when: String::new() };
+    let peers = two_sides(setting);
+    let mut filled = Filled { c: setting.c, peers, keys: &keys, items: 0, when: String::new() };
     filled.fill(items)?;
     let words = filled.peers[0].words().ok_or("the library's table has words")?.clone();
     let damages = match kinds {
@@ -48,7 +48,7 @@ pub fn measure(
     let mut measured = vec![];
     for (name, damage) in damages {
         let all = recoveries(&mut filled.peers, &damage, rounds, items)?;
-        measured.extend(all.finish(creation.capacity, [operation(name, load)]));
+        measured.extend(all.finish(setting.c, [operation(name, load)]));
     }
     Ok(measured)
 }

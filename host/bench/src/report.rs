@@ -1,11 +1,13 @@
 //! The figures as text, for docs/BENCHMARKS.md.
 
 mod builds;
+mod forms;
 mod growth;
 mod import;
 mod queries;
 mod shrink;
 
+pub use forms::forms;
 pub use growth::growths;
 pub use import::imports;
 pub use queries::queries;
@@ -29,10 +31,15 @@ const TARGETS: [(&str, f64); 3] = [("query", 1.10), ("insert", INSERT_TO_TWIN), 
 /// A ratio above this is called slower.
 const SLOWER: f64 = 1.05;
 
+/// Which tables a section is of: new ones, or those that libraries of earlier commits have too.
+const NEW_TABLES: &str = "tables of form 2";
+const OLD_TABLES: &str = "tables of form 1";
+const ALL_TABLES: &str = "tables of both forms";
+
 /// How the figures of a section were come by.
-fn intro(seed: u64) -> String {
+fn intro(seed: u64, forms: &str) -> String {
     format!(
-        "Seed {seed}; the twin by `{TWIN_COMPILER}`. Times are medians over the rounds; a ratio is the \
+        "Seed {seed}; {forms}; the twin by `{TWIN_COMPILER}`. Times are medians over the rounds; a ratio is the \
          median of the rounds' ratios, with the bounds of the middle half of the rounds beside it.\n"
     )
 }
@@ -40,7 +47,7 @@ fn intro(seed: u64) -> String {
 /// All sections but those of growths and shrinks.
 pub fn figures(results: &Results, seed: u64) -> String {
     [
-        intro(seed),
+        intro(seed, NEW_TABLES),
         slower(results),
         slower_than_others(results),
         targets(results),

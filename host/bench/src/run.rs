@@ -3,10 +3,10 @@
 use std::path::Path;
 use std::time::Instant;
 
-use ragansils::Creation;
+use ragansils_compare::history::Setting;
 use ragansils_compare::random::Random;
 use ragansils_counts::plan::{HIGH_LOAD, LOADS};
-use ragansils_counts::{full_size, items_at, last_growth, Counts, Keys, Kind};
+use ragansils_counts::{full_size, items_at, last_growth, Counts, Keys, Kind, NEW_FORM};
 
 use crate::chains::{self, Chains};
 use crate::growth::{self, Growths};
@@ -82,22 +82,22 @@ impl Run<'_> {
     }
 
     /// All peers, empty, with keys enough for a load.
-    fn peers<'k>(&self, creation: Creation, keys: &'k Keys, when: &str) -> Filled<'k> {
-        let peers = peers::all(creation, keys.present().len(), self.folder);
-        Filled { c: creation.capacity, peers, keys, items: 0, when: when.to_string() }
+    fn peers<'k>(&self, setting: Setting, keys: &'k Keys, when: &str) -> Filled<'k> {
+        let peers = peers::all(setting, keys.present().len(), self.folder);
+        Filled { c: setting.c, peers, keys, items: 0, when: when.to_string() }
     }
 
     /// Queries, inserts, updates and deletes at each load.
     fn at_rest(&mut self, c: u64, kind: Kind) -> Result<(), String> {
         self.say(&format!("queries and changes, c = {c}, {}", kind.name()));
-        let creation = full_size(&mut self.random, c);
-        let few = few_of(creation);
+        let setting = full_size(&mut self.random, NEW_FORM, c);
+        let few = few_of(setting);
         let (rounds, calls) = (self.plan.rounds_at(c), self.plan.calls);
-        let keys = Keys::new(&mut self.random, kind, items_at(creation, HIGH_LOAD) + 4 * few, calls);
-        let mut filled = self.peers(creation, &keys, "");
+        let keys = Keys::new(&mut self.random, kind, items_at(setting, HIGH_LOAD) + 4 * few, calls);
+        let mut filled = self.peers(setting, &keys, "");
         for load in LOADS {
             filled.when = format!("load {load}");
-            filled.fill(items_at(creation, load))?;
+            filled.fill(items_at(setting, load))?;
             let measured = &mut self.results.operations;
             measured.extend(filled.queries(&mut self.random, rounds, calls)?);
             measured.extend(filled.inserts_and_deletes(&mut self.random, rounds, calls, few)?);
@@ -108,16 +108,17 @@ impl Run<'_> {
 
     /// What a list costs an insert by itself.
     fn listed_inserts(&mut self, c: u64) -> Result<(), String> {
-        let measured = inserts(self.plan, &mut self.random, c, Kind::Random, peers::two_sides_and_a_list)?;
+        let measured =
+            inserts(self.plan, &mut self.random, (NEW_FORM, c), Kind::Random, peers::two_sides_and_a_list)?;
         self.results.listed_inserts.extend(measured);
         Ok(())
     }
 
     /// Queries in the middle of a growth.
     fn growing(&mut self, c: u64, kind: Kind) -> Result<(), String> {
-        let creation = last_growth(full_size(&mut self.random, c));
-        let keys = Keys::new(&mut self.random, kind, items_at(creation, HIGH_LOAD), self.plan.calls);
-        let mut filled = self.peers(creation, &keys, "growing");
+        let setting = last_growth(full_size(&mut self.random, NEW_FORM, c));
+        let keys = Keys::new(&mut self.random, kind, items_at(setting, HIGH_LOAD), self.plan.calls);
+        let mut filled = self.peers(setting, &keys, "growing");
         filled.fill(keys.present().len())?;
         filled.grow_half_way()?;
         let measured = filled.queries(&mut self.random, self.plan.rounds_at(c), self.plan.calls)?;
@@ -127,9 +128,9 @@ impl Run<'_> {
 
     fn recoveries(&mut self, c: u64) -> Result<(), String> {
         self.say(&format!("recovery, c = {c}"));
-        let (creation, rounds) = (full_size(&mut self.random, c), self.plan.whole_table_rounds(c));
+        let (setting, rounds) = (full_size(&mut self.random, NEW_FORM, c), self.plan.whole_table_rounds(c));
         for (load, kinds) in [(LOADS[0], Kinds::Sound), (HIGH_LOAD, Kinds::All)] {
-            let measured = recovery::measure(&mut self.random, creation, load, rounds, kinds)?;
+            let measured = recovery::measure(&mut self.random, setting, load, rounds, kinds)?;
             self.results.recovery.extend(measured);
         }
         Ok(())
@@ -141,8 +142,9 @@ impl Run<'_> {
         let is_between = |c: &u64| !self.plan.counts.capacities.contains(c);
         let recovered: Vec<u64> = self.plan.recovered.clone().filter(is_between).collect();
         for c in recovered {
-            let (creation, rounds) = (full_size(&mut self.random, c), self.plan.whole_table_rounds(c));
-            let measured = recovery::measure(&mut self.random, creation, HIGH_LOAD, rounds, Kinds::Sound)?;
+            let (setting, rounds) =
+                (full_size(&mut self.random, NEW_FORM, c), self.plan.whole_table_rounds(c));
+            let measured = recovery::measure(&mut self.random, setting, HIGH_LOAD, rounds, Kinds::Sound)?;
             self.results.more_recovery.extend(measured);
         }
         Ok(())

@@ -5,8 +5,8 @@ mod limits;
 use std::path::Path;
 
 use ragansils_compare::random::Random;
-use ragansils_counts::full_size;
 use ragansils_counts::plan::SHRINKING_LOAD;
+use ragansils_counts::{full_size, NEW_FORM};
 
 use crate::drivers::{repeats, Driver, Level, GOING_ON, SHRINKING};
 use crate::growth;
@@ -48,8 +48,8 @@ pub fn run_counted(side: &str, c: u64) -> Result<usize, String> {
 
 /// A level table that is as large as it can be, and is about to shrink.
 fn level(random: &mut Random, c: u64) -> Result<Level, String> {
-    let creation = full_size(random, c);
-    Level::new(random, creation, SHRINKING_LOAD)
+    let setting = full_size(random, NEW_FORM, c);
+    Level::new(random, setting, SHRINKING_LOAD)
 }
 
 /// A table that shrinks from a capacity, and one that grows to it.

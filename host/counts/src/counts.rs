@@ -66,6 +66,13 @@ impl Counts {
         Ok(())
     }
 
+    /// The counts of both forms alone.
+    pub fn of_forms(seed: u64, plan: &CountPlan, say: impl Fn(&str)) -> Result<Counts, String> {
+        let mut counts = Counts::default();
+        counts.count_spreads(&mut Random::new(seed), plan, say)?;
+        Ok(counts)
+    }
+
     /// After the shrinks, for the same reason.
     fn count_spreads(
         &mut self,

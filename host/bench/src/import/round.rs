@@ -2,7 +2,7 @@
 
 use ragansils_compare::random::Random;
 use ragansils_counts::plan::HIGH_LOAD;
-use ragansils_counts::{full_size, items_at, Keys, Kind};
+use ragansils_counts::{full_size, items_at, Keys, Kind, OLD_FORM};
 
 use crate::builds::Answer;
 use crate::clock::timed;
@@ -17,12 +17,12 @@ const LEAST_TABLES: usize = 3;
 /// Table after table, by the library and by the twin in the same words: the time of an insert by each, and a sum of the words of all tables.
 pub fn run_round(c: u64, seed: u64) -> Result<Answer<2>, String> {
     let mut random = Random::new(seed);
-    let creation = full_size(&mut random, c);
-    let items = items_at(creation, HIGH_LOAD);
+    let setting = full_size(&mut random, OLD_FORM, c);
+    let items = items_at(setting, HIGH_LOAD);
     // The first table warms up.
     let tables = 1 + (KEYS_IN_A_ROUND / items).max(LEAST_TABLES);
     let keys = Keys::new(&mut random, Kind::Random, tables * items, 0);
-    let mut peers = two_sides(creation);
+    let mut peers = two_sides(setting);
     let empty = peers[0].words().ok_or("the library's table has words")?.clone();
     let mut all = Rounds::<1>::new(&peers);
     let mut sum = 0;

@@ -1,8 +1,8 @@
 //! A level table as a peer, by the proved library or by its twin.
 
-use ragansils::Creation;
+use ragansils_compare::history::Setting;
 use ragansils_counts::{LevelTable, Record};
-use ragansils_model::Event;
+use ragansils_model::{word, Event};
 use ragansils_twin::Side;
 
 use super::Peer;
@@ -13,8 +13,8 @@ pub struct LevelPeer<S> {
 }
 
 impl<S: Side> LevelPeer<S> {
-    pub fn new(name: &'static str, side: S, creation: Creation) -> LevelPeer<S> {
-        LevelPeer { name, table: LevelTable::new(side, creation) }
+    pub fn new(name: &'static str, side: S, setting: Setting) -> LevelPeer<S> {
+        LevelPeer { name, table: LevelTable::new(side, setting) }
     }
 }
 
@@ -53,10 +53,12 @@ impl<S: Side> Peer for LevelPeer<S> {
     }
 }
 
-/// The first two peers change words, so that neither keeps the better piece of memory; or says where their words differ.
+/// The first two peers change words, so that neither keeps the better piece of memory; or says where their words differ. Tables of two
+/// forms keep theirs: a round of these is a process of its own.
 pub fn swap_words(peers: &mut [Box<dyn Peer>]) -> Result<(), String> {
     let (first, others) = peers.split_at_mut(1);
     match (first[0].words(), others[0].words()) {
+        (Some(one), Some(other)) if one[word::FORM] != other[word::FORM] => {}
         (Some(one), Some(other)) if one == other => std::mem::swap(one, other),
         _ => return Err("the library and the twin came to different words".to_string()),
     }

@@ -8,7 +8,7 @@ use crate::limits::{self, median, Bound, Limit};
 use super::Queries;
 
 /// A query's time as a multiple of that before the change, and of the twin's.
-const MOST_TO_BEFORE: f64 = 1.05;
+const MOST_TO_BEFORE: f64 = 1.02;
 const MOST_TO_TWIN: f64 = 1.0;
 
 impl Queries {
@@ -53,7 +53,7 @@ mod tests {
         assert!(!slower_than_twin.contains("that before"), "{slower_than_twin}");
         let slower = queries([80.0, 106.0]).check().unwrap_err();
         assert!(
-            slower.contains("of that before, worst query, positive, load 0.8, c = 18: 1.060, at most 1.05"),
+            slower.contains("of that before, worst query, positive, load 0.8, c = 18: 1.060, at most 1.02"),
             "{slower}"
         );
     }

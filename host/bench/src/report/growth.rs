@@ -9,7 +9,7 @@ use crate::instructions::Count;
 use crate::peers::{CUCKOO, LIBRARY, TWIN};
 use crate::rounds::Measured;
 
-use super::{bounds, intro, limit_table, others, ratio, three_digits, time};
+use super::{bounds, intro, limit_table, others, ratio, three_digits, time, NEW_TABLES};
 
 /// Milliseconds.
 pub const UNIT: f64 = 1e6;
@@ -18,7 +18,7 @@ pub const UNIT: f64 = 1e6;
 pub fn growths(growths: &Growths, seed: u64) -> String {
     let limits = limit_table("### Limits of a growth", growths.limits());
     let instructions = instruction_table("growth", 1, &growths.instructions);
-    [intro(seed), limits, time_table(growths), peer_table(growths), instructions].join("\n")
+    [intro(seed, NEW_TABLES), limits, time_table(growths), peer_table(growths), instructions].join("\n")
 }
 
 /// The library beside the twin, and beside itself: at half the size, and in the old way.

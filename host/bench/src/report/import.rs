@@ -4,7 +4,7 @@ use crate::import::{self, Imports};
 use crate::instructions;
 
 use super::builds::{instruction_table, time_table};
-use super::{intro, limit_table, twin_tables};
+use super::{intro, limit_table, twin_tables, OLD_TABLES};
 
 /// The section of imports.
 pub fn imports(imports: &Imports, seed: u64) -> String {
@@ -15,7 +15,7 @@ pub fn imports(imports: &Imports, seed: u64) -> String {
         (format!("insert of an import on average, {}", import::about_counted()), &imports.import_counts),
     ];
     [
-        intro(seed),
+        intro(seed, OLD_TABLES),
         limit_table("### Limits of an insert and an import", imports.limits()),
         time_table(&title, "c", times),
         twin_tables("Inserts beside the twin", &imports.inserts),

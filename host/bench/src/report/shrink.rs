@@ -5,13 +5,13 @@ use ragansils_counts::markdown::{heads, table};
 use crate::shrink::{Shrinks, GROWTH};
 
 use super::growth::{by_size_and_twin, instruction_table, BY_SIZE_AND_TWIN, UNIT};
-use super::{intro, limit_table, ratio, time};
+use super::{intro, limit_table, ratio, time, NEW_TABLES};
 
 /// The section of whole shrinks.
 pub fn shrinks(shrinks: &Shrinks, seed: u64) -> String {
     let limits = limit_table("### Limits of a shrink", shrinks.limits());
     let instructions = instruction_table("shrink", 0, &shrinks.instructions);
-    [intro(seed), limits, time_table(shrinks), instructions].join("\n")
+    [intro(seed, NEW_TABLES), limits, time_table(shrinks), instructions].join("\n")
 }
 
 /// The library beside the twin, beside itself at half the size, and beside the growth between the same two sizes.
