@@ -41,7 +41,7 @@ pub struct Chains {
 }
 
 pub fn about() -> String {
-    format!("c = {C}, load {HIGH_LOAD}, collector's keys")
+    format!("c = {C}, load {HIGH_LOAD}, collector's keys, form {NEW_FORM}")
 }
 
 /// Drawn from the seed alone, so that the tables are the same without the rest of a run. Callgrind's files go to a folder.
