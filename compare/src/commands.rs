@@ -324,3 +324,18 @@ fn save(name: &str, content: &[u8], arguments: impl Fn(&str) -> String) {
         Err(error) => say!("{} could not be written: {error}", file.display()),
     }
 }
+
+#[cfg(test)]
+mod tests {
+    use super::*;
+
+    #[test]
+    fn a_run_makes_both_forms_or_the_one_that_is_named() {
+        let forms = |words: &[&str]| Options { words }.forms();
+        assert_eq!(forms(&["words", "--seed", "1"]), Ok(vec![1, 2]));
+        assert_eq!(forms(&["words", "--form", "2", "--seed", "1"]), Ok(vec![2]));
+        for other in ["0", "3", "two"] {
+            assert!(forms(&["words", "--form", other]).is_err(), "{other}");
+        }
+    }
+}

@@ -61,8 +61,8 @@ impl Queries {
 pub fn about() -> String {
     format!(
         "\"before\" is by the library of the commit that the command names, \"after\" by the library of the commit that was measured, in two \
-         builds of one driver; both must give the same answers. Tables of form 1, which every commit has; random keys. \"growing\" is a table whose last growth was begun at load \
-         {HIGH_LOAD}, with half of the interim items moved."
+         builds of one driver; both must give the same answers. Tables of form 1, which every commit has; random keys. \"growing\" is a \
+         table whose last growth was begun at load {HIGH_LOAD}, with half of the interim items moved."
     )
 }
 

@@ -35,7 +35,7 @@ pub const FULL: CountPlan = CountPlan {
     shrunk: &[4, 6, 8, 10, 12, 14, 16],
     shrinks: 100,
     spread: &[8, 14, 18],
-    spreads: 9,
+    spreads: 5,
     capacities: &[8, 14, 18, 20],
     collector_capacities: &[14, 18],
     queries: 40_000,
