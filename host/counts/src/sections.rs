@@ -20,6 +20,7 @@ impl Counts {
             growth_table(self),
             shrink_table(self),
             store_table(self),
+            "All counts above are of tables of form 1.\n".to_string(),
             spread_table(&self.spreads),
         ]
         .join("\n")
@@ -173,7 +174,7 @@ pub fn spread_table(spreads: &[Spread]) -> String {
         "fullest tenth, bottom",
     ];
     let title = format!(
-        "### Both forms\n\nAll counts above are of tables of form 1. Here each table is filled in both forms, with the same keys and \
+        "### Both forms\n\nEach table is filled in both forms, with the same keys and \
          multipliers, until the first refusal 6. The fullest tenth of the buckets is looked at in the top at load {LOAD_OF_TOP} and in \
          the bottom at load {LOAD_OF_BOTTOM}: how many of the four slots of such a bucket are taken on average, in the middle one of \
          the tables."
