@@ -19,6 +19,7 @@ pub mod GrowthSteps
 pub mod StuckItems
 pub mod StateChanges
 pub mod ResizeSentences
+pub mod FormSentences
 pub mod MadeLists
 pub mod ChainWalks
 pub mod Chains

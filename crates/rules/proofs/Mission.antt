@@ -1,6 +1,7 @@
 -- The user's three demands and document 02's requests, proved: one theorem. Each field is the law of the same name.
 -- Assumes nothing.
-use Rattle.rules.specs.Mission.{Demand1, Demand2, Demand3, InlinedCallers, StubbornItems, GoesOn, WhereItStood, UnloadedLevel, Mission}
+use Rattle.rules.specs.Mission.{Demand1, Demand2, Demand3, InlinedCallers, StubbornItems, GoesOn, WhereItStood, UnloadedLevel, TwoForms}
+use Rattle.rules.specs.Mission.{Mission}
 use Rattle.rules.proofs.Tables.Sound.{soundnessIsTested}
 use Rattle.rules.proofs.Tables.Maps.{mapExists}
 use Rattle.rules.proofs.Tables.Findings.{recoverAnswers, recoveryAccepts}
@@ -23,6 +24,8 @@ use Rattle.rules.proofs.Calls.Updating.{updateAnswers, deleteAnswers}
 use Rattle.rules.proofs.Calls.GrowthSteps.{stepAnswers}
 use Rattle.rules.proofs.Calls.StateChanges.{beginAnswers, shrinkAnswers, backAnswers, endAnswers}
 use Rattle.rules.proofs.Calls.ResizeSentences.{shrinkStores, levelsAreThree, levelsShrink, sevenExactly, seventeenExactly, backStores}
+use Rattle.rules.proofs.Calls.FormSentences.{mixedBits, placesByHash, tagBelowHash, wordsExactly, wrongWordsAreTwelve, storesChangeOneSlot}
+use Rattle.rules.proofs.Calls.FormSentences.{tokenStoresKeep, holdsByTag, wrongTagHides, tagsMissNothing, noTagsInForm1}
 use Rattle.rules.proofs.Calls.ResizeSentences.{levelsTurn, turnedTwice, eightExactly, ownStoresCount}
 use Rattle.rules.proofs.Calls.MadeLists.{makeTakesTheList}
 use Rattle.rules.proofs.Cutting.Recurring.{recoveryMayBeCut}
@@ -148,6 +151,22 @@ unloadedLevel =
       twentyTooFew = twentyTooFew;
     }
 
+pub twoForms : TwoForms
+twoForms =
+    record {
+      mixedBits = mixedBits;
+      placesByHash = placesByHash;
+      tagBelowHash = tagBelowHash;
+      wordsExactly = wordsExactly;
+      wrongWordsAreTwelve = wrongWordsAreTwelve;
+      storesChangeOneSlot = storesChangeOneSlot;
+      tokenStoresKeep = tokenStoresKeep;
+      holdsByTag = holdsByTag;
+      wrongTagHides = wrongTagHides;
+      tagsMissNothing = tagsMissNothing;
+      noTagsInForm1 = noTagsInForm1;
+    }
+
 pub mission : Mission
 mission =
     record {
@@ -159,4 +178,5 @@ mission =
       goesOn = goesOn;
       whereItStood = whereItStood;
       unloadedLevel = unloadedLevel;
+      twoForms = twoForms;
     }

@@ -17,6 +17,7 @@ pub mod StepSentences
 pub mod StepFromSentences
 pub mod SpotSentences
 pub mod ResizeSentences
+pub mod FormSentences
 pub mod Mission
 pub mod Examples
 pub mod ChainCases

@@ -1,6 +1,6 @@
 -- What is proved of the user's three demands and of document 02's requests, in one place, sentence by sentence. Each field of a demand is a
 -- statement of `Demands`, and each field of a request one of its sentences (`ChainSentences`, `StepSentences`, `StepFromSentences`,
--- `SpotSentences`, `ResizeSentences`), which say it in full. One law proves them all: `mission`, in proofs/Mission.
+-- `SpotSentences`, `ResizeSentences`, `FormSentences`), which say it in full. One law proves them all: `mission`, in proofs/Mission.
 -- That the code does what the rules say is promised call by call, in the `ensures` of each.
 -- Assumes nothing.
 use Rattle.rules.specs.Demands.{ChangeAnswers, CreateAnswers, MakeAnswers, RefusalsInOrder, StepIsACall, QueryIsACall, StoresInside}
@@ -15,6 +15,8 @@ use Rattle.rules.specs.StepFromSentences.{PassEnds, PassPlacesAll, Looks
 use Rattle.rules.specs.SpotSentences.{FoundStood, RefusedStoodNowhere, LookupStood, TheOneStood, ChangesGoThere, ChainStood}
 use Rattle.rules.specs.ResizeSentences.{ShrinkStores, LevelsAreThree, LevelsShrink, SevenExactly, SeventeenExactly, BackStores, LevelsTurn}
 use Rattle.rules.specs.ResizeSentences.{TurnedTwice, EightExactly, OwnStoresCount, TwentyTooFew}
+use Rattle.rules.specs.FormSentences.{MixedBits, PlacesByHash, TagBelowHash, WordsExactly, WrongWordsAreTwelve, StoresChangeOneSlot}
+use Rattle.rules.specs.FormSentences.{TokenStoresKeep, HoldsByTag, WrongTagHides, TagsMissNothing, NoTagsInForm1}
 use Rattle.rules.specs.StepSentences.{StepTakesTheFirst, NoItemBlocks, SixExactly, ElevenExactly, SixIsNotEleven}
 
 pub record Demand1 : Type 0 where
@@ -160,6 +162,28 @@ pub record UnloadedLevel : Type 0 where
   pub ownStoresCount : OwnStoresCount
   pub twentyTooFew : TwentyTooFew
 
+-- request g), "Form 2: better spread, and a tag for each slot.": with `createAnswers`, `createdIsEmpty` and `refusalsInOrder` of the demands, all of which
+-- speak of either form
+pub record TwoForms : Type 0 where
+  -- "In form 2, before hashing, a key is combined by exclusive or with itself divided by 2^32. Form 1 keeps the old rule"
+  pub mixedBits : MixedBits
+  pub placesByHash : PlacesByHash
+  -- "the hash 1 product modulo 2^64, divided by 2^24, modulo 256"
+  pub tagBelowHash : TagBelowHash
+  -- "an eight-bit tag for each taken slot in the token word, slot s at bits 8 + 8s to 15 + 8s"; "Free slots have tag 0; all other upper bits are 0;
+  -- soundness and recovery test this"
+  pub wordsExactly : WordsExactly
+  pub wrongWordsAreTwelve : WrongWordsAreTwelve
+  -- "calls read and write the whole word where 01 said modulo 16, keeping bits they do not change"; "Token and tag change in one store"
+  pub storesChangeOneSlot : StoresChangeOneSlot
+  pub tokenStoresKeep : TokenStoresKeep
+  -- "A form 2 query reads only the slots whose tag fits."
+  pub holdsByTag : HoldsByTag
+  pub wrongTagHides : WrongTagHides
+  -- "On a sound table its answer equals that of reading every slot, buckets looked at included."
+  pub tagsMissNothing : TagsMissNothing
+  pub noTagsInForm1 : NoTagsInForm1
+
 -- the user's three demands, document 02's requests, and the step that goes on
 pub record Mission : Type 0 where
   pub anyInput : Demand1
@@ -170,3 +194,4 @@ pub record Mission : Type 0 where
   pub goesOn : GoesOn
   pub whereItStood : WhereItStood
   pub unloadedLevel : UnloadedLevel
+  pub twoForms : TwoForms

@@ -97,6 +97,17 @@ low-fields v l =
         → g ≡ 0 → h ≡ 0 → i ≡ 0 → j ≡ 0 → k ≡ 0 → m ≡ 0 → v ≡ p + 2 * q + 4 * r + 8 * s
     only v p q r s g h i j k m e a b c d f n = omega arith
 
+pub bit-small : (v z : ℕ) → bitAt v z < 2
+unfolding bitAt
+bit-small v z = omega arith
+
+-- the same fields make the same number
+pub built-same : (bit bit′ tag tag′ : ℕ → ℕ) → ((z : ℕ) → z < 4 → bit z ≡ bit′ z) → ((z : ℕ) → z < 4 → tag z ≡ tag′ z) → {gap gap′ rest rest′ : ℕ}
+    → gap ≡ gap′ → rest ≡ rest′ → built bit tag gap rest ≡ built bit′ tag′ gap′ rest′
+built-same bit bit′ tag tag′ b t g r =
+    rw (b 0 (omega arith), b 1 (omega arith), b 2 (omega arith), b 3 (omega arith), t 0 (omega arith), t 1 (omega arith), t 2 (omega arith), t 3 (omega arith),
+    g, r)
+
 -- ---- one field changed
 
 abbrev pub but : (ℕ → ℕ) → ℕ → ℕ → ℕ → ℕ

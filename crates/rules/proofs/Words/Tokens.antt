@@ -20,7 +20,7 @@ use Rattle.rules.specs.declared.State.{State}
 use Rattle.rules.specs.declared.Header.{Header}
 use Rattle.rules.proofs.Basics.Lists.{in-from}
 use Rattle.rules.proofs.Basics.Tests.{tells-all}
-use Rattle.rules.proofs.Words.Fields.{four, built, Within, read-bit, read-tag, bitAt, tagAt, gapAt, restAt, low-bit, low-fields}
+use Rattle.rules.proofs.Words.Fields.{four, built, built-same, Within, fields, bit-small, read-bit, read-tag, bitAt, tagAt, gapAt, restAt, low-bit, low-fields}
 use Rattle.rules.proofs.Words.Fields.{but, but-here, but-other, without, without-built, without-rest, with-built, without-low, with-low}
 use Rattle.rules.proofs.Words.Fields.{keeps-built, with-fits, changed-bit, changed-tag}
 
@@ -59,7 +59,7 @@ module _ (h : Header) where
   unfolding isTaken tokenNumber
   zero-free s = ne-eqb (0 / 2 ^ s % 2) 1 (λ e. omega (arith, shr-le 0 s))
 
-  taken-bit : (w z : ℕ) → z < 4 → isTaken h w z ≡ eqb (bitAt w z) 1
+  pub taken-bit : (w z : ℕ) → z < 4 → isTaken h w z ≡ eqb (bitAt w z) 1
   unfolding isTaken tokenNumber
   taken-bit w z l = rw (low-bit w z l)
 
@@ -116,11 +116,11 @@ module _ (h : Header) where
   pub shown-fits : (w s tag : ℕ) → s < 4 → w < 2 ^ 64 → tag < 256 → hide h w s + mark s 1 tag < 2 ^ 64
   shown-fits w s tag sl l tl = rw (hide-is w s sl) (with-fits (wordRead h w) tag s sl (omega (arith, read-most w)) tl)
 
-  hide-built : (w s : ℕ) → s < 4
+  pub hide-built : (w s : ℕ) → s < 4
       → hide h w s ≡ built (but (bitAt (wordRead h w)) s 0) (but (tagAt (wordRead h w)) s 0) (gapAt (wordRead h w)) (restAt (wordRead h w))
   hide-built w s l = hide-is w s l ∙ without-built (wordRead h w) s l
 
-  show-built : (w s key : ℕ) → s < 4
+  pub show-built : (w s key : ℕ) → s < 4
       → show h w s key ≡ built (but (bitAt (wordRead h w)) s 1) (but (tagAt (wordRead h w)) s (tagOf h key)) (gapAt (wordRead h w)) (restAt (wordRead h w))
   show-built w s key l = show-is w s key l ∙ with-built (wordRead h w) (tagOf h key) s l
 
@@ -349,6 +349,46 @@ module _ (h : Header) where
       -- to hide a slot is to take its mark away
       hide-value : (s : ℕ) → s < 4 → hide h w s + markMeant h w keys s ≡ w
       hide-value s l = rw (hide-is h w s l, meant-read, mark-is s, ← (bit-at s l), ← (field-at s l)) (without-rest w s l)
+
+  -- what should stand there, by the fields: each slot's tag is that of its key where its bit is 1, and else 0, and nothing stands beside
+  pub record RightFields (w : ℕ) (keys : ℕ → ℕ) : Type 0 where
+    pub shown : (s : ℕ) → s < 4 → bitAt w s ≡ 1 → tagAt w s ≡ tagOf h (keys s)
+    pub free : (s : ℕ) → s < 4 → bitAt w s ≡ 0 → tagAt w s ≡ 0
+    pub between : gapAt w ≡ 0
+    pub above : restAt w ≡ 0
+
+  pub right-fields : (w : ℕ) (keys : ℕ → ℕ) → Meant h w keys → RightFields w keys
+  unfolding gapAt restAt
+  right-fields w keys right = record {
+    shown = λ s l e. field s l ∙ rw (taken-bit h w s l, eq-eqb _ _ e);
+    free = λ s l e. field s l ∙ rw (taken-bit h w s l, ne-eqb (bitAt w s) 1 (λ q. omega arith));
+    between = ap (λ (v : ℕ). v / 16 % 16) right ∙ meant-fields w keys .0;
+    above = ap (λ (v : ℕ). v / 2 ^ 40) right ∙ meant-fields w keys .1;
+  }
+    where
+      field : (s : ℕ) → s < 4 → tagAt w s ≡ cond (isTaken h w s) (tagOf h (keys s)) 0
+      field s l = ap (λ (v : ℕ). tagAt v s) right ∙ meant-field w keys s l
+
+  pub fields-right : (w : ℕ) (keys : ℕ → ℕ) → RightFields w keys → Meant h w keys
+  unfolding bitOf fieldOf
+  fields-right w keys r =
+      fields w ∙ built-same (bitAt w) (bitOf w keys) (tagAt w) (fieldOf w keys) bits tags (r .between) (r .above) ∙ sym (meant-built w keys)
+    where
+      by : (n : ℕ) → n < 2 → n ≡ cond (eqb n 1) 1 0
+      by zero l = refl
+      by (suc zero) l = refl
+      by (suc (suc n)) l = absurd (omega arith)
+
+      bits : (s : ℕ) → s < 4 → bitAt w s ≡ cond (isTaken h w s) 1 0
+      bits s l = rw (taken-bit h w s l) (by (bitAt w s) (bit-small w s))
+
+      at : (s : ℕ) → s < 4 → (n : ℕ) → bitAt w s ≡ n → n < 2 → tagAt w s ≡ cond (eqb n 1) (tagOf h (keys s)) 0
+      at s l zero e k = r .free s l e
+      at s l (suc zero) e k = r .shown s l e
+      at s l (suc (suc n)) e k = absurd (omega arith)
+
+      tags : (s : ℕ) → s < 4 → tagAt w s ≡ cond (isTaken h w s) (tagOf h (keys s)) 0
+      tags s l = rw (taken-bit h w s l) (at s l (bitAt w s) refl (bit-small w s))
 
   module _ (w : ℕ) (keys others : ℕ → ℕ) where
     -- the keys of free slots change
