@@ -22,6 +22,7 @@ use Rattle.rules.specs.Results.{changeResult, createTests, created, crea
 use Rattle.rules.specs.Chains.{keyOf, positionGood, recordsLong, positionTests, chainTests, walk, queryOf, chainResult}
 use Rattle.rules.specs.declared.Record.{Record}
 use Rattle.rules.specs.Examples.{Shown, tells, Row, row, inserted, madeFirst, madeAll, fresh, usual}
+use Rattle.rules.specs.Examples.{freshIn, usualIn}
 
 -- depths 0, 1 and 2 of address 0; and of address 1 depths 0 and 2, without 1
 unfoldable pub chained : (ℕ → Record) → Table
@@ -72,9 +73,10 @@ cases r =
 -- the rules compute what request a) asks for
 pub chainCases : (r : ℕ → Record) → map (λ (x : Row). x .computed) (cases r) ≡ map (λ (x : Row). x .paper) (cases r)
 unfolding productOf hashOf flatMap wordsFor stateOf stateWord atRest shrinking headerOf flagOf stateGood odd capacityTests headerTests topOf bottomOf interimOf
-    levelsInUse slotAt slotsIn placeAt tokenWord keyWord functionWord placeWord keyIn recordIn tokenOf formGood tagged mixed tagOf wordRead tagIn fits markMeant tokenNumber isTaken show hide takenOf taken
+    levelsInUse slotAt slotsIn placeAt tokenWord keyWord functionWord placeWord keyIn recordIn tokenOf formGood tagged mixed tagOf wordRead tagIn fits markMeant
+    tokenNumber isTaken show hide takenOf taken
     hashesOf firstPlace secondPlace samePlace placesIn probes holds hitIn lookup takenIn freeSlot fewer emptier roomIn placing putStores clearStores
     placingStores stateStores written placesOf headerGood listLong flagClear changingTests queryTests beginTests beginOf outcome changeResult createTests
-    created createResult makeTests makeResult madeFirst madeAll fresh usual keyOf positionGood recordsLong positionTests chainTests walk queryOf chainResult
+    created createResult makeTests makeResult madeFirst madeAll freshIn usualIn keyOf positionGood recordsLong positionTests chainTests walk queryOf chainResult
     chained growing cropped cases
 chainCases r = refl

@@ -213,7 +213,8 @@ cases r =
 unfoldable pub opened : Bool
 unfolding productOf hashOf flatMap wordsFor stateOf stateWord atRest shrinking headerOf flagOf targetOf loggedOf stateGood odd capacityTests headerTests
     topOf bottomOf interimOf levelsInUse bucketsOf allBuckets exponentInUse unusedBuckets slotAt slotsIn placeOf placeAt slotsOf slotsInUse tokenWord
-    keyWord spotOf functionWord placeWord keyIn recordIn tokenOf formGood tagged mixed tagOf wordRead tagIn fits markMeant tokenNumber isTaken show hide takenOf meant taken meantOf hashesOf firstPlace secondPlace
+    keyWord spotOf functionWord placeWord keyIn recordIn tokenOf formGood tagged mixed tagOf wordRead tagIn fits markMeant
+    tokenNumber isTaken show hide takenOf meant taken meantOf hashesOf firstPlace secondPlace
     samePlace placesIn probes holds hitIn lookup takenIn freeSlot fewer emptier roomIn otherPlace itemsOf candidates moveOf placing putStores
     clearStores moveStores placingStores redoStores updateStores turnedOf stateStores stepStores written takenSlots tokensTidy unusedEmpty placesOf
     inPlace orderlyTests sameKey twins sameRecord target finding steppedFromMeans headerGood listLong flagClear changingTests queryTests recoverTests

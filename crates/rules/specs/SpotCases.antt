@@ -22,6 +22,7 @@ use Rattle.rules.specs.Calls.{interimBucket, itemsFrom, hasPlace, stepIt
 use Rattle.rules.specs.Results.{changeResult, queryResult, createTests, created, createResult, makeTests, makeResult}
 use Rattle.rules.specs.declared.Record.{Record}
 use Rattle.rules.specs.Examples.{Row, row, tells, asks, madeFirst, madeAll, recordOf, fresh, usual, afterE1, beforeE8}
+use Rattle.rules.specs.Examples.{freshIn, usualIn, afterE1In, beforeE8In}
 
 -- keys 1, 3, 5, 7 stand in bucket 2, and 9, 11, 13, 15 in bucket 0; the same while it grows; after a step, which moves key 9 to bucket 4; and
 -- with key 17 in bucket 6, its second place, as bucket 4 has an item more
@@ -78,9 +79,10 @@ cases r =
 -- the rules compute what request e) asks for
 pub spotCases : (r : ℕ → Record) → map (λ (x : Row). x .computed) (cases r) ≡ map (λ (x : Row). x .paper) (cases r)
 unfolding productOf hashOf flatMap wordsFor stateOf stateWord atRest shrinking headerOf flagOf stateGood odd capacityTests headerTests topOf bottomOf interimOf
-    levelsInUse bucketsOf slotAt slotsIn placeOf placeAt slotsOf tokenWord keyWord functionWord placeWord spotOf keyIn recordIn tokenOf formGood tagged mixed tagOf wordRead tagIn fits markMeant tokenNumber
+    levelsInUse bucketsOf slotAt slotsIn placeOf placeAt slotsOf tokenWord keyWord functionWord placeWord spotOf keyIn recordIn tokenOf formGood tagged mixed tagOf wordRead tagIn fits markMeant
+    tokenNumber
     isTaken show hide takenOf taken hashesOf firstPlace secondPlace samePlace placesIn probes placesOf holds hitIn lookup takenIn freeSlot fewer emptier
     roomIn placing putStores clearStores placingStores updateStores stateStores stepStores written headerGood listLong flagClear changingTests queryTests
     beginTests beginOf interimSlots interimItems interimBucket itemsFrom hasPlace stepItem stepTests stepOf outcome changeResult queryResult createTests
-    created createResult makeTests makeResult madeFirst madeAll fresh usual afterE1 beforeE8 growing stepped filled twice cases
+    created createResult makeTests makeResult madeFirst madeAll freshIn usualIn afterE1In beforeE8In growing stepped filled twice cases
 spotCases r = refl

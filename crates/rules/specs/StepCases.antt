@@ -23,6 +23,7 @@ use Rattle.rules.specs.Results.{changeResult, stepFromResult, stepResult
 use Rattle.rules.specs.Histories.{whole, spent}
 use Rattle.rules.specs.declared.Record.{Record}
 use Rattle.rules.specs.Examples.{Shown, lists, refuses, tells, words, Row, row, sees, inserted, answered, madeFirst, madeAll, fresh}
+use Rattle.rules.specs.Examples.{freshIn}
 
 -- what a step tells beside its stores: its number, how many stores, and the slots of its placing
 abbrev pub told : Table → Shown
@@ -151,10 +152,11 @@ cases r = oneBucket r (blocked r) ++ (twoBuckets r (wide r) ++ (stuckLate (late 
 -- the rules compute what the requests ask for
 pub stepCases : (r : ℕ → Record) → map (λ (x : Row). x .computed) (cases r) ≡ map (λ (x : Row). x .paper) (cases r)
 unfolding productOf hashOf flatMap wordsFor stateOf stateWord atRest shrinking headerOf flagOf stateGood odd capacityTests headerTests topOf bottomOf interimOf
-    levelsInUse bucketsOf slotAt slotsIn placeAt slotsOf tokenWord keyWord functionWord placeWord keyIn recordIn tokenOf formGood tagged mixed tagOf wordRead tagIn fits markMeant tokenNumber isTaken show hide
+    levelsInUse bucketsOf slotAt slotsIn placeAt slotsOf tokenWord keyWord functionWord placeWord keyIn recordIn tokenOf formGood tagged mixed tagOf wordRead tagIn fits markMeant
+    tokenNumber isTaken show hide
     takenOf taken hashesOf firstPlace secondPlace samePlace placesIn probes placesOf holds hitIn lookup takenIn freeSlot fewer emptier roomIn
     otherPlace itemsOf candidates moveOf placing putStores clearStores moveStores placingStores stateStores stepStores written steppedMeans
     steppedFromMeans headerGood listLong flagClear changingTests beginTests beginOf interimSlots interimItems interimBucket itemsFrom hasPlace
     stepItem stepTests stepOf endTests endOf outcome changeResult stepFromResult stepResult createTests created createResult makeTests makeResult
-    madeFirst madeAll fresh filled blocked late crowded turned wide oneBucket twoBuckets goesOn stuckLate ready cases
+    madeFirst madeAll freshIn filled blocked late crowded turned wide oneBucket twoBuckets goesOn stuckLate ready cases
 stepCases r = refl
