@@ -24,3 +24,4 @@ pub mod ChainCases
 pub mod StepCases
 pub mod SpotCases
 pub mod ResizeCases
+pub mod FormCases

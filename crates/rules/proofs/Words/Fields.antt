@@ -105,8 +105,18 @@ bit-small v z = omega arith
 pub built-same : (bit bit′ tag tag′ : ℕ → ℕ) → ((z : ℕ) → z < 4 → bit z ≡ bit′ z) → ((z : ℕ) → z < 4 → tag z ≡ tag′ z) → {gap gap′ rest rest′ : ℕ}
     → gap ≡ gap′ → rest ≡ rest′ → built bit tag gap rest ≡ built bit′ tag′ gap′ rest′
 built-same bit bit′ tag tag′ b t g r =
-    rw (b 0 (omega arith), b 1 (omega arith), b 2 (omega arith), b 3 (omega arith), t 0 (omega arith), t 1 (omega arith), t 2 (omega arith), t 3 (omega arith),
-    g, r)
+    rw (
+      b 0 (omega arith),
+      b 1 (omega arith),
+      b 2 (omega arith),
+      b 3 (omega arith),
+      t 0 (omega arith),
+      t 1 (omega arith),
+      t 2 (omega arith),
+      t 3 (omega arith),
+      g,
+      r,
+    )
 
 -- ---- one field changed
 
