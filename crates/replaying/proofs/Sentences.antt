@@ -2,15 +2,18 @@
 -- Assumes nothing.
 use Prim.Native.Nat.{ℕ, _≤_, _<_, min}
 use mathlib.Core.Path.{_≡_, refl, ap, _∙_}
+use mathlib.Core.Bool.{Bool, true, false, cond}
 use mathlib.Core.List.{List}
 use mathlib.Core.Logic.{⊎-elim}
 use native.Mathlib.Omega.{arith}
 use mathlib.Core.Option.{none}
-use lib.ListN.{take, getD, take-append-drop}
+use lib.ListN.{length, take, getD, take-append-drop}
+use lib.Dec.{leb}
 use borrow.Author.Tests.{le-leb, lt-leb}
-use Rattle.rules.specs.Words.{wordsFor}
+use Rattle.rules.specs.Choice.{all}
+use Rattle.rules.specs.Words.{word, wordsFor}
 use Rattle.rules.specs.Answers.{Meaning, changeMeans, verdictMeans}
-use Rattle.rules.specs.Results.{changeResult, queryResult, createResult}
+use Rattle.rules.specs.Results.{changeResult, queryResult, createTests, created as createdWords, createResult}
 use Rattle.rules.specs.Histories.{reported}
 use Rattle.rules.specs.declared.Change.{Change}
 use Rattle.rules.specs.declared.Change.the-variants.{Listed, Refused}
@@ -27,9 +30,9 @@ use Rattle.following.specs.declared.Due.the-variants.{Nothing as noMore}
 use Rattle.following.specs.declared.Script.{Script}
 use Rattle.following.specs.declared.Asked.the-variants.{Table as askTable}
 use Rattle.replaying.specs.Events.{lent, callOf, queried, keptUnder, changeAnswer, answerTo, tableAfter}
-use Rattle.replaying.specs.Replays.{Turned, tableOf, created, askedOf, finished, finishOf}
+use Rattle.replaying.specs.Replays.{Turned, tableOf, created, tooLarge, askedOf, finished, finishOf}
 use Rattle.replaying.specs.Sentences.{Tells, Answered, ChangesAnswered, NothingAnswered, BadAnswered, EndAnswered, LetsMake}
-use Rattle.replaying.specs.Sentences.{CutChangesAnswered, QueriesAnswered, Verdicts, TableMade, TableNotMade}
+use Rattle.replaying.specs.Sentences.{CutChangesAnswered, QueriesAnswered, Verdicts, TableMade, ScriptsMakeForm1, TableNotMade}
 use Rattle.replaying.specs.declared.Answer.{Answer}
 use Rattle.replaying.specs.declared.Answer.the-variants.{Created, Kept}
 use Rattle.replaying.specs.declared.Replay.{Replay}
@@ -124,6 +127,23 @@ tableMade room p next c k mul1 mul2 small e =
       ap (λ (t : Turned). t .replay .events) same,
       ap (λ (t : Turned). t .room) same,
     )
+
+-- creation answers either by its header words or by a refusal
+pub scriptsMakeForm1 : ScriptsMakeForm1
+unfolding createResult createdWords
+scriptsMakeForm1 room p next c k mul1 mul2 e = go (leb c 8) (all (createTests (length fit) 1 c k mul1 mul2)) e
+  where
+    fit : List ℕ
+    fit = take (wordsFor c) room
+
+    told : Bool → Bool → Turned
+    told small good =
+        cond small (created p next room c (cond good (Done, createdWords 1 c k mul1 mul2) (Denied BadCreation, fit))) (tooLarge p next room)
+
+    go : (small good : Bool) → told small good .answer ≡ Created Done → word (told small good .room) 0 ≡ 1
+    go true true e = refl
+    go true false e = let z : _≡_ {A = ℕ} 0 1 = cc in absurd (omega arith)
+    go false good e = let z : _≡_ {A = ℕ} 0 1 = cc in absurd (omega arith)
 
 pub tableNotMade : TableNotMade
 tableNotMade room p next c k mul1 mul2 h = ⊎-elim large denied h

@@ -56,6 +56,7 @@ stopped p next = moved p (record { due = noMore; event = Begin; first = 0; secon
 -- ---- the table
 
 -- "Program cap is at most 8; a larger one gives `made=13`." "After `made=13` comes `events=0`, and no event line is read."
+-- The table's form is 1, below: document 02, request g), "scripts make form 1"
 abbrev pub created : Replay → Script → List ℕ → ℕ → Verdict × Table → Turned
 created p next room c (Done, t) =
     record { replay = record { script = next; words = wordsFor c; events = p .events }; room = inRoom (wordsFor c) room t; answer = Created Done }

@@ -7,7 +7,7 @@ use mathlib.Core.List.{List, [], _∷_, _++_}
 use mathlib.Core.Bool.{Bool}
 use mathlib.Core.Logic.{_⊎_}
 use lib.ListN.{take, drop}
-use Rattle.rules.specs.Words.{wordsFor}
+use Rattle.rules.specs.Words.{word, wordsFor}
 use Rattle.rules.specs.Answers.{changeMeans, queryMeans, verdictMeans}
 use Rattle.rules.specs.Results.{changeResult, queryResult, createResult, makeResult}
 use Rattle.rules.specs.declared.ScriptCall.{ScriptCall}
@@ -110,6 +110,11 @@ TableMade = (room : List ℕ) (p : Replay) (next : Script) (c k mul1 mul2 : ℕ)
     × (askedOf room p next (askTable c k mul1 mul2) .replay .script ≡ next)
     × (askedOf room p next (askTable c k mul1 mul2) .replay .events ≡ p .events)
     × (askedOf room p next (askTable c k mul1 mul2) .room ≡ createResult (take (wordsFor c) room) 1 c k mul1 mul2 .1 ++ drop (wordsFor c) room)
+
+-- "scripts make form 1": document 02, request g). It stands in the first word
+abbrev pub ScriptsMakeForm1 : Type 0
+ScriptsMakeForm1 = (room : List ℕ) (p : Replay) (next : Script) (c k mul1 mul2 : ℕ)
+    → askedOf room p next (askTable c k mul1 mul2) .answer ≡ Created Done → word (askedOf room p next (askTable c k mul1 mul2) .room) 0 ≡ 1
 
 -- "Program cap is at most 8; a larger one gives `made=13`." "and no event line is read": nothing more is due
 abbrev pub TableNotMade : Type 0
