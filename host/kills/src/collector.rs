@@ -124,11 +124,11 @@ fn live(path: &Path, seed: u64, keys_seed: u64) -> Answer {
     say(Said::Done(0));
 
     let header = table.words();
-    let (k, mul1, mul2) =
-        (header[word::STATE] % PHASE_UNIT, header[word::MULTIPLIER_1], header[word::MULTIPLIER_2]);
+    let (form, c, k) = (header[word::FORM], header[word::CAPACITY], header[word::STATE] % PHASE_UNIT);
+    let (mul1, mul2) = (header[word::MULTIPLIER_1], header[word::MULTIPLIER_2]);
     // All collectors of a file have the same keys, so that they find each other's.
     let mut of_keys = Random::new(keys_seed);
-    let setting = Setting { k, mul1, mul2, ..Setting::of_capacity(&mut of_keys, header[word::CAPACITY]) };
+    let setting = Setting { k, mul1, mul2, ..Setting::of_capacity(&mut of_keys, form, c) };
     let keys = Keys::random(&mut of_keys, setting);
     let mood = Mood::random(&mut random);
     let mut last = 0;

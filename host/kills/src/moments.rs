@@ -57,7 +57,7 @@ impl Moments {
     }
 
     fn one_file(&mut self, random: &mut Random, path: &Path, kills: u64) -> Result<(), String> {
-        let setting = small_setting(random);
+        let setting = small_setting(random, self.form);
         let multipliers = [setting.mul1, setting.mul2];
         let creation = Creation { form: self.form, multipliers, ..Creation::new(setting.c, setting.k) };
         // There is none before the first file.

@@ -64,9 +64,9 @@ pub struct Prepared {
 }
 
 /// A small table of random multipliers, where every kind of change comes soon.
-pub fn small_setting(random: &mut Random) -> Setting {
+pub fn small_setting(random: &mut Random, form: Form) -> Setting {
     let c = 3 + random.below(4);
-    Setting::of_capacity(random, c)
+    Setting::of_capacity(random, form.number(), c)
 }
 
 /// Histories are given up after so many events in all; far fewer will do.
@@ -111,10 +111,10 @@ struct History {
 
 impl History {
     fn start(random: &mut Random, form: Form) -> History {
-        let setting = small_setting(random);
-        let Setting { c, k, mul1, mul2, .. } = setting;
+        let setting = small_setting(random, form);
+        let Setting { form, c, k, mul1, mul2 } = setting;
         let mut words = vec![0; table_words(c).unwrap_or(0)];
-        create(&mut words, form.number(), c, k, mul1, mul2);
+        create(&mut words, form, c, k, mul1, mul2);
         let keys = Keys::random(random, setting);
         History { words, map: PlainMap::new(), keys, mood: Mood::random(random), last: 0 }
     }
