@@ -7,7 +7,6 @@ use std::str::FromStr;
 use ragansils_model::{Event, Slot, Table};
 
 use crate::case::{run_model, Call, Case, Outcome};
-use crate::script_text::SCRIPT_FORM;
 
 /// What lent words hold before a call, so that a word which the call has written is seen.
 const UNWRITTEN: u64 = 77;
@@ -65,10 +64,6 @@ impl Lent {
         Some(match (word, numbers) {
             ("view", &[from, to]) => words_text(in_range(&self.table, from, to)),
             ("pairs", []) => words_text(&self.list),
-            // Without a form it is form 1, as in scripts.
-            ("create", &[c, k, mul1, mul2]) => {
-                self.made(Call::Create { form: SCRIPT_FORM, c, k, mul1, mul2 })
-            }
             ("create", &[form, c, k, mul1, mul2]) => self.made(Call::Create { form, c, k, mul1, mul2 }),
             ("make", &[n]) => self.made(Call::Make { n }),
             ("query", &[key]) => self.queried(key),
@@ -192,14 +187,14 @@ mod tests {
 
     #[test]
     fn a_step_tells_its_placing() {
-        let lines = "Table 100\nList 20\ncreate 2 1 1 1\nbegin\nmake 1\nstep\nquery 1\n";
-        let told = "Table 100\nList 20\ncreate 2 1 1 1: 0\nbegin: 0 1 4 258\nmake 1: 0\nstep: 11 0 nowhere\nquery 1: 5 0 0 3 0 0\n";
+        let lines = "Table 100\nList 20\ncreate 1 2 1 1 1\nbegin\nmake 1\nstep\nquery 1\n";
+        let told = "Table 100\nList 20\ncreate 1 2 1 1 1: 0\nbegin: 0 1 4 258\nmake 1: 0\nstep: 11 0 nowhere\nquery 1: 5 0 0 3 0 0\n";
         assert_eq!(answers(lines).as_deref(), Ok(told));
     }
 
     #[test]
     fn a_shrink_is_told_by_words_of_their_own() {
-        let lines = "Table 100\nList 20\ncreate 2 2 1 1\nhalve\nmake 1\nhalve\nturn\nall 1 2 3\n";
+        let lines = "Table 100\nList 20\ncreate 1 2 2 1 1\nhalve\nmake 1\nhalve\nturn\nall 1 2 3\n";
         let told = answers(lines).unwrap();
         let last: Vec<&str> = told.lines().skip(3).collect();
         let every = "all 1 2 3: 5 0 0 3 0 0: 0 4 23 1 24 2 25 3 22 1: 5 0: 5 0: 7 0: 7 0: 0 1 4 258: 11 0 nowhere: 0 1 4 1: 0 0";
@@ -208,17 +203,20 @@ mod tests {
 
     #[test]
     fn a_query_tells_where_its_key_stands() {
-        let lines = "Table 48\nList 20\ncreate 1 1 4294967297 4294967297\ninsert 3 7 8\nmake 4\nquery 3\n";
+        let lines = "Table 48\nList 20\ncreate 1 1 1 4294967297 4294967297\ninsert 3 7 8\nmake 4\nquery 3\n";
         let told = answers(lines).unwrap();
         assert_eq!(told.lines().last(), Some("query 3: 0 7 8 1 36 0"));
     }
 
     #[test]
-    fn a_creation_may_name_its_form() {
-        let told = |create: &str| answers(&format!("Table 48\nList 20\n{create}\nview 0 1\n")).unwrap();
-        assert!(told("create 1 1 1 1").ends_with("view 0 1: 1\n"));
-        assert!(told("create 2 1 1 1 1").ends_with("view 0 1: 2\n"));
-        assert!(told("create 3 1 1 1 1").ends_with("create 3 1 1 1 1: 13\nview 0 1: 77\n"));
+    fn a_creation_names_its_form() {
+        let told = |create: &str| answers(&format!("Table 48\nList 20\n{create}\nview 0 1\n"));
+        let ends_with = |create: &str, end: &str| assert!(told(create).unwrap().ends_with(end), "{create}");
+        ends_with("create 1 1 1 1 1", "view 0 1: 1\n");
+        ends_with("create 2 1 1 1 1", "view 0 1: 2\n");
+        ends_with("create 3 1 1 1 1", "create 3 1 1 1 1: 13\nview 0 1: 77\n");
+        assert_eq!(told("create 1 1 1 1"), Err(BadLine(3)));
+        assert_eq!(told("create 1 1 1 1 1 1"), Err(BadLine(3)));
     }
 
     #[test]

@@ -2,14 +2,15 @@
 // "Each public call states what it answers and what every buffer handed to it holds, on every input and refusal": so the
 // words may be damaged and the lent lengths wrong.
 //
-// A line of the input is a word and up to four numbers, with one space between; only the word's first letter is looked at.
+// A line of the input is a word and up to five numbers, with one space between; only the word's first letter is looked at.
 //   Table N                   lends N words as the table, each 77
 //   List N                    lends N words as the list, each 77
 //   Word I V                  puts V in word I of the table
 //   Give I V                  puts V in word I of the list
 //   view FROM TO              tells words FROM to TO − 1 of the table
 //   pairs                     tells all words of the list
-//   create C K A1 A2, make N  tell the answer's number
+//   create F C K A1 A2, make N
+//                             tell the answer's number; F is the form
 //   query KEY                 tells number, function, place, probes, word and level
 //   insert KEY F P, update KEY F P, delete KEY, begin, halve, turn, step, end, recover
 //                             tell number, stores and the words of the stores; step tells the placing besides. halve is the call
