@@ -81,16 +81,14 @@ queryResult t key = checked (λ (r : Refusal). Unknown r 0) (queryTests t) (quer
 -- create: "13 | c, first k (1 to c), length or a multiplier bad"; document 02, request g): "Creation is told the form; any but 1 and 2 gives 13".
 -- The lent words are the table at entry and at exit
 unfoldable pub createTests : ℕ → ℕ → ℕ → ℕ → ℕ → ℕ → List Bool
-createTests size form c k mul1 mul2 =
-    formGood form ∷ all (capacityTests c) ∷ leb 1 k ∷ leb k c ∷ eqb size (wordsFor c) ∷ odd mul1 ∷ odd mul2 ∷ []
+createTests size form c k mul1 mul2 = formGood form ∷ all (capacityTests c) ∷ leb 1 k ∷ leb k c ∷ eqb size (wordsFor c) ∷ odd mul1 ∷ odd mul2 ∷ []
 
 -- "Creation zeroes all words and writes the header."
 unfoldable pub created : ℕ → ℕ → ℕ → ℕ → ℕ → Table
 created form c k mul1 mul2 = form ∷ c ∷ mul1 ∷ mul2 ∷ stateWord (record { k = k; phase = 0 }) ∷ replicate (wordsFor c - 5) 0
 
 unfoldable pub createResult : Table → ℕ → ℕ → ℕ → ℕ → ℕ → Verdict × Table
-createResult t form c k mul1 mul2 =
-    cond (all (createTests (length t) form c k mul1 mul2)) (Done, created form c k mul1 mul2) (Denied BadCreation, t)
+createResult t form c k mul1 mul2 = cond (all (createTests (length t) form c k mul1 mul2)) (Done, created form c k mul1 mul2) (Denied BadCreation, t)
 
 -- make: "14 | n pairs are not in the list, or an index among them is outside the table". The list is only read
 unfoldable pub makeTests : Table → List ℕ → ℕ → List Bool
