@@ -61,8 +61,8 @@ fn find(t: &[u64], h: Header, key: u64, x: Hashes, tags: bool) -> Lookup
     answer
 }
 
-// The lookup of a key whose hashes are known, in a table whose slots have tags or have none. Who asks hands in a constant: so the compiler makes
-// a quick search of each kind out of the one above.
+// The lookup of a key whose hashes are known, in a table whose slots have tags or have none. Callers pass a constant, so that the compiler makes a
+// fast search for each form.
 pub fn lookup_with(t: &[u64], h: Header, key: u64, x: Hashes, tags: bool) -> Lookup
     requires { ⌜ GoodHeader (length (now t)) h × (x ≡ hashesOf h key) × (tags ≡ tagged h) ⌝ }
     ensures { λ r. ⌜ LookupTells r (lookupOf (now (t .entry)) h key) × Standing (now (t .entry)) r ⌝ }

@@ -12,7 +12,7 @@ use lib.Dec.{eqb, ltb}
 use borrow.Author.Tests.{eq-eqb, ne-eqb, eqb-true, ltb-true}
 use Rattle.rules.proofs.Basics.Lists.{never}
 use Rattle.rules.proofs.Words.Fields.{four, built, Within, fields, bitAt, tagAt, gapAt, restAt, bits-small, tags-small, gap-small}
-use Rattle.rules.proofs.Words.Tokens.{below, below-all}
+use Rattle.rules.proofs.Words.Tokens.{below-all}
 use Rattle.reading.specs.Tokens.{bitWhere, fitting, readable, spread, lowestMark, restOf}
 
 -- ---- four bytes

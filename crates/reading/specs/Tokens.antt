@@ -13,10 +13,6 @@ use Rattle.rules.specs.declared.Header.{Header}
 abbrev pub entryOf : ℕ → ℕ → ℕ
 entryOf table n = table / 2 ^ (4 * n) % 16
 
--- the tag that a product of hash 1 gives
-unfoldable pub tagFrom : Header → ℕ → ℕ
-tagFrom h product = cond (tagged h) (product / 2 ^ 24 % 256) 0
-
 -- a tag: eight bits, and 0 where slots have none
 abbrev pub TagFor : Header → ℕ → Type 0
 TagFor h tag = (tag < 256) × (tagged h ≡ false → tag ≡ 0)

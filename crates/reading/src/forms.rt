@@ -1,8 +1,7 @@
-// The two forms of a table, chosen by word 0: here, and in `tokens`, code asks which one a table has.
+// The two forms of a table, chosen by word 0: what they mean is known here and in `tokens`. Who calls the lookup asks only whether there are tags.
 use rules::Header;
 ghost use mathlib.Core.Path.{_≡_};
-ghost use Rattle.rules.specs.Forms.{formGood, tagged, mixed as mixedKey};
-ghost use Rattle.reading.specs.Tokens.{tagFrom};
+ghost use Rattle.rules.specs.Forms.{formGood, tagged, mixed as mixedKey, tagFrom};
 
 // "any but 1 and 2" is refused.
 pub fn form_good(form: u64) -> bool

@@ -21,7 +21,7 @@ use Rattle.recovering.specs.declared.target.Home.the-variants.{In, Nowhe
 use Rattle.recovering.specs.declared.target.Target.{Target}
 use Rattle.recovering.specs.declared.target.Target.the-variants.{At, Nothing}
 
--- ---- "every token word at most 15, and 0 in levels not in use"
+-- ---- "every token word at most 15", which is of form 1, "and 0 in levels not in use"
 
 unfoldable pub tidyToken : Table → Header → ℕ → Bool
 tidyToken t h j = eqb (tokenOf t j) (meantOf t h j)

@@ -1,4 +1,4 @@
-// "every token word at most 15, and 0 in levels not in use"
+// "every token word at most 15", which is of form 1, "and 0 in levels not in use"
 use reading::levels::level_count;
 use reading::levels::nth_level;
 use reading::slots::token;

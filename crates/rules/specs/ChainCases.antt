@@ -21,7 +21,7 @@ use Rattle.rules.specs.Calls.{headerGood, listLong, flagClear, changingT
 use Rattle.rules.specs.Results.{changeResult, createTests, created, createResult, makeTests, makeResult}
 use Rattle.rules.specs.Chains.{keyOf, positionGood, recordsLong, positionTests, chainTests, walk, queryOf, chainResult}
 use Rattle.rules.specs.declared.Record.{Record}
-use Rattle.rules.specs.Examples.{Shown, tells, Row, row, inserted, madeFirst, madeAll, fresh, usual}
+use Rattle.rules.specs.Examples.{Shown, tells, Row, row, inserted, madeFirst, madeAll, usual}
 use Rattle.rules.specs.Examples.{freshIn, usualIn}
 
 -- depths 0, 1 and 2 of address 0; and of address 1 depths 0 and 2, without 1

@@ -1,11 +1,10 @@
 -- Document 02, request g): cases of form 2 as one table under one statement, computed from the rules. Each row holds what the rules compute and
 -- what the request's sentences ask for. Tables and rows are those of `Examples`, made as a caller makes them: c = 2, k = 1 and the usual
--- multipliers, but for rows 14 to 18, 21 and 22. The keys of document 01's examples are below 2^24 and have tag 0 there, so these cases take
+-- multipliers, but for rows 14 to 18, 21, 22 and 31. The keys of document 01's examples are below 2^24 and have tag 0 there, so these cases take
 -- `wide n`, which has the places of key n and the tag n + 4. Bucket 0 has token word 9, buckets 1 and 2 have 22 and 35.
 -- Assumes nothing.
 use Prim.Native.Nat.{ℕ, _+_, _-_, _*_, _^_}
 use mathlib.Core.Path.{_≡_, refl}
-use mathlib.Core.Bool.{Bool, true}
 use mathlib.Core.List.{List, [], _∷_, _++_, map}
 use lib.ListN.{replicate, set}
 use Rattle.rules.specs.Words.{Table, word}
@@ -15,7 +14,7 @@ use Rattle.rules.specs.Calls.{shrinkTests, shrinkOf, insert, update, del
 use Rattle.rules.specs.Results.{createResult}
 use Rattle.rules.specs.Chains.{keyOf, positionGood, recordsLong, positionTests, chainTests, walk, queryOf, chainResult}
 use Rattle.rules.specs.declared.Record.{Record}
-use Rattle.rules.specs.Examples.{Shown, lists, refuses, tells, words, Row, row, sees, asks, indexes, tokens, listOf, inserted, answered}
+use Rattle.rules.specs.Examples.{lists, refuses, tells, words, Row, row, sees, asks, indexes, tokens, listOf, inserted, answered}
 use Rattle.rules.specs.Examples.{madeFirst, madeAll, freshIn, usualIn, recordOf, opened}
 use Rattle.rules.specs.ChainCases.{shows}
 
@@ -93,7 +92,7 @@ changes r =
     ∷ row 10 (sees (madeFirst (full r) (update (wide 1) (recordOf 30 40)) 3) recover) (lists [])
     ∷ []
 
--- what moves an item takes its tag from its key: here 12, of key 8
+-- what moves an item takes its tag from its key: in row 11 it is 12, of `wide 8`
 unfoldable pub moves : (ℕ → Record) → List Row
 moves r =
     row 11 (words (indexes (listOf (tight r) (insert (wide 15) (r 15))))) (words (23 ∷ 24 ∷ 25 ∷ 22 ∷ 9 ∷ 10 ∷ 11 ∷ 12 ∷ 9 ∷ []))
@@ -101,6 +100,9 @@ moves r =
     -- steps of a growth and of a shrink
     ∷ row 12 (words (word (fuller r) 9 ∷ [])) (words (81890577679 ∷ []))
     ∷ row 13 (sees (madeAll (fuller r) begin) step)
+    (lists ((62, wide 9) ∷ (63, r (wide 9) .function) ∷ (64, r (wide 9) .place) ∷ (61, 3329) ∷ (9, 81890574350) ∷ []))
+    -- and not from the word: the same with tag 99 for slot 0 of bucket 0 instead of 13
+    ∷ row 13 (sees (set (madeAll (fuller r) begin) 9 (81890577679 + 86 * 2 ^ 8)) step)
     (lists ((62, wide 9) ∷ (63, r (wide 9) .function) ∷ (64, r (wide 9) .place) ∷ (61, 3329) ∷ (9, 81890574350) ∷ []))
     ∷ row 14 (words (word (shrunk r) 48 ∷ [])) (words (525315 ∷ []))
     ∷ row 15 (sees (shrunk r) step)
@@ -115,13 +117,16 @@ moves r =
     ∷ []
 
 -- "In form 2, before hashing, a key is combined by exclusive or with itself divided by 2^32. Form 1 keeps the old rule": the key is
--- 3 · 2^32 + 5 · 2^24 + 2, of which form 2 hashes 5 · 2^24 + 1
+-- 3 · 2^32 + 5 · 2^24 + 2, of which form 2 hashes 3 · 2^32 + 5 · 2^24 + 1
 unfoldable pub hashed : (ℕ → Record) → List Row
 hashed r =
     let key : ℕ = 12968787970 in
+    let far : ℕ = 2 ^ 56 + 3 * 2 ^ 24 in
     let odd1 : ℕ = 11400714819323198485 in
     let odd2 : ℕ = 14029467366897019727 in
     row 19 (sees new (insert key (r 1))) (lists ((23, key) ∷ (24, r 1 .function) ∷ (25, r 1 .place) ∷ (22, 1281) ∷ []))
+    -- no sum: of 3 · 2^24 and 2^24 the exclusive or is 2 · 2^24
+    ∷ row 19 (sees new (insert far (r 1))) (lists ((23, far) ∷ (24, r 1 .function) ∷ (25, r 1 .place) ∷ (22, 513) ∷ []))
     ∷ row 20 (sees (usualIn 1) (insert key (r 1))) (lists ((36, key) ∷ (37, r 1 .function) ∷ (38, r 1 .place) ∷ (35, 1) ∷ []))
     -- "the hash 1 product modulo 2^64, divided by 2^24, modulo 256"
     ∷ row 21 (sees (freshIn 2 odd1 odd2) (insert 1 (r 1))) (lists ((36, 1) ∷ (37, r 1 .function) ∷ (38, r 1 .place) ∷ (35, 32513) ∷ []))
@@ -176,7 +181,7 @@ keeps r =
     ∷ row 39 (sees high recover) (refuses 12)
     ∷ row 40 (sees high (delete (wide 1))) (lists ((35, 3 * 2 ^ 40) ∷ []))
     ∷ row 41 (asks high (wide 1)) (tells 0 (10 ∷ 20 ∷ 1 ∷ 36 ∷ 0 ∷ []))
-    -- the same word in a table of form 1: the rest is read modulo 16
+    -- in a table of form 1 only bits 0 to 3 of a token word are read
     ∷ row 42 (sees (set (set one 0 1) 35 1281) recover) (refuses 12)
     ∷ row 43 (sees (set (set one 0 1) 35 1281) (delete (wide 1))) (lists ((35, 0) ∷ []))
     ∷ row 44 (asks (set (set one 0 1) 35 1537) (wide 1)) (tells 0 (10 ∷ 20 ∷ 1 ∷ 36 ∷ 0 ∷ []))

@@ -1,14 +1,14 @@
 -- Document 02, request g), a second time: its sentences in facts about the words of the table and their bits. They are types, as those of `Demands`
 -- are: a law of proofs/ that proves one bears its name, beginning with a small letter.
--- Said there: "any but 1 and 2 gives 13, and in a table 1", by `CreateAnswers` and `HeaderWords`; that creation writes the form it is told, by
--- `CreatedIsEmpty`; that no call changes it, by `Gives`; "all store numbers stay", by `StoreNumbers`, which speaks of either form, as all
+-- `Demands` says: "any but 1 and 2 gives 13, and in a table 1", by `CreateAnswers` and `HeaderWords`; that creation writes the form it is told, by
+-- `CreatedIsEmpty`; that no call changes it, by `StoresAsWritten`; "all store numbers stay", by `StoreNumbers`, which speaks of either form, as all
 -- statements about cuts do. "Scripts make form 1" is `ScriptsMakeForm1` of the crate `replaying`.
 -- Assumes nothing.
 use Prim.Native.Nat.{ℕ, _+_, _-_, _*_, _/_, _%_, _^_, _≤_, _<_}
 use mathlib.Core.Path.{_≡_}
 use mathlib.Core.Bool.{true, _&&_}
 use mathlib.Core.List.{List, List·Memᴰ as In}
-use mathlib.Core.Logic.{_↔_}
+use mathlib.Core.Logic.{_⊎_, _↔_}
 use mathlib.Core.Option.{Option}
 use lib.Dec.{eqb}
 use Rattle.rules.specs.Choice.{given, firstOf}
@@ -19,13 +19,14 @@ use Rattle.rules.specs.Stores.{Store}
 use Rattle.rules.specs.Soundness.{SoundTable}
 use Rattle.rules.specs.Calls.{refused, listed, Call, query, insert, update, delete, recover, outcome}
 use Rattle.rules.specs.Results.{queryAt, queryResult}
+use Rattle.rules.specs.NoPlace.{NoPlaceFor}
 use Rattle.rules.specs.Demands.{HeaderWords, MayChange}
 use Rattle.rules.specs.declared.Header.{Header}
 use Rattle.rules.specs.declared.Level.{Level}
 use Rattle.rules.specs.declared.Place.{Place}
 use Rattle.rules.specs.declared.Slot.{Slot}
 use Rattle.rules.specs.declared.Record.{Record}
-use Rattle.rules.specs.declared.Refusal.the-variants.{KeyPresent, KeyAbsent, NoKind}
+use Rattle.rules.specs.declared.Refusal.the-variants.{KeyAbsent, NoPlace, NoKind}
 
 -- bit i of a number, and its eight bits from bit 8 + 8s on
 abbrev pub bit : ℕ → ℕ → ℕ
@@ -96,7 +97,7 @@ StoresChangeOneSlot =
     → (h .form ≡ 1 → OneSlot (w % 16) (show h w s key) s 1 0 × OneSlot (w % 16) (hide h w s) s 0 0)
     × (h .form ≡ 2 → OneSlot w (show h w s key) s 1 (tagOf h key) × OneSlot w (hide h w s) s 0 0)
 
--- so a store of a call to a token word leaves bits 4 to 7 and those from 40 on as they are
+-- so a store of a call to a token word leaves bits 4 to 7 and those from 40 on as they are. Which slots it shows and hides is `StoresAsWritten`
 abbrev pub TokenStoresKeep : Type 0
 TokenStoresKeep =
     (t : Table) (n : ℕ) (q : Call) (xs : List Store) → outcome t n q ≡ listed xs → word t 0 ≡ 2
@@ -115,7 +116,8 @@ HoldsByTag =
     ↔ ((bit (word t (9 + 13 * x .bucket)) (x .slot) ≡ 1)
     × ((eight (word t (9 + 13 * x .bucket)) (x .slot) ≡ tagOf (headerOf t) key) × (word t (9 + 13 * x .bucket + (1 + 3 * x .slot)) ≡ key))))
 
--- so in a damaged table a wrong tag hides a key: with no slot of a place whose tag fits, the calls that look it up say that it is absent
+-- so in a damaged table a wrong tag hides a key: where no slot of its places is taken, holds the key and has a fitting tag, the calls that look it up
+-- say that it is absent, and insert does not see it. The chain asks as query does (`ChainRefusals`)
 abbrev pub Hidden : Table → ℕ → Type 0
 Hidden t key =
     (p : Place) → In p (placesOf (headerOf t) key) → (s : ℕ) → s < 4 → eight (word t (9 + 13 * p .bucket)) s ≡ tagOf (headerOf t) key
@@ -125,7 +127,9 @@ abbrev pub WrongTagHides : Type 0
 WrongTagHides =
     (t : Table) (n key : ℕ) → MayChange t n → word t 0 ≡ 2 → Hidden t key
     → (outcome t n (query key) ≡ refused KeyAbsent) × (outcome t n (delete key) ≡ refused KeyAbsent)
-    × ((r : Record) → (outcome t n (update key r) ≡ refused KeyAbsent) × (outcome t n (insert key r) ≡ refused KeyPresent → ⊥))
+    × ((r : Record) → (outcome t n (update key r) ≡ refused KeyAbsent)
+    × (((xs : List Store) × (outcome t n (insert key r) ≡ listed xs))
+    ⊎ (NoPlaceFor t (headerOf t) key × (outcome t n (insert key r) ≡ refused NoPlace))))
 
 -- ==== "On a sound table its answer equals that of reading every slot, buckets looked at included."
 

@@ -28,6 +28,9 @@ tagged h = eqb (h .form) 2
 unfoldable pub mixed : Header → ℕ → ℕ
 mixed h key = cond (tagged h) (bitXor key (key / 2 ^ 32)) key
 
--- the tag of a key: "the hash 1 product modulo 2^64, divided by 2^24, modulo 256". In form 1 a key has none, which is written as 0
+-- the tag from a product, and of a key: "the hash 1 product modulo 2^64, divided by 2^24, modulo 256". In form 1 a key has none, which is written as 0
+abbrev pub tagFrom : Header → ℕ → ℕ
+tagFrom h product = cond (tagged h) (product / 2 ^ 24 % 256) 0
+
 unfoldable pub tagOf : Header → ℕ → ℕ
-tagOf h key = cond (tagged h) (productOf (mixed h key) (h .mul1) / 2 ^ 24 % 256) 0
+tagOf h key = tagFrom h (productOf (mixed h key) (h .mul1))

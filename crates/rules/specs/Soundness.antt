@@ -26,7 +26,8 @@ use Rattle.rules.specs.declared.Finding.the-variants.{Sound, Doubled, Fl
 unfoldable pub takenSlots : Table → List Slot
 takenSlots t = select (taken t (headerOf t)) (slotsInUse (headerOf t .state))
 
--- "every token word at most 15": each is what it should be
+-- form 1: "every token word at most 15"; form 2, request g): "Free slots have tag 0; all other upper bits are 0; soundness and recovery test this".
+-- Each is what it should be
 unfoldable pub tokensTidy : Table → Bool
 tokensTidy t = all (map (λ (j : ℕ). eqb (tokenOf t j) (meantOf t (headerOf t) j)) (allBuckets (headerOf t)))
 
@@ -56,7 +57,7 @@ unfoldable pub twins : Table → List (Slot × Slot)
 twins t = twinsOf t (takenSlots t)
 
 -- "Sound: good header; flag 0; every token word at most 15, and 0 in levels not in use; each taken slot in a place of its
--- key; no key in two taken slots."
+-- key; no key in two taken slots."; "at most 15" is of form 1
 unfoldable pub soundTests : Table → List Bool
 soundTests t = all (orderlyTests 0 t) ∷ empty (twins t) ∷ []
 
@@ -67,7 +68,8 @@ pub record TakenSlot (t : Table) (x : Slot) : Type 0 where
   pub used : InUse (headerOf t .state) x
   pub shown : taken t (headerOf t) x ≡ true
 
--- "good header"; the flag is f; "every token word at most 15, and 0 in levels not in use; each taken slot in a place of its key"
+-- "good header"; the flag is f; "every token word at most 15", in form 2 what request g) asks of it, "and 0 in levels not in use; each taken slot in
+-- a place of its key"
 pub record OrderlyTable (f : ℕ) (t : Table) : Type 0 where
   pub header : GoodHeader (length t) (headerOf t)
   pub flag : flagOf t ≡ f

@@ -21,7 +21,7 @@ use Rattle.rules.specs.Calls.{headerGood, listLong, flagClear, changingT
 use Rattle.rules.specs.Calls.{interimBucket, itemsFrom, hasPlace, stepItem, stepTests, stepOf, insert, update, delete, begin, step, outcome}
 use Rattle.rules.specs.Results.{changeResult, queryResult, createTests, created, createResult, makeTests, makeResult}
 use Rattle.rules.specs.declared.Record.{Record}
-use Rattle.rules.specs.Examples.{Row, row, tells, asks, madeFirst, madeAll, recordOf, fresh, usual, afterE1, beforeE8}
+use Rattle.rules.specs.Examples.{Row, row, tells, asks, madeFirst, madeAll, recordOf, usual, afterE1, beforeE8}
 use Rattle.rules.specs.Examples.{freshIn, usualIn, afterE1In, beforeE8In}
 
 -- keys 1, 3, 5, 7 stand in bucket 2, and 9, 11, 13, 15 in bucket 0; the same while it grows; after a step, which moves key 9 to bucket 4; and

@@ -1,11 +1,11 @@
 -- Document 02, request g), sentence by sentence: what a key hashes to, its tag, the token words by their bits, what a token store changes, and the
 -- lookup by tag.
 -- Assumes nothing.
-use Prim.Native.Nat.{ℕ, _+_, _-_, _*_, _/_, _%_, _^_, _≤_, _<_}
+use Prim.Native.Nat.{ℕ, _+_, _-_, _*_, _/_, _%_, _^_, _<_}
 use mathlib.Core.Path.{_≡_, refl, sym, ap, _∙_}
 use mathlib.Core.Bool.{Bool, true, false, _&&_}
 use mathlib.Core.List.{List, [], _∷_, List·Memᴰ as In, List·Memᴰ·head as here, List·Memᴰ·tail as there}
-use mathlib.Core.Logic.{_⊎_, inl, inr, _↔_, Iff·rfl, Iff·trans}
+use mathlib.Core.Logic.{_⊎_, inl, inr, _↔_}
 use mathlib.Core.Option.{Option}
 use native.Mathlib.Omega.{arith}
 use lib.Dec.{eqb}
@@ -14,22 +14,22 @@ use borrow.Author.Tests.{eq-eqb, eqb-true}
 use Rattle.words.specs.Product.{productOf, hashOf}
 use Rattle.rules.specs.Choice.{given, firstOf}
 use Rattle.rules.specs.Forms.{tagged, tagOf}
-use Rattle.rules.specs.Words.{Table, word, headerOf, slotsIn, keyWord, keyIn, tokenWord, tokenOf, keysOf, tokenNumber, isTaken, wordRead, tagIn, taken}
-use Rattle.rules.specs.Words.{slots, slotAt, placeOf, show, hide, meantOf}
+use Rattle.rules.specs.Words.{Table, word, headerOf, slotsIn, keyWord, keyIn, tokenWord, tokenOf, keysOf, tokenNumber, isTaken, tagIn, taken}
+use Rattle.rules.specs.Words.{slots, slotAt, placeOf, meantOf}
 use Rattle.rules.specs.Places.{hashesOf, placesOf, fits, holds, hitIn, seek, lookup}
+use Rattle.rules.specs.Stores.{Store}
 use Rattle.rules.specs.Soundness.{TakenSlot, OrderlyTable}
-use Rattle.rules.specs.Calls.{refused, query, insert, update, delete, recover, outcome}
+use Rattle.rules.specs.Calls.{refused, listed, query, insert, update, delete, recover, outcome}
 use Rattle.rules.specs.Results.{queryAt}
-use Rattle.rules.specs.Demands.{Held, MayChange, FirstRefuses, OfNoKind, refusals}
+use Rattle.rules.specs.Demands.{Held, FirstRefuses, OfNoKind, refusals}
 use Rattle.rules.specs.NoPlace.{NoPlaceFor}
 use Rattle.rules.specs.FormSentences.{bit, eight, MixedBits, PlacesByHash, TagBelowHash, RightWord, WordsExactly, WrongWordsAreTwelve, OneSlot}
-use Rattle.rules.specs.FormSentences.{StoresChangeOneSlot, TokenStoresKeep, HoldsByTag, Hidden, WrongTagHides, readAll, ReadsAsAll}
+use Rattle.rules.specs.FormSentences.{StoresChangeOneSlot, TokenStoresKeep, HoldsByTag, Hidden, WrongTagHides, ReadsAsAll}
 use Rattle.rules.specs.FormSentences.{TagsMissNothing, NoTagsInForm1}
-use Rattle.rules.specs.declared.Header.{Header}
 use Rattle.rules.specs.declared.Place.{Place}
 use Rattle.rules.specs.declared.Slot.{Slot}
 use Rattle.rules.specs.declared.Record.{Record}
-use Rattle.rules.specs.declared.Refusal.the-variants.{KeyPresent, KeyAbsent, NoPlace, NoKind}
+use Rattle.rules.specs.declared.Refusal.the-variants.{KeyAbsent, NoPlace, NoKind}
 use Rattle.rules.proofs.Basics.Lists.{map-in, from-in}
 use Rattle.rules.proofs.Basics.Tests.{Tells, tells-eq, tells-and}
 use Rattle.rules.proofs.Words.Fields.{built, bitAt, tagAt, gapAt, restAt, but, but-here, but-other, low-bit, changed-bit, changed-tag, keeps-built}
@@ -40,7 +40,7 @@ use Rattle.rules.proofs.Places.Probing.{first-bucket, second-bucket}
 use Rattle.rules.proofs.Places.PlacesInUse.{places-in-use, slot-of-place}
 use Rattle.rules.proofs.Places.Lookups.{tag-fits}
 use Rattle.rules.proofs.Calls.Queries.{query-by-lookup}
-use Rattle.rules.proofs.Calls.Refusals.{refusalsInOrder, past-three, first-exactly}
+use Rattle.rules.proofs.Calls.Refusals.{refusalsInOrder, first-exactly}
 use Rattle.rules.proofs.Calls.Inside.{token-stored}
 
 -- ---- hashes and tags
@@ -187,7 +187,7 @@ module _ (t : Table) (key : ℕ) (form : word t 0 ≡ 2) (hidden : Hidden t key)
       hidden p i (x .slot) low (rw same at (f .1 .0)) (rw same at (f .0), rw same at (f .1 .1))
 
 pub wrongTagHides : WrongTagHides
-wrongTagHides t n key may form hidden = (go-query (refusalsInOrder t n (query key)), go-delete, λ r. (go-update r, go-insert r))
+wrongTagHides t n key may form hidden = (go-query (refusalsInOrder t n (query key)), go-delete, λ r. (go-update r, go-insert r (refusalsInOrder t n (insert key r))))
   where
     none : Held t key → ⊥
     none = not-held t key form hidden
@@ -204,10 +204,15 @@ wrongTagHides t n key may form hidden = (go-query (refusalsInOrder t n (query ke
     go-update : (r : Record) → outcome t n (update key r) ≡ refused KeyAbsent
     go-update r = first-exactly t n (Held t key → ⊥) KeyAbsent [] _ (omega arith) tt (refusalsInOrder t n (update key r)) .1 (may, none)
 
-    go-insert : (r : Record) → outcome t n (insert key r) ≡ refused KeyPresent → ⊥
-    go-insert r e =
-        none (first-exactly t n (Held t key) KeyPresent ((NoPlaceFor t (headerOf t) key, NoPlace) ∷ []) _ (omega arith) (λ q. omega arith, tt)
-        (refusalsInOrder t n (insert key r)) .0 e .1)
+    go-insert : (r : Record) → FirstRefuses (refusals t n (insert key r)) (outcome t n (insert key r))
+        → ((xs : List Store) × (outcome t n (insert key r) ≡ listed xs))
+        ⊎ (NoPlaceFor t (headerOf t) key × (outcome t n (insert key r) ≡ refused NoPlace))
+    go-insert r (inl (bad, e)) = absurd (bad (may .header))
+    go-insert r (inr (h, inl (short, e))) = absurd (omega (arith, short, may .list))
+    go-insert r (inr (h, inr (l, inl (set, e)))) = absurd (set (may .flag))
+    go-insert r (inr (h, inr (l, inr (f, inl (k, e))))) = absurd (none k)
+    go-insert r (inr (h, inr (l, inr (f, inr (k, inl refusal))))) = inr refusal
+    go-insert r (inr (h, inr (l, inr (f, inr (k, inr (p, x)))))) = inl x
 
 -- ---- reading every slot
 

@@ -1,16 +1,15 @@
 -- The forms: which there are, and what each makes of a key before it is hashed. With `Tokens` this is all that knows what a form means.
 -- Assumes nothing.
-use Prim.Native.Nat.{ℕ, zero, suc, _+_, _*_, _/_, _%_, _^_, _<_}
-use mathlib.Core.Path.{_≡_, refl, sym, ap, _∙_}
-use mathlib.Core.Bool.{Bool, true, false, cond}
+use Prim.Native.Nat.{ℕ, zero, suc, _+_, _/_, _%_, _^_, _<_}
+use mathlib.Core.Path.{_≡_, refl, ap, _∙_}
+use mathlib.Core.Bool.{Bool, true, false}
 use mathlib.Core.List.{[], _∷_}
 use mathlib.Core.Logic.{inl, inr}
 use native.Mathlib.Omega.{arith}
 use lib.Bits.{bitXor, xor-shr, xor-mod}
 use lib.Dec.{eqb}
-use lib.Pow.{pow-add, pow-pos, shr-shr}
 use borrow.Author.Tests.{eq-eqb, ne-eqb, eqb-true}
-use Rattle.words.specs.Product.{productOf, hashOf}
+use Rattle.words.specs.Product.{productOf}
 use Rattle.rules.specs.Choice.{any}
 use Rattle.rules.specs.Forms.{formGood, GoodForm, tagged, mixed, tagOf}
 use Rattle.rules.specs.Places.{hashesOf}

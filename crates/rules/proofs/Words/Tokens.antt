@@ -1,4 +1,4 @@
--- Token words, in either form: with `Fields` and `Hashed` this is all that knows what the form means. What the two token stores do: show sets its slot's
+-- Token words, in either form: with `Fields` and `Forms` this is all that knows what the form means. What the two token stores do: show sets its slot's
 -- bit and tag, hide clears them, and all other bits stay. And a word that is what should stand in its bucket stays so where a slot is shown with
 -- its key, where a slot is hidden, and where the keys of free slots change.
 -- Assumes nothing.
@@ -10,7 +10,7 @@ use mathlib.Core.Logic.{Iff·rfl}
 use native.Mathlib.Omega.{arith}
 use native.Mathlib.Decide.{ℕ-discrete}
 use lib.Dec.{eqb}
-use lib.Pow.{shr-le, pow-add, pow-pos}
+use lib.Pow.{shr-le}
 use borrow.Author.Tests.{eq-eqb, ne-eqb}
 use Rattle.rules.specs.Choice.{all, from}
 use Rattle.rules.specs.Forms.{tagged, mixed, tagOf}
@@ -22,7 +22,8 @@ use Rattle.rules.proofs.Basics.Lists.{in-from}
 use Rattle.rules.proofs.Basics.Tests.{tells-all}
 use Rattle.rules.proofs.Words.Fields.{four, built, built-same, Within, fields, bit-small, read-bit, read-tag, bitAt, tagAt, gapAt, restAt, low-bit, low-fields}
 use Rattle.rules.proofs.Words.Fields.{but, but-here, but-other, without, without-built, without-rest, with-built, without-low, with-low}
-use Rattle.rules.proofs.Words.Fields.{keeps-built, with-fits, changed-bit, changed-tag}
+use Rattle.rules.proofs.Words.Fields.{keeps-built, with-fits, changed-bit}
+use Rattle.rules.proofs.Words.Forms.{tag-untagged}
 
 -- ---- the four bits
 
@@ -161,10 +162,6 @@ module _ (h : Header) where
   unfolding wordRead
   low-read e w = rw e
 
-  no-tag : tagged h ≡ false → (key : ℕ) → tagOf h key ≡ 0
-  unfolding tagOf
-  no-tag e key = rw e
-
   pub no-tag-in : tagged h ≡ false → (w s : ℕ) → s < 4 → tagIn h w s ≡ 0
   unfolding tagIn tokenNumber
   no-tag-in e w s l =
@@ -190,7 +187,7 @@ module _ (h : Header) where
 
     pub show-stored : (key : ℕ) → Stored h w (show h u s key)
     show-stored key = record {
-      low = λ e. rw (show-is h u s key low, low-read e u, no-tag e key) (with-low (tokenNumber u) (number-low u) s low);
+      low = λ e. rw (show-is h u s key low, low-read e u, tag-untagged h e key) (with-low (tokenNumber u) (number-low u) s low);
       kept = after (show h u s key) 1 (tagOf h key) (omega arith) (tag-small h key) (show-built h u s key low);
     }
 

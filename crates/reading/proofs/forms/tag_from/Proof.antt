@@ -1,7 +1,6 @@
 -- `reading::forms::tag_from` meets its contract.
 -- Assumes nothing.
 use mathlib.Core.Path.{sym, _∙_}
-use Rattle.reading.specs.Tokens.{tagFrom}
 use borrow.Author.Needs.{needs}
 use Rattle.reading.proofs.forms.tag_from.Statement.{statement}
 use Rattle.reading.proofs.forms.tag_from.Tie as tie
@@ -10,11 +9,9 @@ has-tags-requires : tie.Need-has-tags-requires
 has-tags-requires c κs = search needs
 
 returns : tie.Need-returns
-unfolding tagFrom
 returns c = rw (sym (c .before .has-tags .ensures) ∙ c .if1 .taken)
 
 returns-2 : tie.Need-returns-2
-unfolding tagFrom
 returns-2 c = rw (sym (c .before .has-tags .ensures) ∙ c .if1 .left)
 
 pub tag-from-spec : {M : Type 1} → statement M

@@ -3,7 +3,6 @@
 use Rattle.words.specs.Product.{hashOf}
 use Rattle.rules.specs.Forms.{tagOf}
 use Rattle.rules.specs.Places.{hashesOf}
-use Rattle.reading.specs.Tokens.{tagFrom}
 use borrow.Author.Needs.{needs}
 use Rattle.reading.proofs.places.hashes.Statement.{statement}
 use Rattle.reading.proofs.places.hashes.Tie as tie
@@ -21,7 +20,7 @@ tag-from-requires : tie.Need-tag-from-requires
 tag-from-requires c κs = search needs
 
 returns : tie.Need-returns
-unfolding hashesOf hashOf tagOf tagFrom
+unfolding hashesOf hashOf tagOf
 returns c = rw (c .tag-from .ensures, c .before .hash .ensures .0, c .before .before .product .ensures, c .before .before .before .mixed .ensures)
 
 pub hashes-spec : {M : Type 1} → statement M

@@ -2,7 +2,6 @@
 -- Assumes nothing.
 use Rattle.rules.specs.Forms.{tagOf}
 use Rattle.rules.proofs.Words.Tokens.{tag-small}
-use Rattle.reading.specs.Tokens.{tagFrom}
 use mathlib.Core.Path.{_≡_}
 use borrow.Author.Needs.{needs}
 use Rattle.reading.proofs.places.tag.Statement.{statement}
@@ -18,7 +17,7 @@ tag-from-requires : tie.Need-tag-from-requires
 tag-from-requires c κs = search needs
 
 returns : tie.Need-returns
-unfolding tagOf tagFrom
+unfolding tagOf
 returns c =
     let is : c .tag-from .result ≡ tagOf (c .before .before .before .args .h) (c .before .before .before .args .key) = rw (c .tag-from .ensures, c .before .product .ensures, c .before .before .mixed .ensures) in
     (is, rw is (tag-small _ _))
