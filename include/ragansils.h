@@ -63,8 +63,8 @@ enum ragansils_refusal {
 
 /*
  * The two forms of a table. ragansils_create is told the form and writes it to word 0, where it can be read; every other call is the same for
- * both, and goes by that word. Any other word 0 is refused with 1. Choose form 2 for a new table, and form 1 where an older collector must
- * read it too. Nothing converts a table from one form to the other yet.
+ * both, and goes by that word. Any other word 0 is refused with 1. Choose form 2 where addresses may lie far apart, and form 1 where speed
+ * counts more or an older collector must read the table too. Nothing converts a table from one form to the other yet.
  *
  * Form 1 hashes a key as it is. A token word, the first of each bucket's 13, has four bits: bit s is 1 where slot s is taken.
  *

@@ -42,7 +42,8 @@ pub const MULTIPLIER_2: u64 = 0xc2b2_ae3d_27d4_eb4f;
 /// ```
 #[derive(Clone, Copy, Debug, PartialEq, Eq)]
 pub struct Creation {
-    /// The form: [`Form::Two`], unless an older collector must read the table too.
+    /// The form: [`Form::Two`], which spreads addresses that lie far apart. [`Form::One`] where speed counts more or an older collector must
+    /// read the table too.
     pub form: Form,
     /// The capacity exponent c, 1 to 20: the top level can grow to 2^c buckets of four slots.
     pub capacity: u64,
