@@ -103,7 +103,8 @@ cases =
 pub cases-computed : map (λ (x : List ℕ × String). outputTo (replicate 100 7) (x .0)) cases ≡ map (λ (x : List ℕ × String). bytes (x .1)) cases
 unfolding productOf hashOf flatMap wordsFor stateOf stateWord atRest shrinking headerOf flagOf stateGood odd capacityTests headerTests topOf bottomOf interimOf
     levelsInUse bucketsOf allBuckets exponentInUse unusedBuckets slotAt slotsIn placeOf placeAt slotsOf slotsInUse tokenWord keyWord functionWord
-    placeWord keyIn recordIn tokenOf formGood tagged mixed tagOf wordRead tagIn fits markMeant tokenNumber isTaken show hide takenOf meant taken meantOf hashesOf firstPlace secondPlace samePlace placesIn
+    placeWord keyIn recordIn tokenOf formGood tagged mixed tagOf wordRead tagIn fits markMeant tokenNumber isTaken show hide takenOf meant taken
+    meantOf hashesOf firstPlace secondPlace samePlace placesIn
     probes holds hitIn lookup takenIn freeSlot fewer emptier roomIn placing putStores clearStores placingStores redoStores updateStores stateStores
     stepStores written mapOf takenSlots tokensTidy unusedEmpty placesOf inPlace orderlyTests sameKey twins sameRecord target finding headerGood listLong
     flagClear changingTests queryTests recoverTests beginTests beginOf interimSlots interimItems interimBucket itemsFrom hasPlace stepItem stepTests

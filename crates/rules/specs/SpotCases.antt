@@ -79,7 +79,8 @@ cases r =
 -- the rules compute what request e) asks for
 pub spotCases : (r : ℕ → Record) → map (λ (x : Row). x .computed) (cases r) ≡ map (λ (x : Row). x .paper) (cases r)
 unfolding productOf hashOf flatMap wordsFor stateOf stateWord atRest shrinking headerOf flagOf stateGood odd capacityTests headerTests topOf bottomOf interimOf
-    levelsInUse bucketsOf slotAt slotsIn placeOf placeAt slotsOf tokenWord keyWord functionWord placeWord spotOf keyIn recordIn tokenOf formGood tagged mixed tagOf wordRead tagIn fits markMeant
+    levelsInUse bucketsOf slotAt slotsIn placeOf placeAt slotsOf tokenWord keyWord functionWord placeWord spotOf keyIn recordIn tokenOf formGood
+    tagged mixed tagOf wordRead tagIn fits markMeant
     tokenNumber
     isTaken show hide takenOf taken hashesOf firstPlace secondPlace samePlace placesIn probes placesOf holds hitIn lookup takenIn freeSlot fewer emptier
     roomIn placing putStores clearStores placingStores updateStores stateStores stepStores written headerGood listLong flagClear changingTests queryTests

@@ -152,7 +152,8 @@ cases r = oneBucket r (blocked r) ++ (twoBuckets r (wide r) ++ (stuckLate (late 
 -- the rules compute what the requests ask for
 pub stepCases : (r : ℕ → Record) → map (λ (x : Row). x .computed) (cases r) ≡ map (λ (x : Row). x .paper) (cases r)
 unfolding productOf hashOf flatMap wordsFor stateOf stateWord atRest shrinking headerOf flagOf stateGood odd capacityTests headerTests topOf bottomOf interimOf
-    levelsInUse bucketsOf slotAt slotsIn placeAt slotsOf tokenWord keyWord functionWord placeWord keyIn recordIn tokenOf formGood tagged mixed tagOf wordRead tagIn fits markMeant
+    levelsInUse bucketsOf slotAt slotsIn placeAt slotsOf tokenWord keyWord functionWord placeWord keyIn recordIn tokenOf formGood tagged mixed tagOf
+    wordRead tagIn fits markMeant
     tokenNumber isTaken show hide
     takenOf taken hashesOf firstPlace secondPlace samePlace placesIn probes placesOf holds hitIn lookup takenIn freeSlot fewer emptier roomIn
     otherPlace itemsOf candidates moveOf placing putStores clearStores moveStores placingStores stateStores stepStores written steppedMeans

@@ -159,7 +159,8 @@ cases =
 pub cases-computed : map (λ (x : List ℕ × List ℕ). outputTo (replicate 100 7) (x .0)) cases ≡ map (λ (x : List ℕ × List ℕ). x .1) cases
 unfolding productOf hashOf flatMap wordsFor stateOf stateWord atRest phase2 headerOf flagOf stateGood odd capacityTests headerTests topOf bottomOf interimOf
     levelsInUse bucketsOf allBuckets exponentInUse unusedBuckets slotAt slotsIn placeOf placeAt slotsOf slotsInUse tokenWord keyWord spotOf functionWord
-    placeWord keyIn recordIn tokenOf formGood tagged mixed tagOf wordRead tagIn fits markMeant tokenNumber isTaken show hide takenOf meant taken meantOf hashesOf firstPlace secondPlace samePlace placesIn
+    placeWord keyIn recordIn tokenOf formGood tagged mixed tagOf wordRead tagIn fits markMeant tokenNumber isTaken show hide takenOf meant taken
+    meantOf hashesOf firstPlace secondPlace samePlace placesIn
     probes holds hitIn lookup takenIn freeSlot fewer emptier roomIn placing putStores clearStores placingStores updateStores turnedOf stateStores
     stepStores written takenSlots tokensTidy unusedEmpty placesOf inPlace orderlyTests sameKey twins sameRecord target finding headerGood listLong
     flagClear changingTests queryTests recoverTests beginTests beginOf shrinkTests shrinkOf backTests backOf interimSlots interimItems interimBucket

@@ -83,14 +83,16 @@ module _ (size form c k mul1 mul2 : ℕ) where
 -- the verdict and the words at exit
 abbrev CreatedBy : Table → ℕ → ℕ → ℕ → ℕ → ℕ → Verdict × Table → Type 0
 CreatedBy t form c k mul1 mul2 r =
-    (GoodCreation (length t) form c k mul1 mul2 × (verdictMeans (r .0) ≡ record { number = 0; values = [] }) × CreatedWords (length t) form c k mul1 mul2 (r .1))
+    (GoodCreation (length t) form c k mul1 mul2 × (verdictMeans (r .0) ≡ record { number = 0; values = [] })
+    × CreatedWords (length t) form c k mul1 mul2 (r .1))
     ⊎ ((GoodCreation (length t) form c k mul1 mul2 → ⊥) × (verdictMeans (r .0) ≡ record { number = 13; values = [] }) × (r .1 ≡ t))
 
 pub createAnswers : CreateAnswers
 unfolding createResult
 createAnswers t form c k mul1 mul2 = go (all (createTests (length t) form c k mul1 mul2)) (good-creation (length t) form c k mul1 mul2)
   where
-    go : (b : Bool) → Tells b (GoodCreation (length t) form c k mul1 mul2) → CreatedBy t form c k mul1 mul2 (cond b (Done, created form c k mul1 mul2) (Denied BadCreation, t))
+    go : (b : Bool) → Tells b (GoodCreation (length t) form c k mul1 mul2)
+        → CreatedBy t form c k mul1 mul2 (cond b (Done, created form c k mul1 mul2) (Denied BadCreation, t))
     go true tells = let g = tells .0 refl in inl (g, refl, created-words (length t) form c k mul1 mul2 g)
     go false tells = inr (λ g. never (tells .1 g) refl, refl, refl)
 

@@ -187,7 +187,8 @@ module _ (t : Table) (key : ℕ) (form : word t 0 ≡ 2) (hidden : Hidden t key)
       hidden p i (x .slot) low (rw same at (f .1 .0)) (rw same at (f .0), rw same at (f .1 .1))
 
 pub wrongTagHides : WrongTagHides
-wrongTagHides t n key may form hidden = (go-query (refusalsInOrder t n (query key)), go-delete, λ r. (go-update r, go-insert r (refusalsInOrder t n (insert key r))))
+wrongTagHides t n key may form hidden =
+    (go-query (refusalsInOrder t n (query key)), go-delete, λ r. (go-update r, go-insert r (refusalsInOrder t n (insert key r))))
   where
     none : Held t key → ⊥
     none = not-held t key form hidden

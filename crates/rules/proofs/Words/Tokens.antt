@@ -20,7 +20,8 @@ use Rattle.rules.specs.declared.State.{State}
 use Rattle.rules.specs.declared.Header.{Header}
 use Rattle.rules.proofs.Basics.Lists.{in-from}
 use Rattle.rules.proofs.Basics.Tests.{tells-all}
-use Rattle.rules.proofs.Words.Fields.{four, built, built-same, Within, fields, bit-small, read-bit, read-tag, bitAt, tagAt, gapAt, restAt, low-bit, low-fields}
+use Rattle.rules.proofs.Words.Fields.{four, built, built-same, Within, fields, bit-small, read-bit}
+use Rattle.rules.proofs.Words.Fields.{read-tag, bitAt, tagAt, gapAt, restAt, low-bit, low-fields}
 use Rattle.rules.proofs.Words.Fields.{but, but-here, but-other, without, without-built, without-rest, with-built, without-low, with-low}
 use Rattle.rules.proofs.Words.Fields.{keeps-built, with-fits, changed-bit}
 use Rattle.rules.proofs.Words.Forms.{tag-untagged}
