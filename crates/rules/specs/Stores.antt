@@ -39,8 +39,7 @@ moveStores t h from to = putStores h (tokenOf t (to .bucket)) to (keyIn t from) 
 -- cleared; new item's three words; token": a move, then a put in the slot that it freed
 unfoldable pub placingStores : Table → Header → Placing → ℕ → Record → List Store
 placingStores t h (Free x) key r = putStores h (tokenOf t (x .bucket)) x key r
-placingStores t h (Move from to) key r =
-    moveStores t h from to ++ putStores h (hide h (tokenOf t (from .bucket)) (from .slot)) from key r
+placingStores t h (Move from to) key r = moveStores t h from to ++ putStores h (hide h (tokenOf t (from .bucket)) (from .slot)) from key r
 placingStores t h Nowhere key r = []
 
 -- "function, place in the slot; flag 0"; as recovery has it, "function and place from words 7 and 8, then flag 0"
