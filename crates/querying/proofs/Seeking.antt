@@ -51,7 +51,8 @@ lowest-named n l d = passed (eqb n 0) refl (below-all 16 (λ m. cond (eqb m 0) t
 rest-named : (n : ℕ) → n < 16 → (s : ℕ) → s < 4 → named (bitAnd n (n - 1)) s ≡ true → named n s ≡ true
 rest-named n l s k q =
     passed (named (bitAnd n (n - 1)) s) refl
-    (below-all 4 (λ z. cond (named (bitAnd n (n - 1)) z) (named n z) true) (below-all 16 (λ m. below 4 (λ z. cond (named (bitAnd m (m - 1)) z) (named m z) true)) refl n l)
+    (below-all 4 (λ z. cond (named (bitAnd n (n - 1)) z) (named n z) true)
+    (below-all 16 (λ m. below 4 (λ z. cond (named (bitAnd m (m - 1)) z) (named m z) true)) refl n l)
     s k)
   where
     passed : (b : Bool) → named (bitAnd n (n - 1)) s ≡ b → cond b (named n s) true ≡ true → named n s ≡ true
@@ -140,7 +141,8 @@ module _ (t : Table) (h : Header) (key : ℕ) where
           unfolding holds taken slotAt
           left-hit e k =
               let low = lowest-low more in
-              let name : named n (lowestMark marks) ≡ true = rw (left .marked) (lowest-named n (left .small) (some-left n (left .small) (spread-some more) .0)) in
+              let name : named n (lowestMark marks) ≡ true =
+              rw (left .marked) (lowest-named n (left .small) (some-left n (left .small) (spread-some more) .0)) in
               let holding : holds t h key (slotAt p (lowestMark marks)) ≡ true = rw (← w, e, left .fitted (lowestMark marks) low name, eq-eqb _ _ k) in
               left .found
               ∙ rw (left .marked) (slot-hit n (left .small) (some-left n (left .small) (spread-some more) .0) (rw (left .marked) at holding))

@@ -184,7 +184,8 @@ module _ (w tag : ℕ) (low : tag < 256) where
       rw all-summed (by-bytes bitOr (or-block 8) (summed 3) (summed 2) (summed 1) (summed 0) (unlike 3) (unlike 2) (unlike 1) (unlike 0) (summed-small 2)
       (summed-small 1) (summed-small 0) (unlike-small 2) (unlike-small 1) (unlike-small 0))
 
-  all-marks : bitAnd (bitOr (bitAnd x 2139062143 + 2139062143) x) 2155905152 ≡ bytes (mark-of (unlike 3)) (mark-of (unlike 2)) (mark-of (unlike 1)) (mark-of (unlike 0))
+  all-marks : bitAnd (bitOr (bitAnd x 2139062143 + 2139062143) x) 2155905152
+      ≡ bytes (mark-of (unlike 3)) (mark-of (unlike 2)) (mark-of (unlike 1)) (mark-of (unlike 0))
   unfolding either summed mark-of
   all-marks =
       rw all-either (by-bytes bitAnd (and-block 8) (either 3) (either 2) (either 1) (either 0) 128 128 128 128 (either-small 2) (either-small 1)
@@ -218,7 +219,8 @@ module _ (w tag : ℕ) (low : tag < 256) where
       (one-small (fits 3)) in
       rw fitting-sum
       (four (λ s. eqb ((one (fits 0) + (one (fits 1) * 2 + (one (fits 2) * 4 + one (fits 3) * 8))) / 2 ^ s % 2) 1 ≡ eqb (w / 2 ^ (8 + 8 * s) % 256) tag)
-      (bit 0 ((one (fits 0) + (one (fits 1) * 2 + (one (fits 2) * 4 + one (fits 3) * 8))) / 1 % 2) (omega (arith, k .0))) (bit 1 _ (k .1)) (bit 2 _ (k .2)) (bit 3 _ (k .3)))
+      (bit 0 ((one (fits 0) + (one (fits 1) * 2 + (one (fits 2) * 4 + one (fits 3) * 8))) / 1 % 2) (omega (arith, k .0)))
+      (bit 1 _ (k .1)) (bit 2 _ (k .2)) (bit 3 _ (k .3)))
     where
       bit : (s n : ℕ) → n ≡ one (fits s) → eqb n 1 ≡ eqb (w / 2 ^ (8 + 8 * s) % 256) tag
       bit s n e = rw e (one-tells (fits s))

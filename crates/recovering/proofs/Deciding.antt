@@ -185,7 +185,8 @@ module _ (t : Table) {h : Header} (own : h ≡ headerOf t) where
     still-found e = go (all (map (inPlace t) (takenSlots t))) refl
       where
         go : (b : Bool) → all (map (inPlace t) (takenSlots t)) ≡ b → stillOf t (scanOf t (headerOf t)) ≡ finding t
-        go true p = rw (orderly 0 e, p, scan-placed t good tidied p) (sym (still-alike t (twins t) (copies t) (linear t good tidied p) ∙ still-scanned t (copies t)))
+        go true p =
+            rw (orderly 0 e, p, scan-placed t good tidied p) (sym (still-alike t (twins t) (copies t) (linear t good tidied p) ∙ still-scanned t (copies t)))
         go false p = rw (orderly 0 e, p, misflagged 1 (λ (z : flagOf t ≡ 1). omega arith), scan-misplaced t good p)
 
     flagged-found : flagOf t ≡ 1 → flaggedOf (target t) (scanOf t (headerOf t)) ≡ finding t

@@ -152,7 +152,8 @@ module _ (t : Table) where
 
   -- ---- where each taken slot has a tag that fits its key, and is "in a place of its key"
 
-  module _ (c : ℕ) (good : GoodState c (headerOf t .state)) (fitting : (x : Slot) → TakenSlot t x → fits t (headerOf t) (keyIn t x) x ≡ true) (placed : (x : Slot) → TakenSlot t x → inPlace t x ≡ true) where
+  module _ (c : ℕ) (good : GoodState c (headerOf t .state)) (fitting : (x : Slot) → TakenSlot t x → fits t (headerOf t) (keyIn t x) x ≡ true)
+      (placed : (x : Slot) → TakenSlot t x → inPlace t x ≡ true) where
     -- its lookup ends somewhere
     ends : (x : Slot) → TakenSlot t x → (y : Slot) × Ends x y
     unfolding Ends
@@ -219,7 +220,8 @@ pub linear : (t : Table) → GoodHeader (length t) (headerOf t) → Tidied t →
 linear t g tidied e =
     alike-parts (twins t) (copies t) (twins-apart t) (copies-apart t) (copy-twins t)
     (λ u i.
-    twins-copy t (headerOf t .c) (g .state) (tag-fits t g tidied) (λ x w. tells-all (inPlace t) _ (λ x. Iff·rfl) (takenSlots t) .0 e x (in-taken t x w)) (u .0) (u .1)
+    twins-copy t (headerOf t .c) (g .state) (tag-fits t g tidied)
+    (λ x w. tells-all (inPlace t) _ (λ x. Iff·rfl) (takenSlots t) .0 e x (in-taken t x w)) (u .0) (u .1)
     (twins-ordered t (u .0) (u .1) i))
 
 -- ---- what recovery finds is alike

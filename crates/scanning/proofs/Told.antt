@@ -92,7 +92,8 @@ module _ (t : Table) (g : GoodHeader (length t) (headerOf t)) where
   items-placed tidied found (x ∷ xs) k e =
       let r = tells-and (inPlace t x) (all (map (inPlace t) xs)) Iff·rfl Iff·rfl .0 e in
       let u = k x (here refl) in
-      after xs (item-in found x u (tag-fits t g tidied x u) (r .0)) ∙ items-placed tidied (foldl metOf found (copiesOf t (headerOf t) x)) xs (λ y i. k y (there i)) (r .1)
+      after xs (item-in found x u (tag-fits t g tidied x u) (r .0))
+      ∙ items-placed tidied (foldl metOf found (copiesOf t (headerOf t) x)) xs (λ y i. k y (there i)) (r .1)
       ∙ sym (foldl-append metOf found (copiesOf t (headerOf t) x) (flatMap (copiesOf t (headerOf t)) xs))
 
   items-misplaced : (found : Scan) (l : List Slot) → all (map (inPlace t) l) ≡ false → foldl (itemMet t (headerOf t)) found l ≡ Spoilt

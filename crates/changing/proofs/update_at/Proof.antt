@@ -24,8 +24,12 @@ renewed-requires : tie.Need-renewed-requires
 renewed-requires c κs =
     let f = c .before .before in
     let g = f .before .before .before in
-    let s = g .before .before .before in
-    (omega (arith, s .pre .0), table-small _ _ (s .pre .1), rw (f .found .given .1) at (f .before .before .lookup-by .ensures .1), hashed-tag _ _ (g .hashes .ensures))
+    let s = g .before .before .before in (
+      omega (arith, s .pre .0),
+      table-small _ _ (s .pre .1),
+      rw (f .found .given .1) at (f .before .before .lookup-by .ensures .1),
+      hashed-tag _ _ (g .hashes .ensures),
+    )
 
 returns : tie.Need-returns
 returns c = let d = c .before .before in did-as (update-absent _ _ _ (d .lookup-by .ensures .0) _ (is-absent _ (c .before .match .keys1) .1)) (did-refuse _ _)

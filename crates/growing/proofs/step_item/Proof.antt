@@ -98,7 +98,8 @@ returns-2 c =
     let m = r .before .before .before .before .before in
     let s = m .before .before .before .before in
     let x = found m in
-    did-step _ _ _ _ _ (x .0) (r .before .before .before .key-at .ensures) (r .record-at .ensures) (x .1) (u .before .token .ensures) (c .bucket-in-level .ensures)
+    did-step _ _ _ _ _ (x .0) (r .before .before .before .key-at .ensures) (r .record-at .ensures) (x .1)
+    (u .before .token .ensures) (c .bucket-in-level .ensures)
     (s .pre .0) (d .list-placing .ensures) (u .clear .ensures)
 
 pub step-item-spec : {M : Type 1} → statement M

@@ -53,7 +53,11 @@ returns c =
     let s2 = s3 .before .before .before .before in
     let s1 = s2 .before .before .before .before in
     let k = s1 .before .before in
-    rw (← (k .before .before .key-word .ensures), ← (k .before .token-word .ensures), ← (shown-with _ _ _ _ (k .before .before .before .before .pre .2) (k .show .ensures)))
+    rw (
+      ← (k .before .before .key-word .ensures),
+      ← (k .before .token-word .ensures),
+      ← (shown-with _ _ _ _ (k .before .before .before .before .pre .2) (k .show .ensures)),
+    )
     (four _ _ _ _ _ (s1 .store .ensures) (s2 .store2 .ensures) (s3 .store3 .ensures) _ (s4 .store4 .ensures))
 
 pub put-spec : {M : Type 1} → statement M

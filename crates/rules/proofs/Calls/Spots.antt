@@ -189,7 +189,8 @@ theOneStood t sound x key u e = go (lookup t (headerOf t) key) refl
         let same : x ≡ y = sound .alone x y u (s .0) (own ∙ sym (s .1)) in
         let a = query-by-lookup t key (sound .orderly .header) (sound .orderly .flag) in
         rw (a, q, same) (refl, refl, refl)
-    go (Absent n) q = absurd (lookup-sees t x u (tag-fits t (sound .orderly .header) (sound .orderly .tidied) x u) (placed-in 0 t (sound .orderly) x u) n (rw own q))
+    go (Absent n) q =
+        absurd (lookup-sees t x u (tag-fits t (sound .orderly .header) (sound .orderly .tidied) x u) (placed-in 0 t (sound .orderly) x u) n (rw own q))
 
 -- ---- what rests on the lookup
 

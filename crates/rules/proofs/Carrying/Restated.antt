@@ -175,8 +175,11 @@ module _ (f : ℕ) (t u : Table) (s : State) (o : OrderlyTable f t) (re : Restat
         again : (y : Slot) (k : Carry t u y z) (p : Place) → p .bucket ≡ y .bucket → (l : Level) → In l (levelsInUse (headerOf t .state))
             → In p (placesIn (hashesOf (headerOf t) (keyIn t y)) l) → Lasts t s l → PlacedAt u z
         again y k p b l i j (inl (m, n, e)) =
-            let q = place-again (hashesOf (headerOf t) (keyIn t y)) l m e p j in
-            (q .0, rw (re .header, k .key, state-hashes (headerOf t) s (keyIn t y)) (in-flatMap (placesIn (hashesOf (headerOf t) (keyIn t y))) n (q .1)), q .2 ∙ b ∙ sym (k .bucket))
+            let q = place-again (hashesOf (headerOf t) (keyIn t y)) l m e p j in (
+              q .0,
+              rw (re .header, k .key, state-hashes (headerOf t) s (keyIn t y)) (in-flatMap (placesIn (hashesOf (headerOf t) (keyIn t y))) n (q .1)),
+              q .2 ∙ b ∙ sym (k .bucket),
+            )
         again y k p b l i j (inr none) =
             let r = place-in-level (hashesOf (headerOf t) (keyIn t y)) l p j in
             absurd (none y (k .before) (rw b at (r .1), omega (arith, r .2, b)))

@@ -157,7 +157,8 @@ tag-fits t g tidied x u =
     eq-eqb _ _ (meant-tag (headerOf t) _ _ right (x .slot) (u .used .slot) (u .shown))
 
 -- such a slot is not missed
-pub lookup-sees : (t : Table) (x : Slot) → TakenSlot t x → fits t (headerOf t) (keyIn t x) x ≡ true → In (placeOf x) (placesOf (headerOf t) (keyIn t x)) → (n : ℕ)
+pub lookup-sees : (t : Table) (x : Slot) → TakenSlot t x → fits t (headerOf t) (keyIn t x) x ≡ true
+    → In (placeOf x) (placesOf (headerOf t) (keyIn t x)) → (n : ℕ)
     → lookup t (headerOf t) (keyIn t x) ≡ Absent n → ⊥
 lookup-sees t x u tag p n e =
     never (holds-tells t (headerOf t) (keyIn t x) x .1 (u .shown, (tag, refl)))

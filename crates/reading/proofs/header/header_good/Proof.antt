@@ -42,7 +42,8 @@ returns-7 c =
     let third = fourth .before .before in
     let second = third .before .before in
     c .good2 .ensures
-    ∙ by-state _ _ (second .before .before .if1 .left) (second .if2 .left) (third .if3 .left ∙ third .before .words-for .ensures) (sym (fourth .before .form-good .ensures) ∙ not-false _ (fourth .if4 .left))
+    ∙ by-state _ _ (second .before .before .if1 .left) (second .if2 .left) (third .if3 .left ∙ third .before .words-for .ensures)
+    (sym (fourth .before .form-good .ensures) ∙ not-false _ (fourth .if4 .left))
     (fifth .if5 .left) (sixth .if6 .left)
 
 pub header-good-spec : {M : Type 1} → statement M

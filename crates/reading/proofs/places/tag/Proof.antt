@@ -19,7 +19,8 @@ tag-from-requires c κs = search needs
 returns : tie.Need-returns
 unfolding tagOf
 returns c =
-    let is : c .tag-from .result ≡ tagOf (c .before .before .before .args .h) (c .before .before .before .args .key) = rw (c .tag-from .ensures, c .before .product .ensures, c .before .before .mixed .ensures) in
+    let is : c .tag-from .result ≡ tagOf (c .before .before .before .args .h) (c .before .before .before .args .key) =
+    rw (c .tag-from .ensures, c .before .product .ensures, c .before .before .mixed .ensures) in
     (is, rw is (tag-small _ _))
 
 pub tag-spec : {M : Type 1} → statement M

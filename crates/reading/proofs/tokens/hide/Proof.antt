@@ -22,7 +22,9 @@ sub-result : tie.Need-sub-result
 sub-result c = let k = shifted _ (c .before .before .before .pre) in omega (arith, k .0, k .1)
 
 returns : tie.Need-returns
-returns c = hide-untagged _ _ _ (c .before .before .before .pre) (sym (c .before .before .has-tags .ensures) ∙ not-true _ (c .before .if1 .taken)) (c .token-number .ensures .0)
+returns c =
+    hide-untagged _ _ _ (c .before .before .before .pre)
+    (sym (c .before .before .has-tags .ensures) ∙ not-true _ (c .before .if1 .taken)) (c .token-number .ensures .0)
 
 shl-rest : tie.Need-shl-rest
 shl-rest c = search needs

@@ -35,7 +35,8 @@ returns : tie.Need-returns
 returns c =
     let low = c .before .before .before .before .before .pre .1 in (
       added-is _ _ low (c .tag .ensures .1)
-          ∙ meant-taken _ _ _ _ _ (sym (c .before .before .before .is-taken .ensures) ∙ c .before .before .if1 .taken) (c .tag .ensures .0) (c .before .key-at .ensures),
+          ∙ meant-taken _ _ _ _ _ (sym (c .before .before .before .is-taken .ensures) ∙ c .before .before .if1 .taken)
+          (c .tag .ensures .0) (c .before .key-at .ensures),
       added-small _ _ low (c .tag .ensures .1),
     )
 

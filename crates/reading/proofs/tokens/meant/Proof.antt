@@ -40,7 +40,13 @@ add-result-2 c = search needs
 
 returns-2 : tie.Need-returns-2
 unfolding meant
-returns-2 c = rw (c .before .before .before .mark-meant .ensures .0, c .before .before .mark-meant2 .ensures .0, c .before .mark-meant3 .ensures .0, c .mark-meant4 .ensures .0)
+returns-2 c =
+    rw (
+      c .before .before .before .mark-meant .ensures .0,
+      c .before .before .mark-meant2 .ensures .0,
+      c .before .mark-meant3 .ensures .0,
+      c .mark-meant4 .ensures .0,
+    )
 
 pub meant-spec : {M : Type 1} → statement M
 meant-spec =
