@@ -2,10 +2,10 @@
 //! starts at word 9 + 13j with its token, and the key of its slot s stands 1 + 3s behind that.
 
 mod common;
+use common::by_hand::{buckets_of, levels_in_use};
 use common::resizing::{crowded_table, map_of, try_inserts, Way, BOTH_WAYS};
 use common::*;
 use ragansils_model::{word, Event, SUCCESS};
-use std::ops::Range;
 
 // ---- One key and its six places.
 
@@ -394,24 +394,6 @@ fn a_moved_item_is_told_at_its_new_slot() {
 fn hash(key: u64, multiplier: u64) -> usize {
     let product = u128::from(key) * u128::from(multiplier) % (1 << 64);
     (product / (1 << 32)) as usize
-}
-
-/// The numbers of the levels in use: top, bottom and, while growing or shrinking, interim.
-fn levels_in_use(table: &[u64]) -> Range<u64> {
-    0..if table[4] < 256 { 2 } else { 3 }
-}
-
-/// "A level of M buckets is always buckets M − 1 to 2M − 2." The bottom has half the buckets of the top. The interim
-/// level has a quarter of them while growing, and twice as many while shrinking.
-fn buckets_of(table: &[u64], level: u64) -> Range<usize> {
-    let top_size = 1 << (table[4] % 256);
-    let size = match level {
-        0 => top_size,
-        1 => top_size / 2,
-        _ if table[4] < 512 => top_size / 4,
-        _ => top_size * 2,
-    };
-    size - 1..2 * size - 1
 }
 
 /// The buckets that a search for a key looks at until it meets it.

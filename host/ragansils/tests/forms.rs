@@ -1,10 +1,13 @@
 //! The two forms of a table: which one is made, that a table keeps its own, and that both work through the same calls.
 
+mod common;
+
 use std::cell::Cell;
-use std::panic::{catch_unwind, resume_unwind, AssertUnwindSafe};
 use std::rc::Rc;
 
 use ragansils::{calls, Creation, Form, Key, OrdinaryMemory, Record, Refusal, StoreList, Table};
+
+use common::{cut, Change};
 
 /// The multipliers of the marked examples of document 01: of a key below 2^32 hash 1 is the key, and the tag the key / 2^24.
 const MARKED: Creation = Creation { multipliers: [4294967297, 12884901889], ..Creation::new(2, 1) };
@@ -140,8 +143,6 @@ fn a_key_has_other_places_in_form_2() {
 }
 
 type Lister = fn(&[u64]) -> Result<StoreList, Refusal>;
-type Hook<'a> = &'a mut dyn FnMut(&u64);
-type Change = fn(&mut Table<&mut [u64], Hook>) -> Result<u64, Refusal>;
 
 /// Changes of keys with tags, each on a table where it lists some stores; and so many of them.
 fn changes(form: Form) -> Vec<(Vec<u64>, Lister, Change, u64)> {
@@ -178,20 +179,6 @@ fn changes(form: Form) -> Vec<(Vec<u64>, Lister, Change, u64)> {
     ]
 }
 
-/// Opens words with a hook that panics after so many stores.
-fn cut(words: &mut [u64], kept: u64, change: Change) {
-    let mut made = 0;
-    let mut hook = |_: &u64| {
-        made += 1;
-        if made == kept {
-            // No message, unlike panic!: this one is meant.
-            resume_unwind(Box::new("cut"));
-        }
-    };
-    let run = || change(&mut Table::open(words, &mut hook as Hook).unwrap());
-    assert!(catch_unwind(AssertUnwindSafe(run)).is_err());
-}
-
 #[test]
 fn a_change_cut_after_any_store_is_mended_in_both_forms() {
     for (form, (words, list, change, stores)) in
@@ -203,7 +190,7 @@ fn a_change_cut_after_any_store_is_mended_in_both_forms() {
         calls::make(&mut made, listed.words(), stores).unwrap();
         for kept in 1..=stores {
             let mut words_cut = words.clone();
-            cut(&mut words_cut, kept, change);
+            assert!(cut(&mut words_cut, kept, |table| assert!(change(table).is_ok())));
             let table = Table::open(words_cut, OrdinaryMemory).unwrap();
             let maps = [map_of(&words), map_of(&made)];
             assert!(maps.contains(&map_of(table.words())), "{form}, cut after {kept} of {stores} stores");

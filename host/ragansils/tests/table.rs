@@ -1,10 +1,14 @@
 //! A table over lent words: its stores, its refusals, how it grows and shrinks.
 
+mod common;
+
 use std::panic::{catch_unwind, resume_unwind, AssertUnwindSafe};
 
 use ragansils::{
     calls, Creation, Key, OrdinaryMemory, Part, Phase, Record, Refusal, Step, Store, StoreList, Table,
 };
+
+use common::{cut, Change, Hook};
 
 /// The table of the marked examples of document 01, the paper that fixes the table.
 const MARKED: Creation = Creation { multipliers: [4294967297, 12884901889], ..Creation::new(2, 1) };
@@ -39,8 +43,6 @@ fn after(mut words: Vec<u64>, list: Lister, kept: Option<u64>) -> Vec<u64> {
 
 type OwnTable = Table<Vec<u64>, OrdinaryMemory>;
 type Lister = fn(&[u64]) -> Result<StoreList, Refusal>;
-type Hook<'a> = &'a mut dyn FnMut(&u64);
-type Change = fn(&mut Table<&mut [u64], Hook>) -> Result<u64, Refusal>;
 
 /// A method that changes a table, beside the call whose stores it should make.
 struct Row {
@@ -119,20 +121,6 @@ fn a_change_makes_the_listed_stores_in_order() {
         assert_eq!(seen, list.stores().collect::<Vec<_>>());
         assert_eq!(words, made);
     }
-}
-
-/// Opens words with a hook that panics after so many stores; answers whether it did.
-fn cut(words: &mut [u64], kept: u64, change: impl FnOnce(&mut Table<&mut [u64], Hook>)) -> bool {
-    let mut made = 0;
-    let mut hook = |_: &u64| {
-        made += 1;
-        if made == kept {
-            // No message, unlike panic!: this one is meant.
-            resume_unwind(Box::new("cut"));
-        }
-    };
-    let run = || change(&mut Table::open(words, &mut hook as Hook).unwrap());
-    catch_unwind(AssertUnwindSafe(run)).is_err()
 }
 
 #[test]

@@ -75,6 +75,8 @@ pub fn levels_in_use(table: &[u64]) -> Range<u64> {
     0..if table[4] < 256 { 2 } else { 3 }
 }
 
+/// "A level of M buckets is always buckets M − 1 to 2M − 2." The bottom has half the buckets of the top. The interim
+/// level has a quarter of them while growing, and twice as many while shrinking.
 pub fn buckets_of(table: &[u64], level: u64) -> Range<usize> {
     let top_size = 1 << (table[4] % 256);
     let size = match level {

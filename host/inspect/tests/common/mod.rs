@@ -8,6 +8,11 @@ use std::process::Output;
 use ragansils::{bytes_of, calls, Creation, Form, Record};
 use ragansils_compare::runner::built;
 
+/// The exit statuses that tell what was found.
+pub const SOUND: i32 = 0;
+pub const MENDABLE: i32 = 3;
+pub const REFUSED: i32 = 4;
+
 /// In form 1; the tests of form 2 say so.
 pub const MARKED: Creation =
     Creation { form: Form::One, multipliers: [4294967297, 12884901889], ..Creation::new(2, 1) };
@@ -69,4 +74,18 @@ pub fn with(mut words: Vec<u64>, changes: &[(usize, u64)]) -> Vec<u64> {
         words[index] = value;
     }
     words
+}
+
+/// Tells of words whatever they are: the status is the one that recovery's answer asks for, and faults are named exactly where they are not
+/// sound. Answers that status.
+pub fn told_as_recovered(name: &str, words: &[u64]) -> i32 {
+    let (told, status) = told_of(name, words);
+    let expected = match calls::recover(words) {
+        Ok(list) if list.count() == 0 => SOUND,
+        Ok(_) => MENDABLE,
+        Err(_) => REFUSED,
+    };
+    assert_eq!(status, expected, "{told}");
+    assert_eq!(told.lines().any(|line| line.starts_with("  - ")), status != SOUND, "{told}");
+    status
 }
