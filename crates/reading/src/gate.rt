@@ -16,7 +16,7 @@ pub enum Gate {
     Shut(Refusal),
 }
 
-fn header_gate(t: &[u64]) -> Gate
+pub fn header_gate(t: &[u64]) -> Gate
     ensures { λ r. ⌜ (r ≡ gateOf (now (t .entry)) (headerTest (now (t .entry)))) × Ready (now (t .entry)) r ⌝ }
 {
     if t.len() < HEADER_WORDS {

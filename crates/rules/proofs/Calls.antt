@@ -25,3 +25,5 @@ pub mod ChainWalks
 pub mod Chains
 pub mod ChainRefusals
 pub mod Spots
+pub mod Filling
+pub mod Conversions

@@ -1,7 +1,7 @@
 -- The user's three demands and document 02's requests, proved: one theorem. Each field is the law of the same name.
 -- Assumes nothing.
 use Rattle.rules.specs.Mission.{Demand1, Demand2, Demand3, InlinedCallers, StubbornItems, GoesOn, WhereItStood, UnloadedLevel, TwoForms}
-use Rattle.rules.specs.Mission.{Mission}
+use Rattle.rules.specs.Mission.{MovedForms, Mission}
 use Rattle.rules.proofs.Tables.Sound.{soundnessIsTested}
 use Rattle.rules.proofs.Tables.Maps.{mapExists}
 use Rattle.rules.proofs.Tables.Findings.{recoverAnswers, recoveryAccepts}
@@ -26,6 +26,7 @@ use Rattle.rules.proofs.Calls.StateChanges.{beginAnswers, shrinkAnswers
 use Rattle.rules.proofs.Calls.ResizeSentences.{shrinkStores, levelsAreThree, levelsShrink, sevenExactly, seventeenExactly, backStores}
 use Rattle.rules.proofs.Calls.FormSentences.{mixedBits, placesByHash, tagBelowHash, wordsExactly, wrongWordsAreTwelve, storesChangeOneSlot}
 use Rattle.rules.proofs.Calls.FormSentences.{tokenStoresKeep, holdsByTag, wrongTagHides, tagsMissNothing, noTagsInForm1}
+use Rattle.rules.proofs.Calls.Conversions.{convertRefusals, convertLeaves, flagIsTwelve, convertKeepsTheMap, thereAndBack, oldWordsPlayNoPart}
 use Rattle.rules.proofs.Calls.ResizeSentences.{levelsTurn, turnedTwice, eightExactly, ownStoresCount}
 use Rattle.rules.proofs.Calls.MadeLists.{makeTakesTheList}
 use Rattle.rules.proofs.Cutting.Recurring.{recoveryMayBeCut}
@@ -167,6 +168,17 @@ twoForms =
       noTagsInForm1 = noTagsInForm1;
     }
 
+pub movedForms : MovedForms
+movedForms =
+    record {
+      convertRefusals = convertRefusals;
+      flagIsTwelve = flagIsTwelve;
+      convertLeaves = convertLeaves;
+      oldWordsPlayNoPart = oldWordsPlayNoPart;
+      convertKeepsTheMap = convertKeepsTheMap;
+      thereAndBack = thereAndBack;
+    }
+
 pub mission : Mission
 mission =
     record {
@@ -179,4 +191,5 @@ mission =
       whereItStood = whereItStood;
       unloadedLevel = unloadedLevel;
       twoForms = twoForms;
+      movedForms = movedForms;
     }

@@ -25,6 +25,8 @@ use Rattle.rules.specs.declared.Query.{Query}
 use Rattle.rules.specs.declared.Query.the-variants.{Known, Unknown}
 use Rattle.rules.specs.declared.Chain.{Chain}
 use Rattle.rules.specs.declared.Chain.the-variants.{Whole, Broken}
+use Rattle.rules.specs.declared.Conversion.{Conversion}
+use Rattle.rules.specs.declared.Conversion.the-variants.{Converted, Stuck, Rejected}
 use Rattle.rules.specs.declared.Verdict.{Verdict}
 use Rattle.rules.specs.declared.Verdict.the-variants.{Done, Denied}
 
@@ -76,6 +78,12 @@ queryMeans (Unknown r count) = record { number = numberOf r; values = 0 ∷ 0 �
 abbrev pub chainMeans : Chain → Meaning
 chainMeans (Whole count) = record { number = 0; values = count ∷ [] }
 chainMeans (Broken r count) = record { number = numberOf r; values = count ∷ [] }
+
+-- document 02, request h): "answer 6 with its key"; else the key is 0
+abbrev pub conversionMeans : Conversion → Meaning
+conversionMeans Converted = record { number = 0; values = 0 ∷ [] }
+conversionMeans (Stuck key) = record { number = numberOf NoPlace; values = key ∷ [] }
+conversionMeans (Rejected r) = record { number = numberOf r; values = 0 ∷ [] }
 
 abbrev pub verdictMeans : Verdict → Meaning
 verdictMeans Done = record { number = 0; values = [] }

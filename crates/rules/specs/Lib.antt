@@ -9,6 +9,7 @@ pub mod Answers
 pub mod Calls
 pub mod Results
 pub mod Chains
+pub mod Conversions
 pub mod NoPlace
 pub mod Histories
 pub mod Demands
@@ -18,6 +19,7 @@ pub mod StepFromSentences
 pub mod SpotSentences
 pub mod ResizeSentences
 pub mod FormSentences
+pub mod ConversionSentences
 pub mod Mission
 pub mod Examples
 pub mod ChainCases
@@ -25,3 +27,4 @@ pub mod StepCases
 pub mod SpotCases
 pub mod ResizeCases
 pub mod FormCases
+pub mod ConversionCases

@@ -1,6 +1,6 @@
 -- What is proved of the user's three demands and of document 02's requests, in one place, sentence by sentence. Each field of a demand is a
 -- statement of `Demands`, and each field of a request one of its sentences (`ChainSentences`, `StepSentences`, `StepFromSentences`,
--- `SpotSentences`, `ResizeSentences`, `FormSentences`), which say it in full. One law proves them all: `mission`, in proofs/Mission.
+-- `SpotSentences`, `ResizeSentences`, `FormSentences`, `ConversionSentences`), which say it in full. One law proves them all: `mission`, in proofs/Mission.
 -- That the code does what the rules say is promised call by call, in the `ensures` of each.
 -- Assumes nothing.
 use Rattle.rules.specs.Demands.{ChangeAnswers, CreateAnswers, MakeAnswers, RefusalsInOrder, StepIsACall, QueryIsACall, StoresInside}
@@ -17,6 +17,7 @@ use Rattle.rules.specs.ResizeSentences.{ShrinkStores, LevelsAreThree, Le
 use Rattle.rules.specs.ResizeSentences.{TurnedTwice, EightExactly, OwnStoresCount, TwentyTooFew}
 use Rattle.rules.specs.FormSentences.{MixedBits, PlacesByHash, TagBelowHash, WordsExactly, WrongWordsAreTwelve, StoresChangeOneSlot}
 use Rattle.rules.specs.FormSentences.{TokenStoresKeep, HoldsByTag, WrongTagHides, TagsMissNothing, NoTagsInForm1}
+use Rattle.rules.specs.ConversionSentences.{ConvertRefusals, ConvertLeaves, FlagIsTwelve, ConvertKeepsTheMap, ThereAndBack, OldWordsPlayNoPart}
 use Rattle.rules.specs.StepSentences.{StepTakesTheFirst, NoItemBlocks, SixExactly, ElevenExactly, SixIsNotEleven}
 
 pub record Demand1 : Type 0 where
@@ -184,6 +185,22 @@ pub record TwoForms : Type 0 where
   pub tagsMissNothing : TagsMissNothing
   pub noTagsInForm1 : NoTagsInForm1
 
+-- request h), "Move customers to form 2, and back."
+pub record MovedForms : Type 0 where
+  -- "A source that is not sound gives 12, one in phase 1 or 2 gives 7, a second table of another length 13; these change nothing, in that order after 1
+  -- of the source."
+  pub convertRefusals : ConvertRefusals
+  -- "A set flag is 12 here, not 3."
+  pub flagIsTwelve : FlagIsTwelve
+  -- "create the other form there with the same c, k and multipliers, and insert every item in probe-level order, bucket and slot ascending"; "If an item
+  -- finds no place, answer 6 with its key and leave the second table freshly created, the one refusal that changes a buffer."
+  pub convertLeaves : ConvertLeaves
+  pub oldWordsPlayNoPart : OldWordsPlayNoPart
+  -- "Otherwise the two maps are equal."
+  pub convertKeepsTheMap : ConvertKeepsTheMap
+  -- "Where going and returning both succeed, the map is the original one."
+  pub thereAndBack : ThereAndBack
+
 -- the user's three demands, document 02's requests, and the step that goes on
 pub record Mission : Type 0 where
   pub anyInput : Demand1
@@ -195,3 +212,4 @@ pub record Mission : Type 0 where
   pub whereItStood : WhereItStood
   pub unloadedLevel : UnloadedLevel
   pub twoForms : TwoForms
+  pub movedForms : MovedForms

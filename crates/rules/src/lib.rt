@@ -146,6 +146,14 @@ pub enum Chain {
     Broken(Refusal, u64),
 }
 
+// What a conversion answers: that the second table is the other form of the first; the key of the item that found no place in it; or why
+// nothing was converted.
+pub enum Conversion {
+    Converted,
+    Stuck(u64),
+    Rejected(Refusal),
+}
+
 // What create and make answer.
 pub enum Verdict {
     Done,

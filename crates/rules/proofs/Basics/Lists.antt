@@ -182,6 +182,16 @@ from-in a zero x i = absurd (List·Memᴰ·not-nil i)
 from-in a (suc n) x i = ⊎-elim (λ (h : x ≡ a). omega arith) (λ (h : In x (from (suc a) n)). omega (arith, from-in (suc a) n x h))
     (List·Memᴰ·cases-cons i)
 
+-- those of two lists that pass a test
+pub select-append : {A : Type 0} (p : A → Bool) (xs ys : List A) → select p (xs ++ ys) ≡ select p xs ++ select p ys
+select-append p [] ys = refl
+select-append {A} p (x ∷ xs) ys = go (p x) (select-append p xs ys)
+  where
+    go : (b : Bool) → select p (xs ++ ys) ≡ select p xs ++ select p ys
+        → cond b (x ∷ select p (xs ++ ys)) (select p (xs ++ ys)) ≡ cond b (x ∷ select p xs) (select p xs) ++ select p ys
+    go true k = ap (λ (l : List A). x ∷ l) k
+    go false k = k
+
 -- ---- lists in order
 
 module _ {A : Type 0} (R : A → A → Type 0) where
@@ -201,6 +211,18 @@ module _ {A : Type 0} (R : A → A → Type 0) where
   pub ascending-after : (xs : List A) (x : A) (ys : List A) → Ascending (xs ++ (x ∷ ys)) → (y : A) → In y ys → R x y
   ascending-after [] x ys a y i = a .0 y i
   ascending-after (z ∷ xs) x ys a y i = ascending-after xs x ys (a .1) y i
+
+  -- the order, told by parts of the list
+  abbrev pub InOrder : List A → Type 0
+  InOrder l = (before behind : List A) (x y : A) → l ≡ before ++ (x ∷ behind) → In y behind → R x y
+
+  pub ascending-tells : (l : List A) → Ascending l → InOrder l
+  ascending-tells l a before behind x y e i = ascending-after before x behind (rw e at a) y i
+
+  pub ascending-told : (l : List A) → InOrder l → Ascending l
+  ascending-told [] o = tt
+  ascending-told (z ∷ zs) o =
+      (λ y i. o [] zs z y refl i, ascending-told zs (λ before behind x y e i. o (z ∷ before) behind x y (ap (λ (l : List A). z ∷ l) e) i))
 
   pub ascending-select : (p : A → Bool) (l : List A) → Ascending l → Ascending (select p l)
   ascending-select p [] a = tt
@@ -319,9 +341,53 @@ module _ {A : Type 0} where
       go (inr i) (inl f) k = inr (inr (rw f (a .0 x i)))
       go (inr i) (inr j) k = k i j
 
+  -- in another order, which may be known of the list's own elements only
+  pub ascending-inside : (R S : A → A → Type 0) (l : List A) → Ascending R l → ((x y : A) → In x l → In y l → R x y → S x y) → Ascending S l
+  ascending-inside R S [] a c = tt
+  ascending-inside R S (x ∷ xs) a c =
+      (λ y i. c x y (here refl) (there i) (a .0 y i), ascending-inside R S xs (a .1) (λ y z i j. c y z (there i) (there j)))
+
   pub ascending-weaken : (R S : A → A → Type 0) (l : List A) → Ascending R l → ((x y : A) → R x y → S x y) → Ascending S l
-  ascending-weaken R S [] a c = tt
-  ascending-weaken R S (x ∷ xs) a c = (λ y i. c x y (a .0 y i), ascending-weaken R S xs (a .1) c)
+  ascending-weaken R S l a c = ascending-inside R S l a (λ x y i j. c x y)
+
+  -- two lists in one order with the same elements are one list
+  pub ascending-one : (R : A → A → Type 0) → ((x y : A) → R x y → R y x → ⊥) → (xs ys : List A) → Ascending R xs → Ascending R ys
+      → ((x : A) → In x xs → In x ys) → ((y : A) → In y ys → In y xs) → xs ≡ ys
+  ascending-one R once [] [] a b f g = refl
+  ascending-one R once [] (y ∷ ys) a b f g = absurd (List·Memᴰ·not-nil (g y (here refl)))
+  ascending-one R once (x ∷ xs) [] a b f g = absurd (List·Memᴰ·not-nil (f x (here refl)))
+  ascending-one R once (x ∷ xs) (y ∷ ys) a b f g = go first (ascending-one R once xs ys (a .1) (b .1))
+    where
+      first : x ≡ y
+      first = pick (List·Memᴰ·cases-cons (f x (here refl))) (List·Memᴰ·cases-cons (g y (here refl)))
+        where
+          pick : (x ≡ y) ⊎ In x ys → (y ≡ x) ⊎ In y xs → x ≡ y
+          pick (inl e) j = e
+          pick (inr i) (inl e) = sym e
+          pick (inr i) (inr j) = absurd (once x y (a .0 y j) (b .0 x i))
+
+      -- an element of one list's rest is no other's first, and so stands in the other's rest
+      rest : (z w : A) (zs ws : List A) → z ≡ w → ((v : A) → In v zs → R z v) → ((v : A) → In v (z ∷ zs) → In v (w ∷ ws)) → (v : A) → In v zs → In v ws
+      rest z w zs ws e up f v i =
+          ⊎-elim (λ (q : v ≡ w). let c : R z z = rw (q ∙ sym e) at (up v i) in absurd (once z z c c)) (λ (j : In v ws). j)
+          (List·Memᴰ·cases-cons (f v (there i)))
+
+      go : x ≡ y → (((v : A) → In v xs → In v ys) → ((v : A) → In v ys → In v xs) → xs ≡ ys) → x ∷ xs ≡ y ∷ ys
+      go e k = let tails = k (rest x y xs ys e (a .0) f) (rest y x ys xs (sym e) (b .0) g) in λ i. e i ∷ tails i
+
+  -- the two parts of a list in order
+  pub ascending-parts : (R : A → A → Type 0) (xs ys : List A) → Ascending R (xs ++ ys)
+      → Ascending R xs × Ascending R ys × ((x y : A) → In x xs → In y ys → R x y)
+  ascending-parts R [] ys a = (tt, a, λ x y i j. absurd (List·Memᴰ·not-nil i))
+  ascending-parts R (z ∷ xs) ys a = go (ascending-parts R xs ys (a .1))
+    where
+      go : Ascending R xs × Ascending R ys × ((x y : A) → In x xs → In y ys → R x y)
+          → Ascending R (z ∷ xs) × Ascending R ys × ((x y : A) → In x (z ∷ xs) → In y ys → R x y)
+      go k = (
+        (λ y i. a .0 y (Memᴰ·append-left ys i), k .0),
+        k .1,
+        λ x y i j. ⊎-elim (λ (e : x ≡ z). rw e (a .0 y (Memᴰ·append-right xs j))) (λ (h : In x xs). k .2 x y h j) (List·Memᴰ·cases-cons i),
+      )
 
   abbrev pub NoRepeat : List A → Type 0
   NoRepeat = Ascending (λ (x y : A). x ≡ y → ⊥)

@@ -26,19 +26,9 @@ use Rattle.rules.specs.declared.Chain.{Chain}
 use Rattle.rules.specs.declared.Chain.the-variants.{Broken}
 use Rattle.rules.proofs.Basics.Lists.{never}
 use Rattle.rules.proofs.Basics.Tests.{Tells, tells-lt, tells-le, tells-and}
+use Rattle.rules.proofs.Calls.Checked.{checked-as}
 use Rattle.rules.proofs.Calls.Refusals.{ByFirst, by-test, good-header-or, clear-flag-or, held, not-held}
 use Rattle.rules.proofs.Calls.ChainWalks.{WalkBy, walk-by}
-
--- an answer that the tests let pass, told otherwise
-checked-as : {A B : Type 0} (f : A → B) (refuse : Refusal → A) (ts : List (Bool × Refusal)) (a : A)
-    → f (checked refuse ts a) ≡ checked (λ (r : Refusal). f (refuse r)) ts (f a)
-checked-as f refuse [] a = refl
-checked-as f refuse (x ∷ ts) a = go (x .0) (checked-as f refuse ts a)
-  where
-    go : (b : Bool) → f (checked refuse ts a) ≡ checked (λ (r : Refusal). f (refuse r)) ts (f a)
-        → f (cond b (checked refuse ts a) (refuse (x .1))) ≡ cond b (checked (λ (r : Refusal). f (refuse r)) ts (f a)) (f (refuse (x .1)))
-    go true k = k
-    go false k = refl
 
 module _ (t : Table) (address d : ℕ) (l : List ℕ) where
   -- a query finds a key exactly where it stands in a probed bucket

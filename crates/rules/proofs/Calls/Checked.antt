@@ -3,8 +3,8 @@
 use Prim.Native.Nat.{ℕ}
 use mathlib.Core.Path.{_≡_, refl, ap}
 use mathlib.Core.Bool.{Bool, true, false, cond}
-use mathlib.Core.List.{List, [], _∷_, _++_, List·Memᴰ as In, List·Memᴰ·head as here, List·Memᴰ·not-nil, List·Memᴰ·cases-cons}
-use mathlib.Core.Logic.{⊎-elim}
+use mathlib.Core.List.{List, [], _∷_, _++_, List·Memᴰ as In, List·Memᴰ·head as here, List·Memᴰ·tail as there, List·Memᴰ·not-nil, List·Memᴰ·cases-cons}
+use mathlib.Core.Logic.{_⊎_, inl, inr, ⊎-elim}
 use native.Mathlib.Omega.{arith}
 use lib.ListN.{length}
 use Rattle.rules.specs.Stores.{Store}
@@ -38,6 +38,32 @@ pub checked-append : {A : Type 0} (refuse : Refusal → A) (ts us : List (Bool �
     → checked refuse (ts ++ us) a ≡ checked refuse ts (checked refuse us a)
 checked-append refuse [] us a = refl
 checked-append refuse (x ∷ ts) us a = ap (λ (b : _). cond (x .0) b (refuse (x .1))) (checked-append refuse ts us a)
+
+-- an answer that the tests let pass, told otherwise
+pub checked-as : {A B : Type 0} (f : A → B) (refuse : Refusal → A) (ts : List (Bool × Refusal)) (a : A)
+    → f (checked refuse ts a) ≡ checked (λ (r : Refusal). f (refuse r)) ts (f a)
+checked-as f refuse [] a = refl
+checked-as f refuse (x ∷ ts) a = go (x .0) (checked-as f refuse ts a)
+  where
+    go : (b : Bool) → f (checked refuse ts a) ≡ checked (λ (r : Refusal). f (refuse r)) ts (f a)
+        → f (cond b (checked refuse ts a) (refuse (x .1))) ≡ cond b (checked (λ (r : Refusal). f (refuse r)) ts (f a)) (f (refuse (x .1)))
+    go true k = k
+    go false k = refl
+
+-- all tests pass, or one that fails refuses
+pub checked-either : {A : Type 0} (refuse : Refusal → A) (ts : List (Bool × Refusal)) (a : A)
+    → (((x : Bool × Refusal) → In x ts → x .0 ≡ true) × (checked refuse ts a ≡ a))
+    ⊎ ((x : Bool × Refusal) × In x ts × (checked refuse ts a ≡ refuse (x .1)))
+checked-either refuse [] a = inl (λ x i. absurd (List·Memᴰ·not-nil i), refl)
+checked-either {A} refuse (y ∷ ts) a = go (y .0) refl (checked-either refuse ts a)
+  where
+    Either : List (Bool × Refusal) → A → Type 0
+    Either us b = (((x : Bool × Refusal) → In x us → x .0 ≡ true) × (b ≡ a)) ⊎ ((x : Bool × Refusal) × In x us × (b ≡ refuse (x .1)))
+
+    go : (b : Bool) → y .0 ≡ b → Either ts (checked refuse ts a) → Either (y ∷ ts) (cond b (checked refuse ts a) (refuse (y .1)))
+    go true q (inl (all, e)) = inl (λ x i. ⊎-elim (λ (h : x ≡ y). rw h q) (λ (h : In x ts). all x h) (List·Memᴰ·cases-cons i), e)
+    go true q (inr (x, i, e)) = inr (x, there i, e)
+    go false q k = inr (y, here refl, refl)
 
 -- every call has tested the header
 header-tested : (t : Table) (n : ℕ) (q : Call) → In {A = Bool × Refusal} (headerGood t, BadHeader) (testsOf t n q)

@@ -28,7 +28,7 @@ use Rattle.rules.proofs.Words.Tokens.{zero-meant, zero-free}
 use Rattle.rules.proofs.Basics.Tests.{Tells, all-yes}
 
 module _ (size form c k mul1 mul2 : ℕ) where
-  good-creation : Tells (all (createTests size form c k mul1 mul2)) (GoodCreation size form c k mul1 mul2)
+  pub good-creation : Tells (all (createTests size form c k mul1 mul2)) (GoodCreation size form c k mul1 mul2)
   unfolding createTests capacityTests odd wordsFor
   good-creation = (
     λ e.
@@ -66,7 +66,7 @@ module _ (size form c k mul1 mul2 : ℕ) where
       let n : i ≡ 5 + (i - 5) = omega arith in
       ap (word whole) n ∙ sym (getD-drop 5 whole (i - 5) 0) ∙ zeros-read (wordsFor c - 5) (i - 5)
 
-  created-words : GoodCreation size form c k mul1 mul2 → CreatedWords size form c k mul1 mul2 (created form c k mul1 mul2)
+  pub created-words : GoodCreation size form c k mul1 mul2 → CreatedWords size form c k mul1 mul2 (created form c k mul1 mul2)
   unfolding created stateWord wordsFor
   created-words g =
       let rest : length (replicate {A = ℕ} (wordsFor c - 5) 0) ≡ wordsFor c - 5 = length-replicate (wordsFor c - 5) 0 in

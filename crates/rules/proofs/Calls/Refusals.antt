@@ -62,9 +62,17 @@ module _ (b : Bool) (r : Refusal) (fs : List (Type 0 × Refusal)) (o : Outcome) 
       go true e = inr (pass e, k)
       go false e = inl (fail e, refl)
 
-  -- the reason is that a fact does not hold; below, that it does
+  -- the reason is that a fact does not hold, and what comes next may lean on it; below, that it does
+  pub unless-then : (P : Type 0) → Tells b P → (P → ByFirst fs o) → ByFirst (((P → ⊥), r) ∷ fs) (cond b o (refused r))
+  unfolding ByFirst
+  unless-then P t k = go b refl
+    where
+      go : (a : Bool) → b ≡ a → ByFirst (((P → ⊥), r) ∷ fs) (cond a o (refused r))
+      go true e = inr (λ n. n (t .0 e), k (t .0 e))
+      go false e = inl (λ p. never (t .1 p) e, refl)
+
   unless : (P : Type 0) → Tells b P → ByFirst fs o → ByFirst (((P → ⊥), r) ∷ fs) (cond b o (refused r))
-  unless P t = by-test (P → ⊥) (λ e n. n (t .0 e)) (λ e p. never (t .1 p) e)
+  unless P t k = unless-then P t (λ p. k)
 
   when : (P : Type 0) → Tells b P → ByFirst fs o → ByFirst ((P, r) ∷ fs) (cond (not b) o (refused r))
   unfolding ByFirst

@@ -51,7 +51,7 @@ module _ (t : Table) where
   unfolding takenSlots
   in-taken x u = in-select (taken t (headerOf t)) (slots-in-use (headerOf t .state) x (u .used)) (u .shown)
 
-  taken-ascend : Ascending Before (takenSlots t)
+  pub taken-ascend : Ascending Before (takenSlots t)
   unfolding takenSlots
   taken-ascend = ascending-select Before (taken t (headerOf t)) (slotsInUse (headerOf t .state)) (slots-ascend (headerOf t .state))
 

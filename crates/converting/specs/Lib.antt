@@ -1,0 +1,2 @@
+pub mod Fillings
+pub mod Promises

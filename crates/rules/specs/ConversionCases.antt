@@ -1,0 +1,2 @@
+-- Document 02, request h): cases.
+-- Assumes nothing.
