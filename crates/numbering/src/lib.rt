@@ -1,12 +1,13 @@
 // Answers as the numbers of documents 01 and 02: "0 is success", and else the refusal's.
 use rules::Change;
+use rules::Conversion;
 use rules::Query;
 use rules::Refusal;
 use rules::Verdict;
 ghost use mathlib.Core.Path.{_≡_};
-ghost use Rattle.rules.specs.Answers.{numberOf, changeMeans, queryMeans, verdictMeans};
+ghost use Rattle.rules.specs.Answers.{numberOf, changeMeans, conversionMeans, queryMeans, verdictMeans};
 ghost use Rattle.rules.specs.Histories.{reported as reportedOf};
-ghost use Rattle.numbering.specs.Told.{told, wordsMean};
+ghost use Rattle.numbering.specs.Told.{told, wordsMean, conversionWordsMean};
 
 // "no. | given when | by"
 pub fn number(refusal: Refusal) -> u64
@@ -91,6 +92,29 @@ pub fn query_words(answer: Query) -> QueryWords
             buckets: searched,
             word: 0,
             level: 0,
+        },
+    }
+}
+
+// A conversion's answer as a number and the key that goes with it.
+pub struct ConversionWords {
+    pub number: u64,
+    pub key: u64,
+}
+
+// "answer 6 with its key"; with every other answer the key is 0.
+pub fn conversion_words(answer: Conversion) -> ConversionWords
+    ensures { λ r. ⌜ conversionWordsMean r ≡ conversionMeans answer ⌝ }
+{
+    match answer {
+        Conversion::Converted => ConversionWords { number: 0, key: 0 },
+        Conversion::Stuck(key) => ConversionWords {
+            number: number(Refusal::NoPlace),
+            key,
+        },
+        Conversion::Rejected(refusal) => ConversionWords {
+            number: number(refusal),
+            key: 0,
         },
     }
 }
