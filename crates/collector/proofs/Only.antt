@@ -11,6 +11,7 @@ use Rattle.numbering.specs.Told.{told, toldWith}
 use Rattle.querying.specs.Promises.{QueriedBy}
 use Rattle.chaining.specs.Promises.{ChainedBy}
 use Rattle.making.specs.Promises.{CreatedBy, MadeBy}
+use Rattle.converting.specs.Promises.{ConvertsBy}
 use Rattle.collector.specs.Reported.{Reported, ReportedFrom}
 
 numbers-one : {a b : Meaning} → a ≡ b → a .number ≡ b .number
@@ -46,3 +47,9 @@ module _ (t u v : Table) (r s : ℕ) where
 
   pub made-one : (l m n : List ℕ) (count : ℕ) → MadeBy t l count (told r) u m → MadeBy t l count (told s) v n → (r ≡ s) × (u ≡ v) × (m ≡ n)
   made-one l m n count a b = (numbers-one (a .0 .answer ∙ sym (b .0 .answer)), a .0 .table ∙ sym (b .0 .table), a .1 ∙ sym (b .1))
+
+  pub converts-one : (a x y : Table) (i j : ℕ) → ConvertsBy t a (toldWith r (i ∷ [])) u x → ConvertsBy t a (toldWith s (j ∷ [])) v y
+      → (r ≡ s) × (i ≡ j) × (u ≡ v) × (x ≡ y)
+  converts-one a x y i j p q =
+      let same = p .answer ∙ sym (q .answer) in
+      (numbers-one same, ap (λ (z : Meaning). getD (z .values) 0 0) same, p .source ∙ sym (q .source), p .second ∙ sym (q .second))

@@ -5,7 +5,7 @@ use mathlib.Core.Path.{_≡_, refl, sym, ap, _∙_}
 use mathlib.Core.List.{List, [], _∷_}
 use lib.ListN.{getD}
 use Rattle.rules.specs.Words.{Table}
-use Rattle.rules.specs.Answers.{numberOf, Meaning, changeMeans, goneOnMeans}
+use Rattle.rules.specs.Answers.{numberOf, Meaning, changeMeans, conversionMeans, goneOnMeans}
 use Rattle.rules.specs.Calls.{step}
 use Rattle.rules.specs.Results.{stepFromResult}
 use Rattle.rules.specs.declared.Refusal.{Refusal}
@@ -13,6 +13,7 @@ use Rattle.rules.specs.declared.Placing.{Placing}
 use Rattle.rules.specs.declared.Change.{Change}
 use Rattle.rules.specs.declared.Change.the-variants.{Listed, Refused}
 use Rattle.rules.specs.declared.SteppedFrom.{SteppedFrom}
+use Rattle.rules.specs.declared.Conversion.{Conversion}
 use Rattle.rules.specs.declared.Chain.{Chain}
 use Rattle.rules.specs.declared.Chain.the-variants.{Whole, Broken}
 use Rattle.numbering.specs.Told.{toldWith}
@@ -21,9 +22,13 @@ use Rattle.listing.specs.Promises.{ChangedBy, StepTakenFrom, WentOnBy}
 use Rattle.listing.proofs.Steps.{step-went-on}
 use Rattle.querying.specs.Promises.{QueriedBy}
 use Rattle.chaining.specs.Promises.{ChainedBy, Chained}
+use Rattle.converting.specs.Promises.{ConvertsBy, Converts}
 
 pub query-told : {t u : Table} {key : ℕ} {a b : Meaning} → QueriedBy t key a u → b ≡ a → QueriedBy t key b u
 query-told d e = rw e d
+
+pub convert-told : {t s u v : Table} {c : Conversion} {b : Meaning} → Converts t s c u v → b ≡ conversionMeans c → ConvertsBy t s b u v
+convert-told d e = record { answer = e ∙ ap conversionMeans (d .answer); source = d .source; second = d .second }
 
 module _ {t u : Table} {address depth : ℕ} {l m : List ℕ} {c : Chain} where
   pub chain-whole : {n : ℕ} → Chained t address depth l c u m → c ≡ Whole n → ChainedBy t address depth l (toldWith 0 (n ∷ [])) u m

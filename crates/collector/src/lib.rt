@@ -4,6 +4,7 @@ use chaining::chain;
 use changing::delete;
 use changing::insert;
 use changing::update;
+use converting::convert;
 use growing::back;
 use growing::begin;
 use growing::end;
@@ -11,6 +12,7 @@ use growing::shrink;
 use growing::step_from;
 use making::create;
 use making::make;
+use numbering::conversion_words;
 use numbering::number;
 use numbering::query_words;
 use numbering::verdict_number;
@@ -29,6 +31,7 @@ ghost use Rattle.rules.specs.Calls.{step as stepCall};
 ghost use Rattle.querying.specs.Promises.{QueriedBy};
 ghost use Rattle.chaining.specs.Promises.{ChainedBy};
 ghost use Rattle.making.specs.Promises.{CreatedBy, MadeBy};
+ghost use Rattle.converting.specs.Promises.{ConvertsBy};
 ghost use Rattle.numbering.specs.Told.{told, toldWith};
 ghost use Rattle.collector.specs.Reported.{Reported, ReportedFrom};
 
@@ -227,4 +230,16 @@ pub extern "C" fn ragansils_make(table: &mut [u64], list: &[u64], n: u64) -> u64
     ensures { λ r. ⌜ MadeBy (now (table .entry)) (now (list .entry)) n (told r) (now (table .exit)) (now (list .exit)) ⌝ }
 {
     verdict_number(make(table, list, n))
+}
+
+// The second table is the other form of the first, and the first is only read. The key of an item that found no place goes to a word of its own,
+// which is 0 with every other answer.
+#[no_mangle]
+pub extern "C" fn ragansils_convert(table: &[u64], second: &mut [u64], key: &mut u64) -> u64
+    ensures { λ r. ⌜ ConvertsBy (now (table .entry)) (now (second .entry)) (toldWith r (now (key .exit) ∷ [])) (now (table .exit))
+        (now (second .exit)) ⌝ }
+{
+    let told = conversion_words(convert(table, second));
+    *key = told.key;
+    told.number
 }

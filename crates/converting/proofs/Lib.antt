@@ -1,3 +1,4 @@
 pub mod Filling
 pub mod Putting
 pub mod Converting
+pub mod Only
