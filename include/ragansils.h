@@ -1,10 +1,10 @@
 /*
  * Ragansils: a position table in lent 64-bit words. Code address and inlining depth lead to a function and a place.
  *
- * The fourteen functions of the static library `collector` (`rt staticlib collector` writes target/staticlib/libcollector.a), for C99
+ * The fifteen functions of the static library `collector` (`rt staticlib collector` writes target/staticlib/libcollector.a), for C99
  * and C++ on x86-64. Each is proved to end, to stay within its buffers and to answer as below on every input, however damaged the words
  * that it is lent; what each leaves in every buffer is part of that proof. On a sound table query, chain, insert, update and delete
- * answer as a plain map does, and growing and shrinking keep the map.
+ * answer as a plain map does, growing and shrinking keep the map, and a converted table has the same one.
  *
  * A change goes in two parts. A changing call only reads the table: it lists its stores, in order, as pairs of a word's index and the
  * new word. The stores are then made, by ragansils_make or by a loop of yours; all of them make a sound table out of a sound one, and
@@ -15,11 +15,11 @@
  * - A pointer is aligned, and valid for as many words as the length beside it says; no pointer is NULL, not even with a length of 0.
  * - No two buffers of one call overlap.
  * - Stores are made whole and in the order of the list, each once, before the next change is listed; no other store goes to the table.
- * - From the listing of a change to its last store no other thread lists, stores or looks up; queries and chains alone may go side by
- *   side. The functions keep nothing between calls.
+ * - From the listing of a change to its last store no other thread lists, stores or looks up; what only reads a table, queries, chains
+ *   and conversions of it, may go side by side. The functions keep nothing between calls.
  *
  * What is left to the caller: cache flush instructions and fences, which a platform needs so that stores reach its memory in order;
- * locks; and creating again a table whose creation was cut, which no recovery mends.
+ * locks; and creating or converting again where that was cut, which no recovery mends.
  */
 #ifndef RAGANSILS_H
 #define RAGANSILS_H
@@ -33,24 +33,27 @@ extern "C" {
 #endif
 
 /*
- * What a function answers: 0, or why it refused. A refusal changes no table, list or records; it writes 0 to *stores, two zeros to the
- * answer of step_from, and to a query's answer and a chain's *buckets what stands there.
+ * What a function answers: 0, or why it refused. A refusal changes no table, list or records, but for the second table of convert with 6;
+ * it writes 0 to *stores, two zeros to the answer of step_from, and to a query's answer, a chain's *buckets and the *key of convert what
+ * stands there.
  */
 enum ragansils_refusal {
     RAGANSILS_DONE = 0,
     RAGANSILS_BAD_HEADER = 1,       /* length, form (neither 1 nor 2), c, multipliers or state bad: all but create and make */
     RAGANSILS_SHORT_LIST = 2,       /* list shorter than 20 words: the changing calls and recover */
-    RAGANSILS_FLAG_SET = 3,         /* update flag not 0, so recover first: all but create, make and recover */
+    RAGANSILS_FLAG_SET = 3,         /* update flag not 0, so recover first: all but create, make, recover and convert */
     RAGANSILS_KEY_PRESENT = 4,      /* insert */
     RAGANSILS_KEY_ABSENT = 5,       /* query, update, delete; at some depth: chain */
-    RAGANSILS_NO_PLACE = 6,         /* insert: grow, or go without; step, step_from: no item there has a place, so delete or turn back */
-    RAGANSILS_ALREADY_RESIZING = 7, /* the table is growing or shrinking: begin, shrink */
+    RAGANSILS_NO_PLACE = 6,         /* insert: grow, or go without; step, step_from: no item there has a place, so delete or turn back;
+                                       convert: an item has no place in the other form, so grow or delete first */
+    RAGANSILS_ALREADY_RESIZING = 7, /* the table is growing or shrinking: begin, shrink, convert */
     RAGANSILS_NOT_RESIZING = 8,     /* the table is at rest: back, step, step_from, end */
     RAGANSILS_AT_CAPACITY = 9,      /* k = c, the table cannot grow: begin */
     RAGANSILS_INTERIM_TAKEN = 10,   /* interim not empty, so step first: end */
     RAGANSILS_INTERIM_EMPTY = 11,   /* nothing left to move, so end: step; nothing from there on: step_from */
-    RAGANSILS_NO_KIND = 12,         /* none of the three kinds of table that recovery accepts: recover */
-    RAGANSILS_BAD_CREATION = 13,    /* form (neither 1 nor 2), c, first k (1 to c), length or a multiplier bad: create */
+    RAGANSILS_NO_KIND = 12,         /* none of the three kinds of table that recovery accepts: recover; not sound: convert */
+    RAGANSILS_BAD_CREATION = 13,    /* form (neither 1 nor 2), c, first k (1 to c), length or a multiplier bad: create; the second table has
+                                       another length than the first: convert */
     RAGANSILS_BAD_MAKING = 14,      /* n pairs are not in the list, or an index among them is outside the table: make */
     RAGANSILS_SHORT_RECORDS = 15,   /* fewer than 2 (depth + 1) words lent for the records: chain */
     RAGANSILS_BAD_POSITION = 16,    /* address of 2^56 or more, or depth above 255: chain */
@@ -58,13 +61,14 @@ enum ragansils_refusal {
 };
 /*
  * Where several would hold: 1, 2, 3, then the rest; insert 4 before 6, begin 7 before 9, shrink 7 before 17, back, the steps and end 8 first,
- * chain 16, 15, 5.
+ * chain 16, 15, 5, convert 12, 7, 13, 6.
  */
 
 /*
  * The two forms of a table. ragansils_create is told the form and writes it to word 0, where it can be read; every other call is the same for
  * both, and goes by that word. Any other word 0 is refused with 1. Choose form 2 where addresses may lie far apart, and form 1 where speed
- * counts more or an older collector must read the table too. Nothing converts a table from one form to the other yet.
+ * counts more or an older collector must read the table too. A table keeps its form; ragansils_convert makes a second table, with the same
+ * items, in the other form.
  *
  * Form 1 hashes a key as it is. A token word, the first of each bucket's 13, has four bits: bit s is 1 where slot s is taken.
  *
@@ -265,6 +269,20 @@ uint64_t ragansils_recover(const uint64_t *table, size_t words, uint64_t *list, 
  * after each, as examples/collector.c does.
  */
 uint64_t ragansils_make(uint64_t *table, size_t words, const uint64_t *list, size_t list_words, uint64_t n);
+
+/*
+ * Makes the other form of a table in a second one: form 2 of a table of form 1, and form 1 of a table of form 2, with the same c, k and
+ * multipliers and the same map. The table must be sound and at rest, and is only read. What the second table held is gone. *key is 0.
+ *
+ * Refusals 1, 12, 7 and 13, in this order, change nothing, and *key is 0. 12: the table is not sound; a set flag is 12 here, and not 3.
+ * Recover first. 7: it grows or shrinks. End that first. 13: the second table has not as many words as the table.
+ *
+ * Items are inserted one by one, those of the top and then those of the bottom. Where one finds no place, that is refusal 6: *key is its
+ * key, and the second table is left as creation makes it, without items. This is the only refusal that changes a table. Grow the table
+ * first, or delete some keys, and convert again. No list is lent, and a cut is not covered, as in creation: make the second table lasting
+ * before anything relies on it.
+ */
+uint64_t ragansils_convert(const uint64_t *table, size_t words, uint64_t *second, size_t second_words, uint64_t *key);
 
 #ifdef __cplusplus
 }

@@ -1,8 +1,8 @@
 /*
- * Calls each of the fourteen functions through include/ragansils.h, and meets each refusal number: the ten of document 01, the paper that
- * fixes the table, on its marked examples, the chain, the step that goes on, shrink and back. All of that is done in both forms; the tags of
- * form 2 are 0 there, so that rows with other tags come after it. The answers differ for any two arguments taken for each other. Says how
- * many checks there were; exit status 0 only where all held.
+ * Calls each of the fifteen functions through include/ragansils.h, and meets each refusal number: the ten of document 01, the paper that
+ * fixes the table, on its marked examples, the chain, the step that goes on, shrink, back and convert. All of that is done in both forms; but
+ * for conversions the tags of form 2 are 0 there, so that rows with other tags come after it. The answers differ for any two arguments taken
+ * for each other. Says how many checks there were; exit status 0 only where all held.
  */
 #include <inttypes.h>
 #include <stdio.h>
@@ -27,7 +27,7 @@
 #define NO_ADDRESS (UINT64_C(1) << 56)
 
 /* A run with fewer has left something out. */
-#define LEAST_CHECKS 2400
+#define LEAST_CHECKS 2800
 
 static uint64_t table[WORDS], list[LENT_LIST], stores, bucket, lent[AROUND + LONGEST_CHAIN + AROUND];
 static uint64_t *const records = lent + AROUND;
@@ -711,6 +711,150 @@ static void no_form(void)
     }
 }
 
+/* ---- conversion, from the form that tables are made in to the other ---- */
+
+#define OTHER_FORM (RAGANSILS_FORM_1 + RAGANSILS_FORM_2 - form)
+
+/* The second table, and some words around it, to see that those stay. */
+static uint64_t lent_second[AROUND + WORDS + AROUND];
+static uint64_t *const second = lent_second + AROUND;
+
+/* Converts to words that hold anything, and checks that it answers so, with this key. */
+static void converted(size_t second_words, uint64_t number, uint64_t key)
+{
+    uint64_t before[WORDS], told[] = { UNTOUCHED, UNTOUCHED, UNTOUCHED };
+    memcpy(before, table, sizeof table);
+    untouch(lent_second, AROUND + WORDS + AROUND);
+    check(ragansils_convert(table, WORDS, second, second_words, &told[1]) == number, "convert");
+    check(told[0] == UNTOUCHED && told[1] == key && told[2] == UNTOUCHED, "the key that convert tells");
+    check(memcmp(before, table, sizeof table) == 0, "convert only reads the table");
+    all_untouched(lent_second, 0, AROUND, "the words before the second table stay");
+    all_untouched(second, WORDS, WORDS + AROUND, "the words behind the second table stay");
+}
+
+static void not_converted(size_t second_words, uint64_t number)
+{
+    converted(second_words, number, 0);
+    all_untouched(second, 0, WORDS, "a refused conversion leaves the second table");
+}
+
+static void second_is(const uint64_t *expected, const char *what)
+{
+    check(memcmp(second, expected, WORDS * sizeof *second) == 0, what);
+}
+
+/* The second table as creation makes it. */
+static void created_in_other_form(uint64_t *words)
+{
+    check(ragansils_create(words, WORDS, OTHER_FORM, 2, 1, MUL1, MUL2) == RAGANSILS_DONE, "create in the other form");
+}
+
+/* Four keys fill a bucket of the top, and the fifth goes to the bottom. Once the first is gone the others have the bucket to themselves. */
+static void conversion(void)
+{
+    const uint64_t keys[] = { tagged(5, 1), tagged(7, 3), tagged(9, 5), tagged(11, 7), tagged(13, 9) };
+    uint64_t expected[WORDS];
+    fresh_table();
+    created_in_other_form(expected);
+    converted(WORDS, RAGANSILS_DONE, 0);
+    second_is(expected, "an empty table in the other form");
+
+    for (size_t i = 0; i < 5; i++)
+        made(INSERT, keys[i], 100 + i, 200 + i);
+    check((table[9] & 15) == 1, "the fifth key stands in the bottom");
+    made(DELETE, keys[0], 0, 0);
+    expected[35] = form == RAGANSILS_FORM_1 ? token(15, 7, 9, 11, 13) : 15;
+    for (size_t i = 1; i < 5; i++) {
+        expected[33 + 3 * i] = keys[i];
+        expected[34 + 3 * i] = 100 + i;
+        expected[35 + 3 * i] = 200 + i;
+    }
+    converted(WORDS, RAGANSILS_DONE, 0);
+    second_is(expected, "those of the top come first, and then the one of the bottom");
+
+    /* And back. */
+    memcpy(table, second, sizeof table);
+    expected[0] = form;
+    expected[35] = form == RAGANSILS_FORM_2 ? token(15, 7, 9, 11, 13) : 15;
+    converted(WORDS, RAGANSILS_DONE, 0);
+    second_is(expected, "the table that was converted twice");
+}
+
+/* Most of these would be refused for a later reason too. */
+static void refused_conversions(void)
+{
+    uint64_t key = UNTOUCHED;
+    fresh_table();
+    insert_keys(1, 15, 2);
+    const size_t other_lengths[] = { 0, WORDS - 1, WORDS + 1 };
+    for (size_t i = 0; i < sizeof other_lengths / sizeof *other_lengths; i++)
+        not_converted(other_lengths[i], RAGANSILS_BAD_CREATION);
+    check(ragansils_convert(table, WORDS - 1, second, WORDS - 1, &key) == RAGANSILS_BAD_HEADER && key == 0, "a table that is too short");
+    made(BEGIN, 0, 0, 0);
+    not_converted(WORDS - 1, RAGANSILS_ALREADY_RESIZING);
+    made(BACK, 0, 0, 0);
+    not_converted(WORDS, RAGANSILS_ALREADY_RESIZING);
+    made(BACK, 0, 0, 0);
+    /* Key 9 stands twice: recovery would mend that, and comes first. */
+    check(call_step(WORDS, LENT_LIST, 0, 0, 0) == RAGANSILS_DONE && stores == 5, "a step");
+    ragansils_make(table, WORDS, list, LENT_LIST, 4);
+    not_converted(WORDS - 1, RAGANSILS_NO_KIND);
+    /* This it would not mend. */
+    table[5] = 2;
+    not_converted(WORDS - 1, RAGANSILS_NO_KIND);
+    table[0] = 3;
+    not_converted(WORDS - 1, RAGANSILS_BAD_HEADER);
+}
+
+/* What is not sound; of the flag the other calls would say 3. */
+static void unsound_conversions(void)
+{
+    fresh_table();
+    insert_keys(1, 7, 2);
+    const uint64_t flags[] = { 1, 2, UINT64_MAX };
+    table[6] = 36;
+    for (size_t i = 0; i < sizeof flags / sizeof *flags; i++) {
+        table[5] = flags[i];
+        not_converted(WORDS, RAGANSILS_NO_KIND);
+        not_converted(WORDS - 1, RAGANSILS_NO_KIND);
+    }
+    table[5] = 0;
+    table[35] |= 16;
+    not_converted(WORDS, RAGANSILS_NO_KIND);
+    table[35] &= 15;
+    table[36] = 2;
+    not_converted(WORDS, RAGANSILS_NO_KIND);
+    table[36] = 1;
+    converted(WORDS, RAGANSILS_DONE, 0);
+}
+
+/*
+ * In the form that they are made in, the even ones of these nine keys have one bucket of the top and the odd ones the other; in the other form
+ * all have the same one. The places of a key are its low half here, by parity, in form 2, and the sum of both halves in form 1.
+ */
+static uint64_t crowding_key(uint64_t number)
+{
+    uint64_t high = number % 2, low = 2 * number + 1 - (form == RAGANSILS_FORM_2 ? high : 0);
+    return high << 32 | low;
+}
+
+/* Four of them fill that bucket, four the bottom, and the last one finds no place. */
+static void no_place_in_other_form(void)
+{
+    uint64_t expected[WORDS];
+    fresh_table();
+    for (uint64_t number = 0; number < 9; number++)
+        made(INSERT, crowding_key(number), number, number);
+    check((table[9] & 15) == 1 && table[10] == crowding_key(8), "the last key stands in the bottom");
+    created_in_other_form(expected);
+    converted(WORDS, RAGANSILS_NO_PLACE, crowding_key(8));
+    second_is(expected, "without a place for an item the second table is left as it was created");
+    not_converted(WORDS + 1, RAGANSILS_BAD_CREATION);
+    made(DELETE, crowding_key(0), 0, 0);
+    converted(WORDS, RAGANSILS_DONE, 0);
+    check((second[9] & 15) == 15 && second[19] == crowding_key(8), "after a delete there is a place");
+}
+
 static void rows_of_form_2(void)
 {
     mixed_key();
@@ -739,6 +883,10 @@ static void rows_of_both_forms(void)
     chain_while_resizing();
     longest_chain();
     lengths();
+    conversion();
+    refused_conversions();
+    unsound_conversions();
+    no_place_in_other_form();
 }
 
 int main(void)
@@ -747,7 +895,7 @@ int main(void)
     for (form = RAGANSILS_FORM_1; form <= RAGANSILS_FORM_2; form++)
         rows_of_both_forms();
     rows_of_form_2();
-    if (printf("%u checks of the fourteen functions from C, %u failed\n", checks, failures) < 0 || fflush(stdout) != 0) {
+    if (printf("%u checks of the fifteen functions from C, %u failed\n", checks, failures) < 0 || fflush(stdout) != 0) {
         fprintf(stderr, "calls: standard output could not be written\n");
         return 1;
     }
