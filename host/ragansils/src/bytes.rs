@@ -1,6 +1,17 @@
 //! A table's words as a file has them: in the byte order of the machine.
 
+use std::fs::File;
+use std::io;
 use std::mem::size_of;
+
+/// The length of a file in bytes; an error where it is no plain file, such as a folder.
+pub fn length_of_plain_file(file: &File) -> io::Result<u64> {
+    let metadata = file.metadata()?;
+    match metadata.is_file() {
+        true => Ok(metadata.len()),
+        false => Err(io::Error::new(io::ErrorKind::InvalidInput, "not a plain file")),
+    }
+}
 
 /// The whole words of some bytes; what is left over at the end is left out.
 pub fn words_of(bytes: &[u8]) -> Vec<u64> {

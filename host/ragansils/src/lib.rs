@@ -15,7 +15,8 @@
 //! - [`StoreList`], [`Platform`]: stores, and what a platform does after each;
 //! - [`Table`]: a table that makes its own stores, grows and shrinks in small parts ([`Part`], by hand [`Step`]; [`Phase`] tells which is
 //!   under way) and tells the inlined frames at an address ([`Frames`]);
-//! - [`MappedFile`]: words in a file, with [`words_of`] and [`bytes_of`] for a file that is only read.
+//! - [`MappedFile`]: words in a file, made by [`NewFile`]; [`ReadOnlyFile`], and [`words_of`] and [`bytes_of`], for a file that is only
+//!   read.
 //!
 //! ```
 //! use ragansils::{Creation, Key, MappedFile, OrdinaryMemory, Record, Table};
@@ -53,12 +54,12 @@ mod resizing;
 mod stores;
 mod table;
 
-pub use bytes::{bytes_of, words_of};
+pub use bytes::{bytes_of, length_of_plain_file, words_of};
 pub use creation::{Creation, MULTIPLIER_1, MULTIPLIER_2};
 pub use form::Form;
 pub use frames::Frames;
 #[cfg(all(target_os = "linux", target_pointer_width = "64"))]
-pub use mapped::{FileError, MappedFile};
+pub use mapped::{FileError, MappedFile, NewFile, ReadOnlyFile};
 pub use phase::Phase;
 pub use position::{Chain, Found, Key, Level, Lookup, Record, Slot};
 pub use refusal::{Refusal, UnknownNumber};

@@ -1,26 +1,15 @@
 //! A table in a mapped file: what stays, and what is refused.
 #![cfg(all(target_os = "linux", target_pointer_width = "64"))]
 
-use std::fs;
-use std::path::{Path, PathBuf};
+mod files;
 
+use std::fs;
+
+use files::{folder, names_in};
 use ragansils::{bytes_of, Creation, FileError, Form, MappedFile, OrdinaryMemory, Record, Refusal, Table};
 
 const CREATION: Creation = Creation { multipliers: [4294967297, 12884901889], ..Creation::new(3, 1) };
 const RECORD: Record = Record { function: 10, place: 20 };
-
-/// An empty folder of this test's own.
-fn folder(name: &str) -> PathBuf {
-    let folder = Path::new(env!("CARGO_TARGET_TMPDIR")).join(name);
-    let _ = fs::remove_dir_all(&folder);
-    fs::create_dir_all(&folder).unwrap();
-    folder
-}
-
-fn names_in(folder: &Path) -> Vec<String> {
-    let entries = fs::read_dir(folder).unwrap();
-    entries.map(|entry| entry.unwrap().file_name().into_string().unwrap()).collect()
-}
 
 #[test]
 fn what_is_stored_is_there_after_reopening() {
