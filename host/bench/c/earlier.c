@@ -15,3 +15,8 @@ __attribute__((weak)) void ragansils_back(void)
 {
     abort();
 }
+
+__attribute__((weak)) void ragansils_convert(void)
+{
+    abort();
+}

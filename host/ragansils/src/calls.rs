@@ -1,4 +1,4 @@
-//! The fourteen functions over slices: each is one call of the library and nothing else.
+//! The fifteen functions over slices: each is one call of the library and nothing else.
 //!
 //! [`Table`](crate::Table) is the way to use them in a collector. Here a changing call is in two parts, as the library has it: the call
 //! only reads the table and lists its stores, and something else makes them.
@@ -23,7 +23,7 @@
 
 use crate::raw;
 use crate::stores::LIST_WORDS;
-use crate::{ahead, Chain, Creation, Key, Lookup, Record, Refusal, StoreList};
+use crate::{ahead, Chain, Creation, Key, Lookup, Record, Refusal, StoreList, Unconverted};
 
 /// Zeroes all words and writes the header of an empty table. Refusal: `BadCreation`.
 pub fn create(words: &mut [u64], creation: &Creation) -> Result<(), Refusal> {
@@ -169,6 +169,38 @@ pub fn make(words: &mut [u64], list: &[u64], n: u64) -> Result<(), Refusal> {
     let (table, length) = (words.as_mut_ptr(), words.len());
     // SAFETY: both pointers are valid for their slices' lengths, and the slices do not overlap.
     Refusal::check(unsafe { raw::ragansils_make(table, length, list.as_ptr(), list.len(), n) })
+}
+
+/// Makes the other form of a table in the words of a second one, whatever they held: with the same capacity exponent, top, multipliers and
+/// items. The first table must be sound and at rest, and is only read.
+///
+/// A refusal changes nothing, with one exception: where an item has no place in the other form, the second table is left empty, as
+/// [`create`] makes it. A cut is not covered, as in creation.
+///
+/// ```
+/// use ragansils::{calls, Creation, Form, Key, Record, Unconverted};
+///
+/// let creation = Creation { form: Form::One, ..Creation::new(2, 1) };
+/// let mut words = vec![0; creation.words().unwrap()];
+/// calls::create(&mut words, &creation)?;
+/// let list = calls::insert(&words, Key::from(1), Record { function: 10, place: 20 })?;
+/// calls::make(&mut words, list.words(), list.count())?;
+///
+/// let mut second = vec![0; words.len()];
+/// calls::convert(&words, &mut second)?;
+/// assert_eq!((words[0], second[0]), (1, 2));
+/// assert_eq!(calls::query(&second, Key::from(1))?.record(), Some(Record { function: 10, place: 20 }));
+///
+/// assert_eq!(calls::convert(&words, &mut second[1..]), Err(Unconverted::OtherLength));
+/// # Ok::<(), Box<dyn std::error::Error>>(())
+/// ```
+pub fn convert(words: &[u64], second: &mut [u64]) -> Result<(), Unconverted> {
+    let mut key = 0;
+    let (table, length) = (words.as_ptr(), words.len());
+    let (other, other_length) = (second.as_mut_ptr(), second.len());
+    // SAFETY: both pointers are valid for their slices' lengths, and the two tables and the key lie apart.
+    let number = unsafe { raw::ragansils_convert(table, length, other, other_length, &mut key) };
+    Unconverted::check(number, key)
 }
 
 /// A call that is lent a table and a list and told nothing more.

@@ -6,8 +6,8 @@ use std::fmt;
 const FORM: usize = 0;
 
 /// The form of a table, by the number that its word 0 has for it. It is chosen once, in [`Creation`](crate::Creation), and every call goes
-/// by it; [`Table::form`](crate::Table::form) tells it. Both forms answer alike and hold as many items in as many words, but the words of
-/// one are not those of the other. Nothing converts a table from one form to the other yet.
+/// by it; [`Table::form`](crate::Table::form) tells it. Both forms answer alike and have as many slots in as many words, but the words of
+/// one are not those of the other. [`Table::convert`](crate::Table::convert) makes a second table with the same items in the other form.
 ///
 /// ```
 /// use ragansils::{Creation, Form, OrdinaryMemory, Record, Refusal, Table};
@@ -59,6 +59,20 @@ impl Form {
             1 => Some(Form::One),
             2 => Some(Form::Two),
             _ => None,
+        }
+    }
+
+    /// The form that a table of this one is converted to.
+    ///
+    /// ```
+    /// use ragansils::Form;
+    ///
+    /// assert_eq!(Form::ALL.map(Form::other), [Form::Two, Form::One]);
+    /// ```
+    pub const fn other(self) -> Form {
+        match self {
+            Form::One => Form::Two,
+            Form::Two => Form::One,
         }
     }
 

@@ -4,17 +4,17 @@
 //! words when power fails. Every change is an ordered list of at most ten word stores, and power may fail after any of them.
 //!
 //! The work is done by the static library `collector`, written in Rattle and proved to answer as its rules say on every input; this
-//! crate is thin over its fourteen functions and has no other dependency. What is proved ends at the library: that stores are made in order
+//! crate is thin over its fifteen functions and has no other dependency. What is proved ends at the library: that stores are made in order
 //! is this crate's own part, and is tested.
 //!
 //! From the bottom up:
-//! - [`raw`]: the fourteen functions, unsafe;
+//! - [`raw`]: the fifteen functions, unsafe;
 //! - [`calls`]: the same over slices, safe;
-//! - [`Key`], [`Record`], [`Lookup`] with [`Found`], [`Slot`] and [`Level`], [`Chain`], [`Creation`] with [`Form`], [`Refusal`]: what goes
-//!   in and comes out;
+//! - [`Key`], [`Record`], [`Lookup`] with [`Found`], [`Slot`] and [`Level`], [`Chain`], [`Creation`] with [`Form`], [`Refusal`],
+//!   [`Unconverted`]: what goes in and comes out;
 //! - [`StoreList`], [`Platform`]: stores, and what a platform does after each;
 //! - [`Table`]: a table that makes its own stores, grows and shrinks in small parts ([`Part`], by hand [`Step`]; [`Phase`] tells which is
-//!   under way) and tells the inlined frames at an address ([`Frames`]);
+//!   under way), tells the inlined frames at an address ([`Frames`]) and is converted to its other form ([`Table::convert`]);
 //! - [`MappedFile`]: words in a file, made by [`NewFile`]; [`ReadOnlyFile`], and [`words_of`] and [`bytes_of`], for a file that is only
 //!   read.
 //!
@@ -41,6 +41,7 @@
 mod ahead;
 mod bytes;
 pub mod calls;
+mod conversion;
 mod creation;
 mod form;
 mod frames;
@@ -55,6 +56,7 @@ mod stores;
 mod table;
 
 pub use bytes::{bytes_of, length_of_plain_file, words_of};
+pub use conversion::Unconverted;
 pub use creation::{Creation, MULTIPLIER_1, MULTIPLIER_2};
 pub use form::Form;
 pub use frames::Frames;

@@ -37,6 +37,40 @@ impl MappedFile {
         new.link()
     }
 
+    /// Makes a file with the other form of a table, and opens it: with the same capacity exponent, top, multipliers and items
+    /// ([`Table::convert`](crate::Table::convert)). A file that is there already is not touched, and the table is only read.
+    ///
+    /// The file is made as by [`create`](MappedFile::create). So a cut leaves no file of its name, or a whole one, and a refusal leaves none:
+    /// [`FileError::Unconverted`] says which.
+    ///
+    /// ```
+    /// use ragansils::{Creation, Form, MappedFile, OrdinaryMemory, ReadOnlyFile, Record, Table};
+    ///
+    /// # let folder = std::env::temp_dir().join(format!("ragansils-convert-{}", std::process::id()));
+    /// # std::fs::create_dir_all(&folder)?;
+    /// # let (path, new_path) = (folder.join("positions.table"), folder.join("positions-2.table"));
+    /// # let creation = Creation { form: Form::One, ..Creation::new(8, 1) };
+    /// # let mut table = Table::open(MappedFile::create(&path, &creation)?, OrdinaryMemory)?;
+    /// # table.insert(1.into(), Record { function: 7, place: 120 })?;
+    /// # drop(table);
+    /// // A file of form 1; no collector has it open.
+    /// let old = ReadOnlyFile::open(&path)?;
+    /// let new = MappedFile::convert(&new_path, old.as_ref())?;
+    /// let table = Table::open(new, OrdinaryMemory)?;
+    /// assert_eq!(table.form()?, Form::Two);
+    /// assert_eq!(table.query(1.into())?.record(), Some(Record { function: 7, place: 120 }));
+    /// # drop(table);
+    /// # std::fs::remove_dir_all(&folder)?;
+    /// # Ok::<(), Box<dyn std::error::Error>>(())
+    /// ```
+    ///
+    /// A collector that has the table open hands over its words, `table.words()`, and so needs no second opening.
+    pub fn convert(path: impl AsRef<Path>, source: &[u64]) -> Result<MappedFile, FileError> {
+        let mut new = NewFile::make(path, source.len())?;
+        calls::convert(source, new.as_mut())?;
+        new.link()
+    }
+
     /// Opens a file whose length is a table's. What its words hold is looked at by [`Table::open`](crate::Table::open).
     pub fn open(path: impl AsRef<Path>) -> Result<MappedFile, FileError> {
         let file = OpenOptions::new().read(true).write(true).open(path)?;

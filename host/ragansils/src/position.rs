@@ -42,6 +42,19 @@ impl Key {
     }
 }
 
+/// The word, and what a collector makes it of.
+///
+/// ```
+/// use ragansils::Key;
+///
+/// assert_eq!(Key::new(0x1040, 2).unwrap().to_string(), "key 1064962 (address 0x1040, depth 2)");
+/// ```
+impl fmt::Display for Key {
+    fn fmt(&self, f: &mut fmt::Formatter) -> fmt::Result {
+        write!(f, "key {} (address {:#x}, depth {})", self.word(), self.address(), self.depth())
+    }
+}
+
 impl From<u64> for Key {
     fn from(word: u64) -> Key {
         Key(word)

@@ -1,4 +1,4 @@
-//! The fourteen functions of the static library `collector`, as `include/ragansils.h` declares them.
+//! The fifteen functions of the static library `collector`, as `include/ragansils.h` declares them.
 //!
 //! They are unsafe for what a compiler cannot see: a pointer must be aligned and valid for as many words as the length beside it says,
 //! and no two buffers of a call may overlap. [`calls`](crate::calls) has the same over slices.
@@ -103,4 +103,11 @@ extern "C" {
         stores: *mut u64,
     ) -> u64;
     pub fn ragansils_make(table: *mut u64, words: usize, list: *const u64, list_words: usize, n: u64) -> u64;
+    pub fn ragansils_convert(
+        table: *const u64,
+        words: usize,
+        second: *mut u64,
+        second_words: usize,
+        key: *mut u64,
+    ) -> u64;
 }

@@ -5,7 +5,8 @@ use std::fmt;
 
 /// A call's refusal, by the number of the C interface; 0, which is success, is none of them.
 ///
-/// A refused call changes nothing.
+/// A refused call changes nothing, but for a conversion with `NoPlace`, which leaves its second table empty. Of a conversion
+/// [`Unconverted`](crate::Unconverted) has the refusals, with the key that found no place.
 ///
 /// ```
 /// use ragansils::Refusal;
@@ -29,9 +30,10 @@ pub enum Refusal {
     /// Update and delete: the key is absent. Chain: one of the depths has no record.
     KeyAbsent = 5,
     /// Insert: there is no place for the key; the table may grow, or something may be deleted. Step: no interim item has a place, or, of a
-    /// step from a bucket, none from there on; a delete may make room for one, and a shrink may be turned back.
+    /// step from a bucket, none from there on; a delete may make room for one, and a shrink may be turned back. Conversion: an item has no
+    /// place in the other form.
     NoPlace = 6,
-    /// Begin and shrink: the table is growing or shrinking already.
+    /// Begin, shrink and conversion: the table is growing or shrinking already.
     AlreadyResizing = 7,
     /// Back, step and end: the table is neither growing nor shrinking.
     NotResizing = 8,
@@ -41,9 +43,9 @@ pub enum Refusal {
     InterimTaken = 10,
     /// Step: the interim level is empty, so the growth or shrink can end. Step from a bucket: there is no item from there on.
     InterimEmpty = 11,
-    /// Recovery: the table is none of the three kinds that a cut leaves.
+    /// Recovery: the table is none of the three kinds that a cut leaves. Conversion: the table is not sound.
     NoKind = 12,
-    /// Creation: form, capacity exponent, first top, length or a multiplier are bad.
+    /// Creation: form, capacity exponent, first top, length or a multiplier are bad. Conversion: the second table has another length.
     BadCreation = 13,
     /// Making: the stores are not in the list, or one is outside the table.
     BadMaking = 14,

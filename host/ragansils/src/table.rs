@@ -1,7 +1,9 @@
 //! A table that makes its own stores.
 
 use crate::stores::make_in_order;
-use crate::{calls, Creation, Form, Frames, Key, Lookup, Platform, Record, Refusal, Step, StoreList};
+use crate::{
+    calls, Creation, Form, Frames, Key, Lookup, Platform, Record, Refusal, Step, StoreList, Unconverted,
+};
 
 /// A position table over words that it is lent: a `&mut [u64]`, a `Vec<u64>`, or a [`MappedFile`](crate::MappedFile).
 ///
@@ -62,6 +64,38 @@ impl<W: AsRef<[u64]> + AsMut<[u64]>, P: Platform> Table<W, P> {
             Err(Refusal::BadHeader) => Err(Refusal::BadHeader),
             _ => Ok(Form::of(self.words()).expect("a table with a good header has a form")),
         }
+    }
+
+    /// Makes the other form of this table in as many words, whatever they held: with the same capacity exponent, top, multipliers and
+    /// items. This table stays as it is. [`MappedFile::convert`](crate::MappedFile::convert) makes it in a new file.
+    ///
+    /// ```
+    /// use ragansils::{Creation, Form, Key, OrdinaryMemory, Record, Table};
+    ///
+    /// let creation = Creation { form: Form::One, ..Creation::new(4, 1) };
+    /// let mut table = Table::create(vec![0; creation.words().unwrap()], &creation, OrdinaryMemory)?;
+    /// let key = Key::new(0x5555_0000_1040, 0).unwrap();
+    /// table.insert(key, Record { function: 7, place: 120 })?;
+    ///
+    /// let second = table.convert(vec![0; table.words().len()], OrdinaryMemory)?;
+    /// assert_eq!(second.form(), Ok(Form::Two));
+    /// assert_eq!(second.query(key)?.record(), Some(Record { function: 7, place: 120 }));
+    /// # Ok::<(), Box<dyn std::error::Error>>(())
+    /// ```
+    ///
+    /// Refusals: `Resizing` while the table grows or shrinks; `OtherLength`; and `NoPlace` with the key of an item that has no place in the
+    /// other form. Then a [`grow`](Table::grow) of this table makes room, or a delete. The words are left as they were, or with `NoPlace`
+    /// as an empty table. `BadHeader` and `NotSound` do not come on a table that was opened or created.
+    ///
+    /// A cut is not covered, and the platform is not told of the stores, as in creation: make the words lasting before anything relies on
+    /// them.
+    pub fn convert<V, Q>(&self, mut second: V, platform: Q) -> Result<Table<V, Q>, Unconverted>
+    where
+        V: AsRef<[u64]> + AsMut<[u64]>,
+        Q: Platform,
+    {
+        calls::convert(self.words(), second.as_mut())?;
+        Ok(Table { words: second, platform, interim_hint: 0 })
     }
 
     /// Looks a key up: its record, and where that stands. Refusals: `BadHeader`, `FlagSet`; neither comes on a table that was opened or

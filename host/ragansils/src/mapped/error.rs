@@ -4,7 +4,7 @@ use std::error::Error;
 use std::fmt;
 use std::io;
 
-use crate::Refusal;
+use crate::{Refusal, Unconverted};
 
 /// Why a file gives no words for a table, or was not made. A file that was there is as it was.
 #[derive(Debug)]
@@ -18,11 +18,19 @@ pub enum FileError {
     Length(u64),
     /// No table can be created so.
     Refused(Refusal),
+    /// The table that the file should hold in the other form was not converted.
+    Unconverted(Unconverted),
 }
 
 impl From<io::Error> for FileError {
     fn from(error: io::Error) -> FileError {
         FileError::System(error)
+    }
+}
+
+impl From<Unconverted> for FileError {
+    fn from(refused: Unconverted) -> FileError {
+        FileError::Unconverted(refused)
     }
 }
 
@@ -33,6 +41,7 @@ impl fmt::Display for FileError {
             FileError::InUse => f.write_str("the table is in use"),
             FileError::Length(bytes) => write!(f, "a length of {bytes} bytes is no table's"),
             FileError::Refused(refusal) => refusal.fmt(f),
+            FileError::Unconverted(refused) => refused.fmt(f),
         }
     }
 }
@@ -42,6 +51,7 @@ impl Error for FileError {
         match self {
             FileError::System(error) => Some(error),
             FileError::Refused(refusal) => Some(refusal),
+            FileError::Unconverted(refused) => Some(refused),
             FileError::InUse | FileError::Length(_) => None,
         }
     }

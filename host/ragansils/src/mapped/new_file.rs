@@ -12,12 +12,12 @@ use crate::creation::is_table_length;
 
 /// A file for a table that is being made, with another name than the one that it will have.
 ///
-/// A cut in creation is not covered by recovery. So the words are written under another name in the same folder (the file's,
+/// A cut in creation or conversion is not covered by recovery. So the words are written under another name in the same folder (the file's,
 /// with the process id and `.new` behind it), and [`link`](NewFile::link) gives them their own name when they are on the disk. A cut leaves
 /// no file of that name, or a whole one, and at worst the file with the other name, which may be removed. Where this value is dropped
 /// instead, no file is left.
 ///
-/// [`MappedFile::create`] does all of it. By hand, for whoever wants to look on or to add something:
+/// [`MappedFile::create`] and [`MappedFile::convert`] do all of it. By hand, for whoever wants to look on or to add something:
 ///
 /// ```
 /// use ragansils::{Creation, MappedFile, NewFile, OrdinaryMemory, Record, Table};
