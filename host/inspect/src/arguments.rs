@@ -3,6 +3,7 @@
 use std::ffi::OsString;
 use std::path::PathBuf;
 
+use ragansils::program::path_of;
 use ragansils::Key;
 
 #[derive(Debug, PartialEq, Eq)]
@@ -16,21 +17,13 @@ pub enum Asked {
 pub fn read(arguments: &[OsString]) -> Result<Asked, Option<String>> {
     match arguments {
         [only] if only == "--help" || only == "-h" => Ok(Asked::Help),
-        [path] => Ok(Asked::Table(path_of(path)?)),
+        [path] => Ok(Asked::Table(path_of(path).ok_or(None)?)),
         [path, option, address, depth] if option == "--key" => {
-            let path = path_of(path)?;
+            let path = path_of(path).ok_or(None)?;
             let key = key_of(&address.to_string_lossy(), &depth.to_string_lossy()).map_err(Some)?;
             Ok(Asked::Key(path, key))
         }
         _ => Err(None),
-    }
-}
-
-/// A name that begins as an option does is not taken for a file's.
-fn path_of(argument: &OsString) -> Result<PathBuf, Option<String>> {
-    match argument.to_string_lossy().starts_with('-') {
-        true => Err(None),
-        false => Ok(PathBuf::from(argument)),
     }
 }
 

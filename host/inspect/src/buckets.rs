@@ -2,7 +2,7 @@
 
 use ragansils_model::{Slot, Table, SLOTS_PER_BUCKET};
 
-use crate::faults::key_words;
+use crate::faults::key_in;
 use crate::tags;
 
 /// How a slot is drawn.
@@ -58,13 +58,14 @@ fn tag_in(table: &Table, slot: Slot) -> String {
 }
 
 fn content(table: &Table, slot: Slot) -> String {
-    let [key, function, place] = table.record(slot);
+    let [_, function, place] = table.record(slot);
+    let key = key_in(table, slot);
     let own_tag = match tags::is_wrong(table, slot) {
-        true => format!("; the key's own tag is {}", tags::hexadecimal(table.tag_of(key))),
+        true => format!("; the key's own tag is {}", tags::hexadecimal(table.tag_of(key.word()))),
         false => String::new(),
     };
     match table.is_taken(slot) {
-        true => format!("{}, function {function}, place {place}{own_tag}", key_words(key)),
+        true => format!("{key}, function {function}, place {place}{own_tag}"),
         false => "free".to_string(),
     }
 }

@@ -15,20 +15,15 @@ pub fn lines(table: &Table) -> Vec<String> {
     lines.extend(flag_line(table));
     token_lines(&mut lines, table);
     told(&mut lines, &misplaced_items(table), |&slot| {
-        format!(
-            "{} stands in {}, which is none of its places",
-            key_words(table.key(slot)),
-            slot_words(table, slot)
-        )
+        format!("{} stands in {}, which is none of its places", key_in(table, slot), slot_words(table, slot))
     });
     told(&mut lines, &keys_in_several_slots(table), |slots| copies_line(table, slots));
     lines
 }
 
-/// The key as a word, and as what a collector makes it of.
-pub fn key_words(key: u64) -> String {
-    let parts = Key::from(key);
-    format!("key {key} (address {:#x}, depth {})", parts.address(), parts.depth())
+/// The key in a slot, as it is told.
+pub fn key_in(table: &Table, slot: Slot) -> Key {
+    Key::from(table.key(slot))
 }
 
 pub fn slot_words(table: &Table, slot: Slot) -> String {
@@ -48,7 +43,7 @@ fn flag_line(table: &Table) -> Option<String> {
         0 => None,
         1 => Some(match update_target(table) {
             Some(slot) => {
-                format!("the update flag is 1: an update of {} was cut", key_words(table.key(slot)))
+                format!("the update flag is 1: an update of {} was cut", key_in(table, slot))
             }
             None => {
                 format!("the update flag is 1, and the update target {target} is no taken slot's key word")
@@ -86,11 +81,10 @@ fn token_lines(lines: &mut Vec<String>, table: &Table) {
 }
 
 fn wrong_tag_line(table: &Table, slot: Slot) -> String {
-    let key = table.key(slot);
-    let (tag, own) = (tags::hexadecimal(table.tag_in(slot)), tags::hexadecimal(table.tag_of(key)));
+    let key = key_in(table, slot);
+    let (tag, own) = (tags::hexadecimal(table.tag_in(slot)), tags::hexadecimal(table.tag_of(key.word())));
     format!(
-        "{} has tag {tag} in {}, and its own tag is {own}: no call finds it there",
-        key_words(key),
+        "{key} has tag {tag} in {}, and its own tag is {own}: no call finds it there",
         slot_words(table, slot)
     )
 }
@@ -108,7 +102,7 @@ fn copies_line(table: &Table, slots: &[Slot]) -> String {
     let places: Vec<String> = slots.iter().map(|&slot| slot_words(table, slot)).collect();
     let records = slots.iter().map(|&slot| table.record(slot));
     let alike = records.clone().zip(records.skip(1)).all(|(one, next)| one == next);
-    let key = slots.first().map_or(0, |&slot| table.key(slot));
+    let key = slots.first().map_or(Key::from(0), |&slot| key_in(table, slot));
     let alike = if alike { "equal records" } else { "records that differ" };
-    format!("{} stands in {} slots with {alike}: {}", key_words(key), slots.len(), places.join(", "))
+    format!("{key} stands in {} slots with {alike}: {}", slots.len(), places.join(", "))
 }

@@ -4,7 +4,7 @@ use std::fs::File;
 use std::io::{self, Read};
 use std::path::Path;
 
-use ragansils::words_of;
+use ragansils::{length_of_plain_file, words_of};
 use ragansils_model::table_words;
 
 pub const BYTES_PER_WORD: u64 = 8;
@@ -40,14 +40,11 @@ fn read_still(mut read_once: impl FnMut() -> io::Result<Content>) -> io::Result<
 
 fn read_once(path: &Path) -> io::Result<Content> {
     let file = File::open(path)?;
-    let metadata = file.metadata()?;
-    if !metadata.is_file() {
-        return Err(io::Error::new(io::ErrorKind::InvalidInput, "not a plain file"));
-    }
+    let length = length_of_plain_file(&file)?;
     let largest = table_lengths().map(|(_, bytes)| bytes).max().unwrap_or(0);
     let mut bytes = vec![];
     file.take(largest).read_to_end(&mut bytes)?;
-    Ok(Content { length: metadata.len(), words: words_of(&bytes), changing: false })
+    Ok(Content { length, words: words_of(&bytes), changing: false })
 }
 
 /// Every capacity exponent with the bytes of its table.

@@ -4,7 +4,7 @@ use ragansils::{calls, Key, Lookup, Refusal};
 use ragansils_model::{Slot, Table};
 
 use crate::buckets::{picture, slot_lines, token_words, MARKED};
-use crate::faults::{key_words, slot_words};
+use crate::faults::slot_words;
 use crate::file::{Content, BYTES_PER_WORD};
 use crate::header;
 use crate::places::{places, Place};
@@ -24,7 +24,7 @@ pub fn report(name: &str, content: &Content, key: Key) -> (String, Verdict) {
     let mut text = Text::of_file(name, content);
     let table = Table::read(&content.words).ok().filter(|_| header::faults(content).is_empty());
     let tag = table.filter(tags::are_kept).map(|table| tag_line(table.tag_of(key.word())));
-    text.part("key", std::iter::once(key_words(key.word())).chain(tag).collect());
+    text.part("key", std::iter::once(key.to_string()).chain(tag).collect());
     let verdict = match table {
         Some(table) => search_parts(&mut text, &table, content, key),
         None => no_table(&mut text, content),

@@ -27,12 +27,12 @@ mod report;
 mod tags;
 mod text;
 
-use std::io::Write;
 use std::path::Path;
 use std::process::ExitCode;
 
 use arguments::Asked;
 use file::Content;
+use ragansils::program::{Program, DONE, FAILED};
 
 const USAGE: &str = "\
 usage: ragansils-inspect FILE
@@ -48,14 +48,12 @@ exit status: 0 the table is sound;             with --key: the key was found
              5                                 with --key: the key is absent
 ";
 
-const DONE: u8 = 0;
-const FAILED: u8 = 1;
-const WRONG_USAGE: u8 = 2;
+const PROGRAM: Program = Program { name: "ragansils-inspect", usage: USAGE };
 
 fn main() -> ExitCode {
     let arguments: Vec<_> = std::env::args_os().skip(1).collect();
     match arguments::read(&arguments) {
-        Ok(Asked::Help) => say(USAGE, DONE),
+        Ok(Asked::Help) => PROGRAM.say(USAGE, DONE),
         Ok(Asked::Table(path)) => inspect(&path, |name, content| {
             let (text, verdict) = report::report(name, content);
             (text, status_of_table(verdict))
@@ -64,8 +62,7 @@ fn main() -> ExitCode {
             let (text, verdict) = key_report::report(name, content, key);
             (text, status_of_key(verdict))
         }),
-        Err(None) => complain(USAGE, WRONG_USAGE),
-        Err(Some(what)) => complain(&format!("ragansils-inspect: {what}\n{USAGE}"), WRONG_USAGE),
+        Err(what) => PROGRAM.refuse_arguments(what),
     }
 }
 
@@ -91,23 +88,8 @@ fn inspect(path: &Path, tell: impl FnOnce(&str, &Content) -> (String, u8)) -> Ex
     match file::read(path) {
         Ok(content) => {
             let (text, status) = tell(&path.display().to_string(), &content);
-            say(&text, status)
+            PROGRAM.say(&text, status)
         }
-        Err(error) => complain(&format!("ragansils-inspect: {}: {error}\n", path.display()), FAILED),
+        Err(error) => PROGRAM.complain(format_args!("{}: {error}", path.display()), FAILED),
     }
-}
-
-/// Writes to standard output; a reader that went away is no reason to panic.
-fn say(text: &str, status: u8) -> ExitCode {
-    let mut output = std::io::stdout().lock();
-    match output.write_all(text.as_bytes()).and_then(|()| output.flush()) {
-        Ok(()) => ExitCode::from(status),
-        Err(error) => complain(&format!("ragansils-inspect: standard output: {error}\n"), FAILED),
-    }
-}
-
-fn complain(text: &str, status: u8) -> ExitCode {
-    // Where standard error fails too, the status is all that is left to tell.
-    let _ = std::io::stderr().write_all(text.as_bytes());
-    ExitCode::from(status)
 }

@@ -3,7 +3,7 @@
 use ragansils::{Store, StoreList};
 use ragansils_model::Table;
 
-use crate::faults::{key_words, slot_words};
+use crate::faults::{key_in, slot_words};
 
 /// The stores in words, then each as it is listed.
 pub fn lines(table: &Table, list: &StoreList) -> Vec<String> {
@@ -26,7 +26,7 @@ fn clearing(table: &Table, store: Store) -> String {
         items.iter().find(|slot| slot.token_word() == store.index && store.value & slot.token_bit() == 0);
     match goes {
         Some(&slot) => {
-            let key = key_words(table.key(slot));
+            let key = key_in(table, slot);
             format!("would clear the later of two equal copies of {key}: {}", slot_words(table, slot))
         }
         None => "would clear a slot".to_string(),
@@ -40,7 +40,7 @@ fn rewriting(table: &Table, function: Store, place: Store) -> String {
     match items.iter().find(|slot| slot.function_word() == function.index) {
         Some(&slot) => format!(
             "would write function {function_value} and place {place_value} of {} again, in {}, and clear the update flag",
-            key_words(table.key(slot)),
+            key_in(table, slot),
             slot_words(table, slot)
         ),
         None => format!("would write function {function_value} and place {place_value} again"),

@@ -16,7 +16,8 @@
 //! - [`Table`]: a table that makes its own stores, grows and shrinks in small parts ([`Part`], by hand [`Step`]; [`Phase`] tells which is
 //!   under way), tells the inlined frames at an address ([`Frames`]) and is converted to its other form ([`Table::convert`]);
 //! - [`MappedFile`]: words in a file, made by [`NewFile`]; [`ReadOnlyFile`], and [`words_of`] and [`bytes_of`], for a file that is only
-//!   read.
+//!   read;
+//! - [`program`]: for programs that a user calls.
 //!
 //! ```
 //! use ragansils::{Creation, Key, MappedFile, OrdinaryMemory, Record, Table};
@@ -49,6 +50,7 @@ mod frames;
 mod mapped;
 mod phase;
 mod position;
+pub mod program;
 pub mod raw;
 mod refusal;
 mod resizing;
