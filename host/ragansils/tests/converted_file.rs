@@ -147,11 +147,12 @@ fn a_new_file_can_be_looked_at_while_it_is_written() {
 
     let mut new = NewFile::make(folder("looked-at").join("positions"), WORDS).unwrap();
     assert!(new.as_ref().iter().all(|&word| word == 0));
-    let handle = new.handle().unwrap();
+    let reader = new.reader().unwrap();
     new.as_mut()[35] = 7;
     let mut word = [0; 8];
-    handle.read_exact_at(&mut word, 8 * 35).unwrap();
+    reader.read_exact_at(&mut word, 8 * 35).unwrap();
     assert_eq!(u64::from_ne_bytes(word), 7);
+    assert!(reader.write_all_at(&word, 0).is_err(), "it is for reading only");
 }
 
 #[test]

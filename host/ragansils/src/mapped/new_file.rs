@@ -66,20 +66,25 @@ impl NewFile {
         Ok(NewFile { mapped, unfinished, path, folder })
     }
 
-    /// Another handle of the file, by which a thread can look at it while its words are written.
-    pub fn handle(&self) -> io::Result<File> {
-        self.mapped.file().try_clone()
+    /// Opens the file once more, for reading only, so that a thread can look at it while its words are written. To read what was not written
+    /// yet makes the writing slower.
+    pub fn reader(&self) -> io::Result<File> {
+        File::open(&self.unfinished.0)
     }
 
-    /// Writes the words to the disk, waits for it, and gives the file its name. A file that has the name by now is not replaced.
+    /// Writes the words to the disk, waits for it, and gives the file its name. A file that has the name by now is not replaced. With an
+    /// error no file is left.
     pub fn link(self) -> Result<MappedFile, FileError> {
         let NewFile { mapped, unfinished, path, folder } = self;
         mapped.sync()?;
         mapped.file().sync_all()?;
         // Unlike a renaming, a link does not replace a file.
-        fs::hard_link(&unfinished.0, path)?;
+        fs::hard_link(&unfinished.0, &path)?;
         drop(unfinished);
-        folder.sync_all()?;
+        folder.sync_all().map_err(|error| {
+            let _ = fs::remove_file(&path);
+            error
+        })?;
         Ok(mapped)
     }
 }
