@@ -34,7 +34,7 @@ impl Sample {
     /// About how many percent of so many items stand in the file; nothing where none was seen.
     ///
     /// Creation zeroes all words before it writes the header, and only then the sample is looked at. Where the system has to make up what was
-    /// not written yet, it does so in small pages, and the conversion takes a third longer.
+    /// not written yet, it does so in small pages, and to zero these takes several times as long.
     pub fn percent(&self, file: &File, items: u64) -> io::Result<Option<u64>> {
         if word_at(file, FORM)? == 0 {
             return Ok(None);
