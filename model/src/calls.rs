@@ -1,4 +1,4 @@
-//! The fourteen calls over raw words. A changing call only reads the table and
+//! The fourteen calls on one table, over raw words. A changing call only reads the table and
 //! lists its stores; `make` makes them.
 
 use crate::form::Form;

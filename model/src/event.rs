@@ -1,6 +1,8 @@
 //! The changing calls and recovery, as values.
 
 use crate::calls;
+use crate::layout::LEAST_LIST_WORDS;
+use crate::refusal::SUCCESS;
 
 /// The bucket that a step from a start tells is answered by the call alone, not by its event.
 #[derive(Clone, Copy, Debug, PartialEq, Eq)]
@@ -36,5 +38,22 @@ impl Event {
             Event::End => calls::end(table, list),
             Event::Recover => calls::recover(table, list),
         }
+    }
+
+    /// Lists the event's stores and makes so many of them at most. Answers the number, then the stores listed and made.
+    pub(crate) fn perform(self, most_made: u64, table: &mut [u64]) -> (u64, [u64; 2]) {
+        let mut list = [0; LEAST_LIST_WORDS];
+        let (number, stores) = self.list_stores(table, &mut list);
+        let kept = stores.min(most_made);
+        // The call's own stores always fit its own table.
+        let made = calls::make(table, &list, kept);
+        debug_assert_eq!(made, SUCCESS);
+        (number, [stores, kept])
+    }
+
+    /// Makes all stores of the event; answers the number.
+    pub(crate) fn perform_whole(self, table: &mut [u64]) -> u64 {
+        let (number, _stores) = self.perform(u64::MAX, table);
+        number
     }
 }

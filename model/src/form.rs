@@ -1,5 +1,5 @@
 //! The form of a table, told by word 0. It decides two things and nothing else: what a key hashes to (`hashing`) and
-//! what a token word is (`token`).
+//! what a token word is (`token`). A conversion only asks which form is the other one.
 
 #[derive(Clone, Copy, Debug, PartialEq, Eq)]
 pub enum Form {
@@ -19,5 +19,13 @@ impl Form {
 
     pub fn word(self) -> u64 {
         self as u64
+    }
+
+    /// The form that a table of this one is converted to.
+    pub fn other(self) -> Form {
+        match self {
+            Form::One => Form::Two,
+            Form::Two => Form::One,
+        }
     }
 }

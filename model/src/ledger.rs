@@ -6,8 +6,9 @@ use std::io::{self, BufRead, Write};
 use crate::calls;
 use crate::event::Event;
 use crate::refusal::SUCCESS;
-use crate::script_events::{op_of, perform, perform_change, read_request, read_table, Op};
-use crate::script_lines::{number_of, Line, Lines, Stop, LONGEST_LEDGER_LINE};
+use crate::script_events::{op_of, perform, read_made_table, read_request, Op, LARGEST_PROGRAM_CAPACITY};
+use crate::script_lines::{number_of, Lines, LONGEST_LEDGER_LINE};
+use crate::script_stop::{end_output, Stop};
 
 /// "The first 512 different functions in input order are counted".
 pub const MOST_COUNTED_FUNCTIONS: usize = 512;
@@ -16,17 +17,11 @@ pub const MOST_COUNTED_FUNCTIONS: usize = 512;
 /// bad line anywhere leaves nothing else to tell.
 pub fn run(input: impl BufRead, mut output: impl Write) -> io::Result<()> {
     let mut lines = Lines::new(input, LONGEST_LEDGER_LINE);
-    match read_report(&mut lines) {
-        Ok(report) => write_report(&report, &mut output)?,
-        Err(Stop::BadLine(number)) => writeln!(output, "bad={number}")?,
-        Err(Stop::Io(error)) => return Err(error),
-    }
-    output.flush()
+    let outcome = read_report(&mut lines).and_then(|report| Ok(write_report(&report, &mut output)?));
+    end_output(outcome, output)
 }
 
 enum Report {
-    /// The header was refused, with this number.
-    NotMade(u64),
     /// Recovery refused the table, with this number.
     NotRecovered(u64),
     Counted(Counts),
@@ -51,12 +46,9 @@ enum Opening {
 }
 
 fn read_report(lines: &mut Lines<impl BufRead>) -> Result<Report, Stop> {
-    let (made, mut table) = read_table(lines)?;
-    if made != SUCCESS {
-        return Ok(Report::NotMade(made));
-    }
+    let mut table = read_made_table(lines, LARGEST_PROGRAM_CAPACITY)?;
     let first_key = run_events(lines, &mut table)?;
-    let (recovered, _stores) = perform_change(Event::Recover, u64::MAX, &mut table);
+    let recovered = Event::Recover.perform_whole(&mut table);
     if recovered != SUCCESS {
         return Ok(Report::NotRecovered(recovered));
     }
@@ -65,21 +57,16 @@ fn read_report(lines: &mut Lines<impl BufRead>) -> Result<Report, Stop> {
 
 /// Runs the script's events up to the first sample, whose key it answers; none where the input ends without one.
 fn run_events(lines: &mut Lines<impl BufRead>, table: &mut [u64]) -> Result<Option<u64>, Stop> {
-    loop {
-        let opening = match lines.next_line()? {
-            Line::Missing => return Ok(None),
-            Line::Unfit => None,
-            Line::Ended(line) => opening_of(line),
-        };
+    while let Some(opening) = lines.parsed_unless_over(opening_of)? {
         match opening {
-            Some(Opening::Event(op)) => {
+            Opening::Event(op) => {
                 // "Script answers are not printed."
                 let _answer = perform(read_request(op, lines)?, table);
             }
-            Some(Opening::Sample { key }) => return Ok(Some(key)),
-            None => return Err(lines.bad_line()),
+            Opening::Sample { key } => return Ok(Some(key)),
         }
     }
+    Ok(None)
 }
 
 /// None for a bad line. A line that starts with `sample=` and has no good number is bad, wherever it stands.
@@ -127,7 +114,6 @@ impl Counts {
 
 fn write_report(report: &Report, output: &mut impl Write) -> io::Result<()> {
     match report {
-        Report::NotMade(number) => writeln!(output, "made={number}"),
         Report::NotRecovered(number) => writeln!(output, "answer={number}"),
         Report::Counted(counts) => write_counts(counts, output),
     }

@@ -1,4 +1,4 @@
-//! Which of the three kinds recovery accepts a table is, if any.
+//! Which of the three kinds recovery accepts a table is, if any. The first of them is what a conversion asks for.
 
 use std::collections::BTreeMap;
 
@@ -26,6 +26,12 @@ pub fn judge(table: &Table) -> Option<Kind> {
         (1, []) => update_target(table).map(Kind::Flagged),
         _ => None,
     }
+}
+
+/// "Sound: good header; flag 0; every token word at most 15, and 0 in levels not in use; each taken slot in a place of
+/// its key; no key in two taken slots." Request g) asks for the whole token word.
+pub fn is_sound(table: &Table) -> bool {
+    judge(table) == Some(Kind::Sound)
 }
 
 /// The buckets whose whole token word is not what their taken slots and keys say, or not 0 in a level not in use. In

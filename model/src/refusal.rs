@@ -1,4 +1,5 @@
-//! The refusal numbers of document 01, and of document 02: 15 and 16 of request a), 17 of request f).
+//! The refusal numbers of document 01, and of document 02: 15 and 16 of request a), 17 of request f). Request h) has none
+//! of its own: a conversion gives 1, 6, 7, 12 and 13.
 
 /// The number that stands for "not refused".
 pub const SUCCESS: u64 = 0;
@@ -17,7 +18,9 @@ pub enum Refusal {
     AtCapacity = 9,
     InterimNotEmpty = 10,
     InterimEmpty = 11,
+    /// Recovery gives it for what is none of its three kinds, a conversion for every table that is not sound.
     NotRecoverable = 12,
+    /// A conversion gives it where the second table cannot be created, as its length is another.
     BadCreation = 13,
     BadStores = 14,
     ShortRecords = 15,

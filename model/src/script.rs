@@ -3,8 +3,9 @@
 use std::io::{self, BufRead, Write};
 
 use crate::refusal::SUCCESS;
-use crate::script_events::{op_of, perform, read_request, read_table, Answer, Request};
-use crate::script_lines::{Line, Lines, Stop, LONGEST_LINE};
+use crate::script_events::{next_request, perform, read_table, Answer, LARGEST_PROGRAM_CAPACITY};
+use crate::script_lines::{Lines, LONGEST_LINE};
+use crate::script_stop::{end_output, Stop};
 
 /// What the words of a query are called, in the order in which the call answers them.
 const QUERY_NAMES: [&str; 5] = ["fn", "at", "probes", "word", "level"];
@@ -12,16 +13,12 @@ const QUERY_NAMES: [&str; 5] = ["fn", "at", "probes", "word", "level"];
 /// Runs a script. Answers are written as they come, so they stay when a bad line stops the run.
 pub fn run<R: BufRead, W: Write>(input: R, mut output: W) -> io::Result<()> {
     let mut lines = Lines::new(input, LONGEST_LINE);
-    match run_lines(&mut lines, &mut output) {
-        Ok(()) => {}
-        Err(Stop::BadLine(number)) => writeln!(output, "bad={number}")?,
-        Err(Stop::Io(error)) => return Err(error),
-    }
-    output.flush()
+    let outcome = run_lines(&mut lines, &mut output);
+    end_output(outcome, output)
 }
 
 fn run_lines(lines: &mut Lines<impl BufRead>, output: &mut impl Write) -> Result<(), Stop> {
-    let (made, mut table) = read_table(lines)?;
+    let (made, mut table) = read_table(lines, LARGEST_PROGRAM_CAPACITY)?;
     writeln!(output, "made={made}")?;
     let mut events = 0u64;
     if made == SUCCESS {
@@ -32,19 +29,6 @@ fn run_lines(lines: &mut Lines<impl BufRead>, output: &mut impl Write) -> Result
     }
     writeln!(output, "events={events}")?;
     Ok(())
-}
-
-/// The next event with all its lines; none where the input ends after whole events.
-fn next_request(lines: &mut Lines<impl BufRead>) -> Result<Option<Request>, Stop> {
-    let op = match lines.next_line()? {
-        Line::Missing => return Ok(None),
-        Line::Unfit => None,
-        Line::Ended(line) => op_of(line),
-    };
-    match op {
-        Some(op) => read_request(op, lines).map(Some),
-        None => Err(lines.bad_line()),
-    }
 }
 
 fn write_answer(answer: Answer, output: &mut impl Write) -> io::Result<()> {

@@ -1,16 +1,17 @@
 //! The header and the events of a script: read from its lines and performed on its table. The script program prints
-//! their answers; the ledger only wants the table that they leave.
+//! their answers; the ledger and the convert program only want the table that they leave.
 
 use std::io::BufRead;
 
 use crate::calls;
 use crate::event::Event;
 use crate::form::Form;
-use crate::layout::{table_words, LEAST_LIST_WORDS};
+use crate::layout::table_words;
 use crate::refusal::{Refusal, SUCCESS};
-use crate::script_lines::{value_of, Line, Lines, Stop};
+use crate::script_lines::{value_of, Line, Lines};
+use crate::script_stop::Stop;
 
-/// The programs' own limit; it keeps their memory small.
+/// The limit of the script program and the ledger; it keeps their memory small.
 pub const LARGEST_PROGRAM_CAPACITY: u64 = 8;
 
 /// What an `op=` line names.
@@ -49,20 +50,29 @@ pub enum Answer {
     Change { number: u64, stores: u64, kept: Option<u64> },
 }
 
-/// Reads the header and makes its table; answers the number of the making too.
-pub fn read_table(lines: &mut Lines<impl BufRead>) -> Result<(u64, Vec<u64>), Stop> {
+/// Reads the header and makes its table; answers the number of the making too. A `cap` above the largest is refused
+/// like one that no table has.
+pub fn read_table(lines: &mut Lines<impl BufRead>, largest_cap: u64) -> Result<(u64, Vec<u64>), Stop> {
     // All four lines are read before any of them is judged as a table's.
     let cap = lines.number("cap")?;
     let top = lines.number("top")?;
     let mul1 = lines.number("mul1")?;
     let mul2 = lines.number("mul2")?;
+    if cap > largest_cap {
+        return Ok((Refusal::BadCreation.number(), vec![]));
+    }
     Ok(make_table(cap, top, mul1, mul2))
 }
 
-fn make_table(cap: u64, top: u64, mul1: u64, mul2: u64) -> (u64, Vec<u64>) {
-    if cap > LARGEST_PROGRAM_CAPACITY {
-        return (Refusal::BadCreation.number(), vec![]);
+/// The same for the programs that a refused header ends. They tell its number and nothing else.
+pub fn read_made_table(lines: &mut Lines<impl BufRead>, largest_cap: u64) -> Result<Vec<u64>, Stop> {
+    match read_table(lines, largest_cap)? {
+        (SUCCESS, table) => Ok(table),
+        (refused, _) => Err(Stop::NotMade(refused)),
     }
+}
+
+fn make_table(cap: u64, top: u64, mul1: u64, mul2: u64) -> (u64, Vec<u64>) {
     let mut table = vec![0; table_words(cap).unwrap_or(0)];
     // "scripts make form 1".
     (calls::create(&mut table, Form::One.word(), cap, top, mul1, mul2), table)
@@ -84,6 +94,14 @@ pub fn op_of(line: &[u8]) -> Option<Op> {
         b"recover" => Op::Change(Change::Recover),
         _ => return None,
     })
+}
+
+/// The next event with all its lines; none where the input ends after whole events.
+pub fn next_request(lines: &mut Lines<impl BufRead>) -> Result<Option<Request>, Stop> {
+    match lines.parsed_unless_over(op_of)? {
+        Some(op) => read_request(op, lines).map(Some),
+        None => Ok(None),
+    }
 }
 
 /// Reads the lines that follow an `op=` line.
@@ -143,19 +161,8 @@ pub fn perform(request: Request, table: &mut [u64]) -> Answer {
             Answer::Query { number, words }
         }
         Request::Change { event, cut } => {
-            let (number, [stores, kept]) = perform_change(event, cut.unwrap_or(u64::MAX), table);
+            let (number, [stores, kept]) = event.perform(cut.unwrap_or(u64::MAX), table);
             Answer::Change { number, stores, kept: cut.map(|_| kept) }
         }
     }
-}
-
-/// Lists an event's stores and makes so many of them at most. Answers the number, then the stores listed and made.
-pub fn perform_change(event: Event, most_made: u64, table: &mut [u64]) -> (u64, [u64; 2]) {
-    let mut list = [0; LEAST_LIST_WORDS];
-    let (number, stores) = event.list_stores(table, &mut list);
-    let kept = stores.min(most_made);
-    // The call's own stores always fit its own table.
-    let made = calls::make(table, &list, kept);
-    debug_assert_eq!(made, SUCCESS);
-    (number, [stores, kept])
 }

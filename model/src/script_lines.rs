@@ -1,26 +1,14 @@
 //! Reading the lines of a script, and of a ledger's samples, in constant memory.
 
-use std::io::{self, BufRead, Read};
+use std::io::{BufRead, Read};
+
+use crate::script_stop::Stop;
 
 /// The bytes of the longest good line of a script: `after=`, twenty digits, a newline.
 pub const LONGEST_LINE: usize = 27;
 
 /// The bytes of the longest good line of a ledger: `sample=`, twenty digits, a newline.
 pub const LONGEST_LEDGER_LINE: usize = 28;
-
-/// Why a script ends before its time.
-#[derive(Debug)]
-pub enum Stop {
-    /// The number of the first bad line.
-    BadLine(u64),
-    Io(io::Error),
-}
-
-impl From<io::Error> for Stop {
-    fn from(error: io::Error) -> Stop {
-        Stop::Io(error)
-    }
-}
 
 pub enum Line<'a> {
     /// An ended line, without its newline.
@@ -66,13 +54,21 @@ impl<R: BufRead> Lines<R> {
 
     /// The next line must be `name=` and a number; none where the input is over.
     pub fn number_unless_over(&mut self, name: &str) -> Result<Option<u64>, Stop> {
-        let number = match self.next_line()? {
+        self.parsed_unless_over(|line| number_of(line, name))
+    }
+
+    /// What `parse` makes of the next line, which is bad where it makes nothing; none where the input is over.
+    pub fn parsed_unless_over<T>(
+        &mut self,
+        parse: impl FnOnce(&[u8]) -> Option<T>,
+    ) -> Result<Option<T>, Stop> {
+        let parsed = match self.next_line()? {
             Line::Missing => return Ok(None),
-            Line::Ended(line) => number_of(line, name),
+            Line::Ended(line) => parse(line),
             Line::Unfit => None,
         };
-        match number {
-            Some(number) => Ok(Some(number)),
+        match parsed {
+            Some(parsed) => Ok(Some(parsed)),
             None => Err(self.bad_line()),
         }
     }
@@ -83,7 +79,7 @@ impl<R: BufRead> Lines<R> {
     }
 
     /// The line read last is the bad one.
-    pub fn bad_line(&self) -> Stop {
+    fn bad_line(&self) -> Stop {
         Stop::BadLine(self.lines_read)
     }
 }

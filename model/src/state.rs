@@ -87,8 +87,8 @@ impl State {
         State::at_rest(self.k)
     }
 
-    /// "a table in phase 1 or 2 refuses both begins with 7, tested first".
-    fn refuse_resizing(self) -> Result<(), Refusal> {
+    /// "a table in phase 1 or 2 refuses both begins with 7, tested first". A conversion tests it after soundness.
+    pub(crate) fn refuse_resizing(self) -> Result<(), Refusal> {
         match self.phase {
             Phase::AtRest => Ok(()),
             Phase::Growing | Phase::Shrinking => Err(Refusal::AlreadyResizing),

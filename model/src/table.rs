@@ -56,6 +56,11 @@ impl<'a> Table<'a> {
         self.form.word()
     }
 
+    /// 2 where the form is 1, and 1 where it is 2.
+    pub fn other_form(&self) -> u64 {
+        self.form.other().word()
+    }
+
     pub fn capacity(&self) -> u64 {
         self.words[word::CAPACITY]
     }

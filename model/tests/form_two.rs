@@ -37,11 +37,6 @@ fn marked_with(keys: impl IntoIterator<Item = u64>) -> Story {
     story
 }
 
-fn assert_sound(story: &Story) {
-    assert_eq!(story.list(Event::Recover), (SUCCESS, vec![]));
-    assert!(by_hand::all_tokens_are_meant(&story.table));
-}
-
 // ---- The rows of the issue.
 
 #[test]
@@ -58,24 +53,24 @@ fn insert_update_and_delete_of_one_key() {
     // From slot 0 to slot 1: 2 + 5·2^16 = 327682.
     assert_eq!(story.whole(update_event(FIVE, 30, 40)), [(39, FIVE), (40, 30), (41, 40), (35, 327682)]);
     assert_eq!(story.query(FIVE), (0, [30, 40, 1, 39, 0]));
-    assert_sound(&story);
+    story.assert_sound();
     // Token and tag go in one store.
     assert_eq!(story.whole(Event::Delete { key: FIVE }), [(35, 0)]);
     assert_eq!(story.query(FIVE), (5, [0, 0, 2, 0, 0]));
-    assert_sound(&story);
+    story.assert_sound();
 }
 
 #[test]
 fn four_keys_fill_a_bucket() {
     let mut story = marked_with(FOUR_KEYS);
     assert_eq!(story.table[35], TOKEN_OF_FOUR);
-    assert_sound(&story);
+    story.assert_sound();
     // Slot 1 has 2 + 7·2^16 = 458754 of this, and 47396095247 − 458754 = 47395636493.
     assert_eq!(story.whole(Event::Delete { key: FOUR_KEYS[1] }), [(35, 47395636493)]);
     // Slot 2 has 4 + 9·2^24 = 150994948; slot 1 gets 2 + 9·2^16 = 589826. 47395636493 − 150994948 + 589826 = 47245231371.
     let key = FOUR_KEYS[2];
     assert_eq!(story.whole(update_event(key, 1, 2)), [(39, key), (40, 1), (41, 2), (35, 47245231371)]);
-    assert_sound(&story);
+    story.assert_sound();
 }
 
 /// 12968787970 = 3·2^32 + 5·2^24 + 2. With the upper half u and the lower half l the product by 2^32 + 1 is
@@ -92,7 +87,7 @@ fn the_upper_half_of_a_key_counts() {
     let mut story = Story::marked_in(2);
     assert_eq!(story.whole(insert_event(key, 10, 20)), [(23, key), (24, 10), (25, 20), (22, 1281)]);
     assert_eq!(story.query(key), (0, [10, 20, 1, 23, 0]));
-    assert_sound(&story);
+    story.assert_sound();
 }
 
 /// 11400714819323198485 = 0x9E3779B97F4A7C15 and 14029467366897019727 = 0xC2B2AE3D27D4EB4F.
@@ -105,7 +100,7 @@ fn other_multipliers() {
     // tag is FE = 254, which a tag modulo 128 would not be. 1 + 254·2^8 = 65025. By the second multiplier the tags would
     // be 27 and 4F.
     assert_eq!(story.whole(insert_event(2, 10, 20)), [(23, 2), (24, 10), (25, 20), (22, 65025)]);
-    assert_sound(&story);
+    story.assert_sound();
 }
 
 // ---- More rows.
@@ -116,7 +111,7 @@ fn an_update_in_a_full_bucket_stores_no_token() {
     let pairs = story.whole(update_event(FIVE, 30, 40));
     assert_eq!(pairs, [(6, 36), (7, 30), (8, 40), (5, 1), (37, 30), (38, 40), (5, 0)]);
     assert_eq!(story.table[35], TOKEN_OF_FOUR);
-    assert_sound(&story);
+    story.assert_sound();
 }
 
 /// E9 with tags. Even keys 2, 4, 6 stand in slots 1 to 3 of bucket 1, odd ones fill bucket 2, and the bottom holds 8, 9,
@@ -146,7 +141,7 @@ fn an_insert_with_a_move() {
     assert_eq!(pairs[4..], [(9, MOVED_OUT), (10, new), (11, 7), (12, 8), (9, TAKEN_AGAIN)]);
     assert_eq!(story.query(moved), (0, [moved + 100, moved + 200, 1, 23, 0]));
     assert_eq!(story.query(new), (0, [7, 8, 2, 10, 1]));
-    assert_sound(&story);
+    story.assert_sound();
 }
 
 /// E10 with tags: the bottom, which becomes the interim level, holds 9, 11, 13, 15.
@@ -167,7 +162,7 @@ fn a_growth_step() {
     // 9 modulo 4 is 1: bucket 4, with its token at word 61. Its tag is 10: 1 + 10·2^8 = 2561.
     let stores = [(62, key), (63, key + 100), (64, key + 200), (61, 2561), (9, STEPPED_OUT)];
     assert_eq!(story.whole(Event::Step), stores);
-    assert_sound(&story);
+    story.assert_sound();
 }
 
 /// One place for each key. At rest with k = 2 the key of 5 stands in bucket 4 of the top, its token at word 61; after the
@@ -178,12 +173,12 @@ fn a_step_of_a_shrink() {
     let mut story = Story::in_form(2, 2, 2, MARKED_1, MARKED_1);
     assert_eq!(story.whole(insert_event(key, 10, 20)), [(62, key), (63, 10), (64, 20), (61, 1537)]);
     assert_eq!(story.whole(Event::Shrink), [(4, 513)]);
-    assert_sound(&story);
+    story.assert_sound();
     assert_eq!(story.query(key), (0, [10, 20, 3, 62, 2]));
     assert_eq!(story.whole(Event::Step), [(36, key), (37, 10), (38, 20), (35, 1537), (61, 0)]);
     assert_eq!(story.whole(Event::End), [(4, 1)]);
     assert_eq!(story.query(key), (0, [10, 20, 1, 36, 0]));
-    assert_sound(&story);
+    story.assert_sound();
 }
 
 #[test]
@@ -193,7 +188,7 @@ fn recovery_of_a_flag() {
     assert_eq!(story.query(FIVE), (3, [0; 5]));
     assert_eq!(story.whole(Event::Recover), [(37, 30), (38, 40), (5, 0)]);
     assert_eq!(story.query(FIVE), (0, [30, 40, 1, 36, 0]));
-    assert_sound(&story);
+    story.assert_sound();
 }
 
 #[test]
@@ -202,12 +197,12 @@ fn recovery_of_a_copy() {
     let mut story = before_the_move();
     story.cut(insert_event(with_next_tag(15), 7, 8), 4);
     assert_eq!(story.whole(Event::Recover), [(9, MOVED_OUT)]);
-    assert_sound(&story);
+    story.assert_sound();
     // The growth step, cut before its interim slot is hidden.
     let mut story = growing();
     story.cut(Event::Step, 4);
     assert_eq!(story.whole(Event::Recover), [(9, STEPPED_OUT)]);
-    assert_sound(&story);
+    story.assert_sound();
 }
 
 /// Tag 0 is a tag like any other: a free slot has the same bits.
@@ -287,10 +282,7 @@ fn only_forms_1_and_2_are_made_and_taken() {
 /// "scripts make form 1": the key that form 2 has at word 23 stands at 36.
 #[test]
 fn scripts_make_form_1() {
-    let header = "cap=2\ntop=1\nmul1=4294967297\nmul2=12884901889\n";
-    let events = "op=insert\nkey=12968787970\nfn=10\nat=20\nop=query\nkey=12968787970\n";
-    let mut output = vec![];
-    run_script(format!("{header}{events}").as_bytes(), &mut output).unwrap();
-    let told = String::from_utf8(output).unwrap();
-    assert!(told.contains("fn=10\nat=20\nprobes=1\nword=36\nlevel=0\n"), "{told}");
+    let events = "op=insert,key=12968787970,fn=10,at=20,op=query,key=12968787970,";
+    let told = scripts::SCRIPT.after_header(events);
+    assert!(told.contains("fn=10,at=20,probes=1,word=36,level=0,"), "{told}");
 }

@@ -313,8 +313,7 @@ fn recovery_refuses_all_other_upper_bits() {
     for round in 0..300 {
         let (way, c) = (BOTH_WAYS[round % 2], 2 + round as u64 % 3);
         let sound = crowded_table_in(2, way, c, round % 3 == 0, &mut garbage);
-        assert_eq!(sound.list(Event::Recover), (SUCCESS, vec![]));
-        assert!(by_hand::all_tokens_are_meant(&sound.table));
+        sound.assert_sound();
         for bit in (4..64).map(|bit| 1 << bit).chain([garbage() << 4 | 16]) {
             let mut damaged = Story { table: sound.table.clone() };
             damaged.table[9 + 13 * (garbage() as usize % ((2 << c) - 1))] ^= bit;

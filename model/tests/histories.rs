@@ -129,8 +129,7 @@ impl History {
 
     /// The table is sound, and queries answer as the map does.
     fn assert_answers(&self) {
-        assert_eq!(self.story.list(Event::Recover), (SUCCESS, vec![]));
-        assert!(by_hand::all_tokens_are_meant(&self.story.table));
+        self.story.assert_sound();
         let most_probes = [4, 6, 6][phase_of(&self.story.table)];
         for key in &self.keys {
             let (number, [function, place, probes, ..]) = self.story.query(*key);

@@ -1,33 +1,24 @@
 //! The sample ledger, reading by reading.
 
 mod common;
-use common::{garbage_words, MARKED_1, MARKED_2};
-use ragansils_model::{run_ledger, run_script, LONGEST_LEDGER_LINE, MOST_COUNTED_FUNCTIONS};
+use common::scripts::{insert_lines as insert, *};
+use common::{garbage_words, key_with_halves, MARKED_1, MARKED_2};
+use ragansils_model::{LONGEST_LEDGER_LINE, MOST_COUNTED_FUNCTIONS};
 use std::collections::BTreeMap;
-use std::io::{self, BufRead, BufReader, Read};
+use std::io::{self, BufReader, Read};
 
-/// The table of the marked examples, four lines: a key has one place in the top, its last bit, and one in the bottom.
-const HEADER: &str = "cap=2\ntop=1\nmul1=4294967297\nmul2=12884901889\n";
 const ZEROS: &str = "samples=0,none=0,other=0,buckets=0,";
 
 fn run(input: impl AsRef<[u8]>) -> String {
-    let mut output = Vec::new();
-    run_ledger(input.as_ref(), &mut output).unwrap();
-    String::from_utf8(output).unwrap()
+    LEDGER.run(input)
 }
 
-/// Lines are joined by commas here, as in document 01.
 fn commas(input: &str) -> String {
-    run(input.replace(',', "\n")).replace('\n', ",")
+    LEDGER.commas(input)
 }
 
 fn after_header(lines: &str) -> String {
-    commas(&format!("{HEADER}{lines}"))
-}
-
-/// Four lines.
-fn insert(key: u64, function: u64) -> String {
-    format!("op=insert,key={key},fn={function},at=0,")
+    LEDGER.after_header(lines)
 }
 
 fn samples(keys: impl IntoIterator<Item = u64>) -> String {
@@ -234,41 +225,18 @@ fn repeated_functions_and_absent_keys_take_no_room() {
 
 #[test]
 fn bad_header_lines() {
-    assert_eq!(run(""), "bad=1\n");
-    let good = ["cap=2", "top=1", "mul1=1", "mul2=1"];
-    for number in 1..=4 {
-        let before: String = good[..number - 1].iter().map(|line| format!("{line}\n")).collect();
-        let name = good[number - 1].split_once('=').unwrap().0;
-        // Missing, torn twice, wrong, a sample, an event, an empty line.
-        for bad in ["", name, good[number - 1], "cup=1\n", "sample=1\n", "op=begin\n", "\n"] {
-            assert_eq!(run(format!("{before}{bad}")), format!("bad={number}\n"), "{bad:?}");
-        }
-        // A bad number, and behind it nothing is looked at.
-        assert_eq!(run(format!("{before}{name}=01\nsample=1\nnonsense\n")), format!("bad={number}\n"));
+    for (input, number) in bad_headers() {
+        assert_eq!(run(&input), format!("bad={number}\n"), "{input:?}");
     }
 }
 
 #[test]
 fn bad_script_lines() {
-    // The first event is good and has four lines, 5 to 8.
-    for bad in [
-        "op=nonsense,",
-        "op=begin\r,",
-        "key=1,",
-        ",",
-        "cap=2,",
-        "op=",
-        "op=begin",
-        "s,",
-        "samples=1,",
-        "Sample=1,",
-    ] {
-        assert_eq!(after_header(&(insert(1, 10) + bad)), "bad=9,", "{bad:?}");
+    for (bad, number) in BAD_BEHIND_HEADER {
+        assert_eq!(after_header(bad), format!("bad={number},"), "{bad:?}");
+        // Behind a good event of four lines too.
+        assert_eq!(after_header(&(insert(1, 10) + bad)), format!("bad={},", number + 4), "{bad:?}");
     }
-    assert_eq!(after_header(&(insert(1, 10) + "op=query,")), "bad=10,");
-    assert_eq!(after_header(&(insert(1, 10) + "op=query,key=1")), "bad=10,");
-    assert_eq!(after_header(&(insert(1, 10) + "op=insert,key=1,fn=2,")), "bad=12,");
-    assert_eq!(after_header(&(insert(1, 10) + "op=insert,key=1,fn=2,at=3")), "bad=12,");
     assert_eq!(after_header("op=insert,key=1,fn=18446744073709551616,at=3,sample=1,"), "bad=7,");
 }
 
@@ -356,9 +324,7 @@ fn a_refused_header_is_told_alone() {
     let largest_cap = format!("{},1,1,1", u64::MAX);
     for header in ["9,1,1,1", "20,1,1,1", "0,0,1,1", "2,0,1,1", "2,3,1,1", "2,1,2,1", "2,1,1,0", &largest_cap]
     {
-        let names = ["cap", "top", "mul1", "mul2"];
-        let lines = names.iter().zip(header.split(',')).map(|(name, number)| format!("{name}={number},"));
-        let header: String = lines.collect();
+        let header = header_lines(header);
         // No line behind it is read, good or bad.
         for tail in ["", "sample=1,", "op=begin,sample=1,", "nonsense"] {
             assert_eq!(commas(&format!("{header}{tail}")), "made=13,", "{header}{tail}");
@@ -406,14 +372,6 @@ fn a_cut_update_beside_a_free_slot_and_a_cut_insert() {
         };
         assert_eq!(answer, report, "{after}");
     }
-}
-
-/// With these multipliers a key's first place is its upper half, and its second place the sum of its halves, so that
-/// a test may choose both.
-const CHOSEN_PLACES: &str = "mul1=1,mul2=4294967297,";
-
-fn key_with_halves(upper: u64, lower: u64) -> u64 {
-    (upper << 32) + lower
 }
 
 #[test]
@@ -532,48 +490,28 @@ fn other_tables_that_recovery_refuses() {
 
 // ---- How the input is read.
 
-/// Any reading of it fails.
-struct Unreadable;
-
-impl Read for Unreadable {
-    fn read(&mut self, _buffer: &mut [u8]) -> io::Result<usize> {
-        Err(io::Error::new(io::ErrorKind::Other, "read too far"))
-    }
-}
-
-impl BufRead for Unreadable {
-    fn fill_buf(&mut self) -> io::Result<&[u8]> {
-        Err(io::Error::new(io::ErrorKind::Other, "read too far"))
-    }
-
-    fn consume(&mut self, _bytes: usize) {}
-}
-
-fn run_before_unreadable(input: &str) -> (bool, String) {
-    let lines = input.replace(',', "\n");
-    let mut output = Vec::new();
-    let answer = run_ledger(lines.as_bytes().chain(Unreadable), &mut output);
-    (answer.is_ok(), String::from_utf8(output).unwrap())
-}
-
 #[test]
 fn nothing_is_read_behind_the_line_that_ends_it() {
-    assert_eq!(run_before_unreadable("cap=9,top=1,mul1=1,mul2=1,"), (true, "made=13\n".into()));
-    assert_eq!(run_before_unreadable(&format!("{HEADER}op=nonsense,")), (true, "bad=5\n".into()));
-    assert_eq!(run_before_unreadable(&format!("{HEADER}sample=1,sample=x,")), (true, "bad=6\n".into()));
-    assert_eq!(run_before_unreadable(&(refused_script() + "sample=0,")), (true, "answer=12\n".into()));
+    assert_eq!(LEDGER.read_before_unreadable("cap=9,top=1,mul1=1,mul2=1,"), (true, "made=13\n".into()));
+    assert_eq!(LEDGER.read_before_unreadable(&format!("{HEADER}op=nonsense,")), (true, "bad=5\n".into()));
+    assert_eq!(
+        LEDGER.read_before_unreadable(&format!("{HEADER}sample=1,sample=x,")),
+        (true, "bad=6\n".into())
+    );
+    assert_eq!(
+        LEDGER.read_before_unreadable(&(refused_script() + "sample=0,")),
+        (true, "answer=12\n".into())
+    );
     // An input that fails is no end of it: nothing is reported.
-    assert_eq!(run_before_unreadable(&format!("{HEADER}sample=1,")), (false, String::new()));
-    assert_eq!(run_before_unreadable(&refused_script()), (false, String::new()));
+    assert_eq!(LEDGER.read_before_unreadable(&format!("{HEADER}sample=1,")), (false, String::new()));
+    assert_eq!(LEDGER.read_before_unreadable(&refused_script()), (false, String::new()));
 }
 
 #[test]
 fn an_endless_line_is_bad() {
     for (start, number) in [("cap=", 1), (HEADER, 5), (&format!("{HEADER}sample=1\nsample=") as &str, 6)] {
         let endless = start.as_bytes().chain(BufReader::new(io::repeat(b'1')));
-        let mut output = Vec::new();
-        run_ledger(endless, &mut output).unwrap();
-        assert_eq!(String::from_utf8(output).unwrap(), format!("bad={number}\n"));
+        assert_eq!(LEDGER.read(endless), (true, format!("bad={number}\n")));
     }
 }
 
@@ -581,9 +519,8 @@ fn an_endless_line_is_bad() {
 fn lines_may_lie_across_small_buffers() {
     let input = format!("{HEADER}{}sample={}\nsample=1\n", insert(1, 10).replace(',', "\n"), u64::MAX);
     for size in 1..40 {
-        let mut output = Vec::new();
-        run_ledger(BufReader::with_capacity(size, input.as_bytes()), &mut output).unwrap();
-        assert_eq!(String::from_utf8(output).unwrap(), "samples=2\nnone=1\nfn10=1\nother=0\nbuckets=3\n");
+        let read = LEDGER.read(BufReader::with_capacity(size, input.as_bytes()));
+        assert_eq!(read, (true, "samples=2\nnone=1\nfn10=1\nother=0\nbuckets=3\n".into()));
     }
 }
 
@@ -595,9 +532,7 @@ const QUERY_LINES: usize = 6;
 /// What the definition says, from the answers of a script that recovers and then asks for each sample.
 fn report_by_queries(script: &str, keys: &[u64]) -> String {
     let queries: String = keys.iter().map(|key| format!("op=query,key={key},")).collect();
-    let mut output = Vec::new();
-    run_script(format!("{script}op=recover,{queries}").replace(',', "\n").as_bytes(), &mut output).unwrap();
-    let answers = String::from_utf8(output).unwrap();
+    let answers = SCRIPT.run(format!("{script}op=recover,{queries}").replace(',', "\n"));
     // `answer=` and `stores=` of the recovery, the lines of each query, and `events=`.
     let lines: Vec<&str> = answers.lines().collect();
     let tail = &lines[lines.len() - QUERY_LINES * keys.len() - 3..lines.len() - 1];

@@ -21,6 +21,12 @@ const EVENTS: [Event; 11] = [
 fn every_call_refuses_with_1(table: &[u64]) {
     assert_eq!(query(table, 1), (1, [0; 5]));
     assert_eq!(chain(table, 0, 1, &mut [UNTOUCHED; 4]), (1, 0));
+    // Also into a second table that is too short: 1 comes before 13.
+    for second_words in [table.len(), table.len() / 2] {
+        let mut second = vec![UNTOUCHED; second_words];
+        assert_eq!(convert(table, &mut second), (1, 0));
+        assert_eq!(second, vec![UNTOUCHED; second_words]);
+    }
     for event in EVENTS {
         // Also with a list that is too short: 1 comes before 2.
         for list_words in [0, 19, 20] {

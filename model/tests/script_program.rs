@@ -1,19 +1,15 @@
 //! The script program, line by line.
 
+mod common;
+use common::scripts::*;
 use ragansils_model::LONGEST_LINE;
 
-const HEADER: &str = "cap=2\ntop=1\nmul1=4294967297\nmul2=12884901889\n";
-
 fn run(script: impl AsRef<[u8]>) -> String {
-    let mut output = Vec::new();
-    ragansils_model::run_script(script.as_ref(), &mut output).unwrap();
-    String::from_utf8(output).unwrap()
+    SCRIPT.run(script)
 }
 
-/// Lines are joined by commas here, as in document 01.
 fn after_header(events: &str) -> String {
-    let script = format!("{HEADER}{}", events.replace(',', "\n"));
-    run(script).replace('\n', ",")
+    SCRIPT.after_header(events)
 }
 
 #[test]
@@ -40,11 +36,10 @@ fn word_and_level_follow_an_item_through_a_growth() {
 }
 
 #[test]
-fn header_lines() {
-    assert_eq!(run(""), "bad=1\n");
-    assert_eq!(run("cap=2"), "bad=1\n");
-    assert_eq!(run("cap=2\n"), "bad=2\n");
-    assert_eq!(run("cap=2\ntop=1\nmul1=1\nmul2=1"), "bad=4\n");
+fn header_lines_in_order() {
+    for (input, number) in bad_headers() {
+        assert_eq!(run(&input), format!("bad={number}\n"), "{input:?}");
+    }
     assert_eq!(run("top=1\ncap=2\nmul1=1\nmul2=1\n"), "bad=1\n");
     assert_eq!(run(HEADER), "made=0\nevents=0\n");
     assert_eq!(run("cap=9\ntop=01\nmul1=1\nmul2=1\n"), "bad=2\n");
@@ -56,10 +51,8 @@ fn refused_creation_reads_no_event() {
     for header in
         ["9,1,1,1", "0,0,1,1", "2,0,1,1", "2,3,1,1", "2,1,2,1", "2,1,1,0", "18446744073709551615,1,1,1"]
     {
-        let names = ["cap", "top", "mul1", "mul2"];
-        let lines = names.iter().zip(header.split(',')).map(|(name, number)| format!("{name}={number}\n"));
-        let script = lines.collect::<String>() + "nonsense";
-        assert_eq!(run(script), "made=13\nevents=0\n");
+        let script = header_lines(header) + "nonsense";
+        assert_eq!(SCRIPT.commas(&script), "made=13,events=0,");
     }
     assert_eq!(run("cap=8\ntop=8\nmul1=1\nmul2=1\n"), "made=0\nevents=0\n");
 }

@@ -3,6 +3,7 @@
 
 pub mod by_hand;
 pub mod resizing;
+pub mod scripts;
 
 use ragansils_model::*;
 
@@ -89,6 +90,11 @@ impl Story {
         query(&self.table, key)
     }
 
+    pub fn assert_sound(&self) {
+        assert_eq!(self.list(Event::Recover), (SUCCESS, vec![]));
+        assert!(by_hand::all_tokens_are_meant(&self.table));
+    }
+
     /// The number, the count and the lent words at exit; each was `UNTOUCHED` before.
     pub fn chain(&self, address: u64, depth: u64, lent_words: usize) -> (u64, u64, Vec<u64>) {
         let mut records = vec![UNTOUCHED; lent_words];
@@ -110,6 +116,12 @@ pub fn insert_event(key: u64, function: u64, place: u64) -> Event {
 
 pub fn update_event(key: u64, function: u64, place: u64) -> Event {
     Event::Update { key, function, place }
+}
+
+/// The multipliers 1 and 2^32 + 1 make of it the first place `upper` and the second place `upper + lower` in form 1, and
+/// in form 2 `upper` and `upper + (lower ^ upper)`.
+pub fn key_with_halves(upper: u64, lower: u64) -> u64 {
+    (upper << 32) + lower
 }
 
 /// Puts a taken item anywhere, fit or not.

@@ -174,10 +174,15 @@ fn crowded_shrink(mut story: Story, c: u64, mut garbage: impl FnMut() -> u64) ->
             story.whole(Event::Step);
         }
     }
+    delete_some(&mut story, &mut garbage);
+    story
+}
+
+/// Deletes about one of eight items.
+pub fn delete_some(story: &mut Story, mut garbage: impl FnMut() -> u64) {
     for key in map_of(&story.table).into_keys().filter(|_| garbage() % 8 == 0) {
         story.whole(Event::Delete { key });
     }
-    story
 }
 
 /// Inserts so many new keys, each where it finds a place.
