@@ -239,7 +239,7 @@ pub extern "C" fn ragansils_convert(table: &[u64], second: &mut [u64], key: &mut
     ensures { λ r. ⌜ ConvertsBy (now (table .entry)) (now (second .entry)) (toldWith r (now (key .exit) ∷ [])) (now (table .exit))
         (now (second .exit)) ⌝ }
 {
-    let told = conversion_words(convert(table, second));
-    *key = told.key;
-    told.number
+    let answer = conversion_words(convert(table, second));
+    *key = answer.key;
+    answer.number
 }
