@@ -165,14 +165,7 @@ fn insert_stores(
 // "So a placing is a free slot, a move of one slot to another, or nothing." The new item takes slot y, the free one or the one
 // that the move frees; "Otherwise there is no place". How many buckets the lookup looked at before it found the key absent plays no
 // part: the promise says 0.
-pub fn insert_absent(
-    t: &[u64],
-    list: &mut [u64],
-    h: Header,
-    key: u64,
-    x: Hashes,
-    r: Record,
-) -> Change
+fn insert_absent(t: &[u64], list: &mut [u64], h: Header, key: u64, x: Hashes, r: Record) -> Change
     requires { ⌜ (20 ≤ length (now list)) × Headed (now t) h × (x ≡ hashesOf h key) ⌝ }
     ensures { λ a. ⌜ Did (insertIn (now (t .entry)) h (Absent 0) key r) (now (list .entry)) a (now (list .exit)) ⌝ }
 {

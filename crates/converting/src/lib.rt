@@ -1,7 +1,8 @@
 // Document 02, request h): a sound table at rest is converted to the other form in a second lent table. The source is only read.
-use changing::insert_absent;
+use listing::list_placing;
 use making::create;
 use making::make;
+use placing::placing;
 use reading::gate::Gate;
 use reading::gate::header_gate;
 use reading::header::decode;
@@ -9,30 +10,38 @@ use reading::levels::level_count;
 use reading::levels::nth_level;
 use reading::places::hashes;
 use reading::slots::key_at;
+use reading::slots::key_word;
 use reading::slots::record_at;
 use reading::slots::token;
+use reading::slots::token_word;
 use reading::tokens::is_taken;
+use reading::tokens::show;
 use recovering::finding;
-use rules::Change;
 use rules::Conversion;
 use rules::Finding;
 use rules::Header;
 use rules::Level;
 use rules::Place;
+use rules::Placing;
 use rules::Record;
 use rules::Refusal;
 use rules::Slot;
 use words::power;
 ghost use mathlib.Core.Path.{_≡_};
 ghost use mathlib.Core.Bool.{true};
-ghost use Prim.Native.Nat.{_≤_};
+ghost use Prim.Native.Nat.{_^_, _≤_, _<_};
 ghost use lib.ListN.{length};
-ghost use Rattle.rules.specs.Words.{headerOf, GoodHeader, atRest, slotsIn, slotsOf, slotsInUse};
+ghost use Rattle.rules.specs.Forms.{tagOf};
+ghost use Rattle.rules.specs.Words.{GoodHeader, atRest, slotsIn, slotsOf, slotsInUse, tokenOf};
+ghost use Rattle.rules.specs.Placing.{placing as placingOf};
+ghost use Rattle.rules.specs.Stores.{putStores, made};
 ghost use Rattle.rules.specs.Conversions.{otherForm, freshFor};
 ghost use Rattle.rules.specs.Soundness.{SoundTable};
 ghost use Rattle.reading.specs.Gates.{Headed};
-ghost use Rattle.reading.specs.Within.{BucketWithin};
+ghost use Rattle.reading.specs.Within.{BucketWithin, SlotWithin};
+ghost use Rattle.listing.specs.Listing.{Takes};
 ghost use Rattle.converting.specs.Fillings.{itemsIn, Unsought, PutIn, MayTake, Fills, ConvertedAt, ConvertsAt};
+ghost use Rattle.converting.specs.declared.Progress.the-variants.{Going};
 ghost use Rattle.converting.specs.Promises.{Converts};
 
 // Whether every item so far has found its place, or the key of the one that has not.
@@ -59,20 +68,46 @@ fn create_fresh(second: &mut [u64], h: Header)
     create(second, other_form(h.form), h.c, state.k, h.mul1, h.mul2);
 }
 
-// An item whose key the second table has not: it need not be looked up. The pairs of its stores are made before the next item comes.
+// An item in a free slot: its three words and its token, stored at once. No cut has to be thought of in a table that is being made.
+fn put_free(second: &mut [u64], to: Header, y: Slot, key: u64, tag: u64, r: Record)
+    requires { ⌜ (length (now second) < 2 ^ 32) × SlotWithin (now second) y × (tag ≡ tagOf to key) ⌝ }
+    ensures { λ _. ⌜ now (second .exit) ≡ made (now (second .entry)) (putStores to (tokenOf (now (second .entry)) (y .bucket)) y key r) ⌝ }
+{
+    let word = token(second, y.bucket);
+    let at = key_word(y);
+    second[at] = key;
+    second[at + 1] = r.function;
+    second[at + 2] = r.place;
+    second[token_word(y.bucket)] = show(to, word, y.slot, tag);
+}
+
+// An item that takes slot y, from which another moves. There are nine stores, so they are listed, in pairs of this function's own, and made.
+fn put_by_move(second: &mut [u64], to: Header, p: Placing, y: Slot, key: u64, tag: u64, r: Record)
+    requires { ⌜ Unsought (now second) to key r × (p ≡ placingOf (now second) to key) × Takes (now second) p y × (tag ≡ tagOf to key) ⌝ }
+    ensures { λ _. ⌜ PutIn (now (second .entry)) key r Going (now (second .exit)) ⌝ }
+{
+    let mut pairs = [0u64; 20];
+    let stores = list_placing(second, &mut pairs, to, p, y, key, tag, r);
+    make(second, &pairs, stores as u64);
+}
+
+// An item whose key the second table has not: so it need not be looked up, and only its place is sought.
 fn put_item(second: &mut [u64], to: Header, key: u64, r: Record) -> Progress
     requires { ⌜ Unsought (now second) to key r ⌝ }
     ensures { λ p. ⌜ PutIn (now (second .entry)) key r p (now (second .exit)) ⌝ }
 {
-    let mut pairs = [0u64; 20];
     let x = hashes(to, key);
-    let change = insert_absent(second, &mut pairs, to, key, x, r);
-    match change {
-        Change::Refused(_) => Progress::Stuck(key),
-        Change::Listed(stores) => {
-            make(second, &pairs, stores);
+    let p = placing(second, to, key, x);
+    match p {
+        Placing::Free(y) => {
+            put_free(second, to, y, key, x.tag, r);
             Progress::Going
         }
+        Placing::Move(y, _) => {
+            put_by_move(second, to, p, y, key, x.tag, r);
+            Progress::Going
+        }
+        Placing::Nowhere => Progress::Stuck(key),
     }
 }
 
