@@ -73,7 +73,7 @@ const LEDGERS: Texts = Texts {
     names: "ledgers",
     run: ledgers::run,
     compare: ledgers::compare,
-    count: |tally| tally.ledgers.ledgers,
+    count: |tally| tally.ledgers.total,
     demand: demand_ledgers,
 };
 

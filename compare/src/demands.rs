@@ -5,6 +5,7 @@ use ragansils::Phase;
 use crate::chain::DEPTH_LIMIT;
 use crate::chain_tally::{KINDS_OF_SOUND_TABLES, MORE_KINDS_OF_OTHER_WORDS};
 use crate::layout::TAGGED;
+use crate::ledger_tally;
 use crate::phases::{possible_in_other_words, possible_in_scripts, possible_in_sound_tables, PhaseTally};
 use crate::starts::{rare_numbers, while_resizing};
 use crate::stuck_items::Way;
@@ -59,7 +60,7 @@ pub fn demand_scripts(tally: &Tally) -> Answer {
 }
 
 pub fn demand_ledgers(tally: &Tally) -> Answer {
-    let rare = tally.ledgers.rare(LEAST_OF_EACH_LEDGER);
+    let rare = tally.ledgers.rare(ledger_tally::KINDS, LEAST_OF_EACH_LEDGER);
     match rare[..] {
         [] => Ok(()),
         _ => Err(format!("ledgers seldom or never seen: {rare:?}")),

@@ -1,6 +1,6 @@
-//! What a run has seen of ledgers.
+//! What a ledger shows.
 
-use std::collections::{BTreeMap, BTreeSet};
+use std::collections::BTreeSet;
 use std::fmt::{self, Display};
 
 use ragansils::Phase;
@@ -109,29 +109,8 @@ impl Display for Kind {
     }
 }
 
-#[derive(Default)]
-pub struct LedgerTally {
-    pub kinds: BTreeMap<Kind, u64>,
-    pub ledgers: u64,
-}
-
-impl LedgerTally {
-    /// Counts a ledger by its lines and its report.
-    pub fn count(&mut self, lines: &[Vec<u8>], report: &[u8]) {
-        self.ledgers += 1;
-        for kind in kinds(lines, report) {
-            *self.kinds.entry(kind).or_default() += 1;
-        }
-    }
-
-    /// The kinds that were seen less often than this.
-    pub fn rare(&self, least: u64) -> Vec<Kind> {
-        let count = |kind: &Kind| self.kinds.get(kind).copied().unwrap_or(0);
-        KINDS.into_iter().filter(|kind| count(kind) < least).collect()
-    }
-}
-
-fn kinds(lines: &[Vec<u8>], report: &[u8]) -> Vec<Kind> {
+/// The kinds of a ledger, by its lines and its report.
+pub fn kinds(lines: &[Vec<u8>], report: &[u8]) -> Vec<Kind> {
     let report = numbers_by_name(report);
     match report.first().map(|(name, number)| (name.as_str(), *number)) {
         Some(("bad", number)) => kinds_of_bad_line(lines, number as usize - 1),
@@ -239,15 +218,5 @@ mod tests {
         assert_eq!(kinds_of("sample=1\nop=begin\n"), [Kind::BadSample, Kind::EventAmongSamples]);
         assert_eq!(kinds_of("op=cut\nafter=1\nsample=1\n"), [Kind::BadScript, Kind::SampleBehindCut]);
         assert_eq!(kinds_of("op=query\nsample=1\n"), [Kind::BadScript, Kind::SampleForNumber]);
-    }
-
-    #[test]
-    fn kinds_that_were_seldom_seen_are_told() {
-        let mut tally = LedgerTally::default();
-        tally.count(&split_lines(b"cap=1\n"), b"bad=2\n");
-        assert_eq!(
-            (tally.ledgers, tally.rare(1).len(), tally.rare(2).len()),
-            (1, KINDS.len() - 1, KINDS.len())
-        );
     }
 }

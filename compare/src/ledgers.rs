@@ -6,6 +6,7 @@ use crate::answered_events::numbers_by_name;
 use crate::bad_lines::{bad_line_kind, LONGEST_SAMPLE_LINE};
 use crate::ledger_damage::damage_ledger;
 use crate::ledger_lines::{first_sample, ByQueries};
+use crate::ledger_tally::kinds;
 use crate::ledger_text::random_ledger;
 use crate::outputs::{self, difference, ledger_output, Disagreement};
 use crate::random::Random;
@@ -53,7 +54,7 @@ fn difference_from_queries(ledger: &[u8], report: &[u8]) -> Option<String> {
 
 fn count(ledger: &[u8], report: &[u8], tally: &mut Tally) {
     let lines = split_lines(ledger);
-    tally.ledgers.count(&lines, report);
+    tally.ledgers.count(kinds(&lines, report));
     match numbers_by_name(report)[..] {
         [(ref name, number)] if name == "bad" => {
             tally.count_bad_line(bad_line_kind(&lines, number, LONGEST_SAMPLE_LINE))

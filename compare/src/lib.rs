@@ -10,7 +10,7 @@
 //! - `told_slots`: where a query tells that its key stands;
 //! - `stuck_items`: which interim item a step takes; `starts`: where a step that goes on starts;
 //! - `tags`: what calls do with damaged token words of form 2;
-//! - `tally`: what a run has seen; `chain_tally`: of chains; `phases`: in each phase;
+//! - `kind_tally`: how often each kind was seen; `tally`: what a run has seen; `chain_tally`: of chains; `phases`: in each phase;
 //! - `both`: a case through library and model;
 //! - `plain_map`, `sound_tables`: sound tables against a plain map, with every cut;
 //! - `history`, `damage`, `tag_damage`: where tables come from; `random_chains`: which chains are put in and asked for;
@@ -41,6 +41,7 @@ pub mod damage;
 mod demands;
 mod going_on;
 pub mod history;
+mod kind_tally;
 pub mod layout;
 mod ledger_damage;
 mod ledger_lines;

@@ -7,8 +7,9 @@ use ragansils::Phase;
 
 use crate::case::{Call, Case, Outcome};
 use crate::chain_tally::ChainTally;
+use crate::kind_tally::KindTally;
 use crate::layout::FORMS;
-use crate::ledger_tally::LedgerTally;
+use crate::ledger_tally;
 use crate::phases::PhaseTally;
 use crate::say;
 use crate::starts::{Numbers, StartTally};
@@ -42,7 +43,7 @@ pub struct Tally {
     pub starts: StartTally,
     /// Of damaged token words of form 2.
     pub tags: TagTally,
-    pub ledgers: LedgerTally,
+    pub ledgers: KindTally<ledger_tally::Kind>,
     pub total_calls: u64,
     pub cuts: u64,
     pub recovery_cuts: u64,
@@ -91,7 +92,7 @@ impl Tally {
     }
 
     pub fn print(&self) {
-        say!("calls: {}; scripts: {}; ledgers: {}", self.total_calls, self.scripts, self.ledgers.ledgers);
+        say!("calls: {}; scripts: {}; ledgers: {}", self.total_calls, self.scripts, self.ledgers.total);
         say!("scripts with a shrink and a turning back: {}", self.scripts_with_shrink_and_back);
         print_counts("calls by the form of their table", &self.forms);
         print_counts("calls and script events by name", &self.calls);
