@@ -4,6 +4,8 @@ use std::path::Path;
 
 use crate::case::{difference, run_model, Call, Case, Outcome};
 use crate::case_text::write_case;
+use crate::conversion_tally::ways_and_kinds;
+use crate::converted;
 use crate::library;
 use crate::program;
 use crate::tally::Tally;
@@ -12,10 +14,11 @@ use crate::told_slots;
 /// What a case is checked for.
 #[derive(Clone, Copy, Debug, PartialEq, Eq)]
 pub enum Check {
-    /// The library answers as the model does, and a query tells a slot that holds its key and record.
+    /// The library answers as the model does; a query tells a slot that holds its key and record, and a conversion leaves the source's
+    /// items in its second table.
     Call,
-    /// The table is sound: a query or a chain answers as the plain map does, and
-    /// each cut of a change leaves the map before or after it.
+    /// The table is sound: a query or a chain answers as the plain map does, each cut of a change leaves the map before or after it, and
+    /// a conversion, there and back, leaves the map.
     SoundTable,
 }
 
@@ -26,6 +29,12 @@ pub struct Finding {
     /// In a box, since errors are handed on through many calls.
     pub case: Box<Case>,
     pub what: String,
+}
+
+impl Finding {
+    pub fn of_sound_table(case: &Case, what: String) -> Finding {
+        Finding { check: Check::SoundTable, case: Box::new(case.clone()), what }
+    }
 }
 
 pub struct Both<'t> {
@@ -59,6 +68,10 @@ impl<'t> Both<'t> {
             let level =
                 told_slots::check(&case.table, key, library.number, &library.answer).map_err(finding)?;
             level.into_iter().for_each(|level| self.tally.levels.count(level));
+        }
+        if case.call == Call::Convert {
+            converted::check(case, &library).map_err(finding)?;
+            self.tally.conversions.count(ways_and_kinds(case, library.number));
         }
         self.tally.tags.look_at(case, &library).map_err(finding)?;
         Ok(model)

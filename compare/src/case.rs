@@ -8,18 +8,30 @@ use crate::chain::Chain;
 
 #[derive(Clone, Copy, Debug, PartialEq, Eq)]
 pub enum Call {
-    Create { form: u64, c: u64, k: u64, mul1: u64, mul2: u64 },
-    Query { key: u64 },
+    Create {
+        form: u64,
+        c: u64,
+        k: u64,
+        mul1: u64,
+        mul2: u64,
+    },
+    Query {
+        key: u64,
+    },
     Chain(Chain),
     Change(Event),
-    Make { n: u64 },
+    Make {
+        n: u64,
+    },
+    /// To the other form, in a second table.
+    Convert,
 }
 
 #[derive(Clone, Debug, PartialEq, Eq)]
 pub struct Case {
     pub call: Call,
     pub table: Vec<u64>,
-    /// The words lent beside the table: a list of stores, or those for the records of a chain.
+    /// The words lent beside the table: a list of stores, those for the records of a chain, or the second table of a conversion.
     pub list: Vec<u64>,
 }
 
@@ -27,8 +39,8 @@ pub struct Case {
 #[derive(Clone, Debug, PartialEq, Eq)]
 pub struct Outcome {
     pub number: u64,
-    /// The query's five words, the chain's count of buckets, a changing call's number of stores and, of a step from a start, the bucket
-    /// told; else nothing.
+    /// The query's five words, the chain's count of buckets, the conversion's key, a changing call's number of stores and, of a step from a
+    /// start, the bucket told; else nothing.
     pub answer: Vec<u64>,
     pub table: Vec<u64>,
     pub list: Vec<u64>,
@@ -41,6 +53,7 @@ impl Call {
             Call::Query { .. } => "query",
             Call::Chain(_) => "chain",
             Call::Make { .. } => "make",
+            Call::Convert => "convert",
             Call::Change(event) => event_name(event),
         }
     }
@@ -50,7 +63,7 @@ impl Call {
             Call::Create { .. } | Call::Make { .. } => 0,
             Call::Query { .. } => Lookup::WORDS,
             Call::Change(Event::StepFrom { .. }) => 2,
-            Call::Chain(_) | Call::Change(_) => 1,
+            Call::Chain(_) | Call::Change(_) | Call::Convert => 1,
         }
     }
 }
@@ -108,6 +121,10 @@ pub fn run_model(case: &Case) -> Outcome {
         Call::Chain(Chain { address, depth }) => {
             let (number, buckets) = model::chain(&table, address, depth, &mut list);
             (number, vec![buckets])
+        }
+        Call::Convert => {
+            let (number, key) = model::convert(&table, &mut list);
+            (number, vec![key])
         }
         Call::Change(Event::StepFrom { from }) => {
             let (number, answer) = model::step_from(&table, from, &mut list);

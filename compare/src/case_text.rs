@@ -36,6 +36,7 @@ fn arguments(call: Call) -> Vec<(&'static str, u64)> {
         Call::Make { n } => vec![("n", n)],
         Call::Query { key } => vec![("key", key)],
         Call::Chain(Chain { address, depth }) => vec![("address", address), ("depth", depth)],
+        Call::Convert => vec![],
         Call::Change(event) => event_arguments(event),
     }
 }
@@ -82,6 +83,7 @@ pub fn read_call(op: &str, number: impl Fn(&str) -> Result<u64, String>) -> Resu
             return Ok(Call::Create { form, c, k, mul1: number("mul1")?, mul2: number("mul2")? });
         }
         "make" => return Ok(Call::Make { n: number("n")? }),
+        "convert" => return Ok(Call::Convert),
         "query" => return Ok(Call::Query { key: number("key")? }),
         "chain" => return Ok(Call::Chain(Chain { address: number("address")?, depth: number("depth")? })),
         "insert" => Event::Insert { key: number("key")?, function: number("fn")?, place: number("at")? },
@@ -111,6 +113,7 @@ mod tests {
             Call::Make { n: 5 },
             Call::Query { key: 6 },
             Call::Chain(Chain { address: u64::MAX, depth: 7 }),
+            Call::Convert,
             Call::Change(insert),
             Call::Change(Event::Update { key: 1, function: 2, place: 3 }),
             Call::Change(Event::Delete { key: 1 }),

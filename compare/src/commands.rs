@@ -9,8 +9,9 @@ use std::time::{Duration, Instant, SystemTime, UNIX_EPOCH};
 use crate::both::{Both, Check, Finding};
 use crate::case::Case;
 use crate::case_text::{read_case, write_case};
+use crate::conversions;
 use crate::corners;
-use crate::demands::{demand_calls, demand_ledgers, demand_scripts, demand_some};
+use crate::demands::{demand_calls, demand_conversions, demand_ledgers, demand_scripts, demand_some};
 use crate::layout::FORMS;
 use crate::ledgers;
 use crate::long_ledger::LongLedger;
@@ -26,6 +27,7 @@ use crate::words;
 
 const USAGE: &str = "\
 compare words --seed S --calls N [--form F] [--trace FILE]
+compare conversions --seed S --conversions N [--trace FILE]
 compare scripts --seed S --scripts N --program PATH
 compare ledgers --seed S --ledgers N --program PATH
 compare long MINUTES [--seed S] [--form F] [--program PATH] [--ledger-program PATH]
@@ -41,6 +43,7 @@ compare corners <INPUT
 
 /// From this size on, a run fails where it has not seen what it must have seen, in each form.
 const FULL_SIZE_CALLS: u64 = 150_000;
+const FULL_SIZE_CONVERSIONS: u64 = 20_000;
 const FULL_SIZE_TEXTS: u64 = 1_000;
 
 /// One round of a long run.
@@ -82,9 +85,12 @@ type Answer = Result<(), String>;
 pub fn run(arguments: &[String]) -> Answer {
     let words: Vec<&str> = arguments.iter().map(String::as_str).collect();
     let options = Options { words: &words };
+    let trace = options.value("--trace").map(Path::new);
     match words[..] {
+        ["conversions", ..] => {
+            conversions_run(options.number("--seed")?, options.number("--conversions")?, trace)
+        }
         ["words", ..] => {
-            let trace = options.value("--trace").map(Path::new);
             words_run(options.number("--seed")?, options.number("--calls")?, &options.forms()?, trace)
         }
         ["scripts", ..] => {
@@ -168,6 +174,20 @@ fn words_run(seed: u64, calls: u64, forms: &[u64], trace: Option<&Path>) -> Answ
         if calls >= FULL_SIZE_CALLS {
             demand_calls(&tally, form)?;
         }
+    }
+    say_alike();
+    Ok(())
+}
+
+fn conversions_run(seed: u64, conversions: u64, trace: Option<&Path>) -> Answer {
+    say!("conversions: seed {seed}, at least {conversions} of them");
+    let mut tally = Tally::default();
+    let result = conversions::run(seed, conversions, &mut Both::traced(&mut tally, trace));
+    tally.print();
+    result.map_err(|finding| report_finding(seed, finding))?;
+    demand_some(tally.conversions.total, "conversions")?;
+    if conversions >= FULL_SIZE_CONVERSIONS {
+        demand_conversions(&tally)?;
     }
     say_alike();
     Ok(())

@@ -332,7 +332,7 @@ fn room_for_one_item(random: &mut Random, words: &mut [u64]) {
 }
 
 /// A change whose recovery was forgotten.
-fn half_made_change(random: &mut Random, words: &mut [u64]) {
+pub fn half_made_change(random: &mut Random, words: &mut [u64]) {
     let key = any_item(random, words).map_or(0, |slot| words[slot.key_word()]);
     let (function, place) = (random.any_word(), random.any_word());
     let update = Event::Update { key, function, place };

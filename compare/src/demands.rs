@@ -4,11 +4,13 @@ use ragansils::Phase;
 
 use crate::chain::DEPTH_LIMIT;
 use crate::chain_tally::{KINDS_OF_SOUND_TABLES, MORE_KINDS_OF_OTHER_WORDS};
+use crate::conversion_tally;
 use crate::layout::TAGGED;
 use crate::ledger_tally;
 use crate::phases::{possible_in_other_words, possible_in_scripts, possible_in_sound_tables, PhaseTally};
 use crate::starts::{rare_numbers, while_resizing};
 use crate::stuck_items::Way;
+use crate::tags;
 use crate::tally::Tally;
 
 type Answer = Result<(), String>;
@@ -28,6 +30,10 @@ const MORE_NUMBERS_OF_STARTS_ON_OTHER_WORDS: [(Option<Phase>, u64); 2] =
 
 /// So often at least each kind of ledger is met.
 const LEAST_OF_EACH_LEDGER: u64 = 3;
+
+/// So often at least each kind of conversion is met, each way, and each kind of damaged token words is refused.
+const LEAST_OF_EACH_CONVERSION: u64 = 3;
+const REFUSED_WITH_DAMAGED_TAGS: &str = "convert refused with 12";
 
 /// So often at least a query finds its key in each level.
 const LEAST_OF_EACH_LEVEL: u64 = 30;
@@ -64,6 +70,20 @@ pub fn demand_ledgers(tally: &Tally) -> Answer {
     match rare[..] {
         [] => Ok(()),
         _ => Err(format!("ledgers seldom or never seen: {rare:?}")),
+    }
+}
+
+/// That one way has met something shows nothing of the other.
+pub fn demand_conversions(tally: &Tally) -> Answer {
+    let rare = tally.conversions.rare(conversion_tally::possible(), LEAST_OF_EACH_CONVERSION);
+    let mut rare: Vec<String> = rare.into_iter().map(|(way, kind)| format!("{way}, {kind}")).collect();
+    let refused =
+        |kind| tally.tags.met.get(&(kind, REFUSED_WITH_DAMAGED_TAGS.to_string())).copied().unwrap_or(0);
+    let unrefused = tags::KINDS.into_iter().filter(|&kind| refused(kind) < LEAST_OF_EACH_CONVERSION);
+    rare.extend(unrefused.map(|kind| format!("12 with {kind}")));
+    match rare[..] {
+        [] => Ok(()),
+        _ => Err(format!("conversions seldom or never seen: {rare:?}")),
     }
 }
 

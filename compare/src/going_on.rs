@@ -160,7 +160,8 @@ pub fn try_pass(random: &mut Random, both: &mut Both, sound: Sound) -> Result<Pa
     }
 }
 
-fn change_by_model(table: &mut [u64], event: Event) -> u64 {
+/// Makes an event; answers its number.
+pub fn change_by_model(table: &mut [u64], event: Event) -> u64 {
     let mut list = [0; LEAST_LIST_WORDS];
     let (number, stores) = event.list_stores(table, &mut list);
     make(table, &list, stores);

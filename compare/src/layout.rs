@@ -15,6 +15,15 @@ pub const FORMS: [u64; 2] = [1, 2];
 /// The form that has tags.
 pub const TAGGED: u64 = 2;
 
+/// The one that a table of this form is converted to.
+pub fn other_form(form: u64) -> u64 {
+    if form == TAGGED {
+        1
+    } else {
+        TAGGED
+    }
+}
+
 /// "the product K·Ai modulo 2^64, divided by 2^32, rounded down"
 pub fn hash(form: u64, multiplier: u64, key: u64) -> u64 {
     product(form, multiplier, key) / (1 << 32)

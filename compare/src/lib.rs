@@ -7,17 +7,18 @@
 //! - `chain`: the chain of an address;
 //! - `case`, `case_text`: one call over given words, and its text form;
 //! - `library`: the proved library behind its C interface;
-//! - `told_slots`: where a query tells that its key stands;
+//! - `told_slots`: where a query tells that its key stands; `converted`: what a conversion leaves;
 //! - `stuck_items`: which interim item a step takes; `starts`: where a step that goes on starts;
 //! - `tags`: what calls do with damaged token words of form 2;
-//! - `kind_tally`: how often each kind was seen; `tally`: what a run has seen; `chain_tally`: of chains; `phases`: in each phase;
+//! - `kind_tally`: how often each kind was seen; `tally`: what a run has seen; `chain_tally`: of chains; `conversion_tally`: of conversions; `phases`: in each phase;
 //! - `both`: a case through library and model;
-//! - `plain_map`, `sound_tables`: sound tables against a plain map, with every cut;
+//! - `plain_map`, `sound_tables`: sound tables against a plain map, with every cut; `there_and_back`: and converted;
 //! - `history`, `damage`, `tag_damage`: where tables come from; `random_chains`: which chains are put in and asked for;
 //! - `stuck_tables`, `stuck_shrinks`: growing and shrinking tables whose first interim items have no place; `going_on`: steps from every
 //!   start, and whole passes;
 //! - `wild`: cases over words that no history made;
 //! - `words`: the run over raw words;
+//! - `conversion_sources`, `conversions`: the run of conversions;
 //! - `outputs`: a program's output beside the model's; `bad_lines`: what is wrong with a line; `answered_events`: a script's events, by
 //!   its output;
 //! - `script_text`, `script_damage`, `scripts`: the run of scripts;
@@ -36,6 +37,10 @@ pub mod case_text;
 pub mod chain;
 mod chain_tally;
 pub mod commands;
+mod conversion_sources;
+mod conversion_tally;
+mod conversions;
+mod converted;
 mod corners;
 pub mod damage;
 mod demands;
@@ -71,6 +76,7 @@ pub mod tags;
 mod tally;
 #[cfg(test)]
 mod test_table;
+mod there_and_back;
 pub mod told_slots;
 mod wild;
 mod words;

@@ -9,7 +9,7 @@ use crate::chain::{Chain, DEPTH_LIMIT};
 
 const GUARD_WORDS: usize = 16;
 
-/// Around the words lent for a chain: as many as the longest one takes, so that where it is written to fewer words no crash hides it.
+/// As many as the longest chain takes.
 const GUARD_WORDS_OF_CHAINS: usize = 2 * DEPTH_LIMIT as usize;
 
 /// What answer buffers hold before a call, to see that each word is written.
@@ -62,17 +62,17 @@ fn guard_word(index: usize) -> u64 {
 struct Lent {
     table: Guarded,
     list: Guarded,
-    /// The query's answer, the chain's count of buckets, or the number of stores, with the bucket told by a step from a start.
+    /// The query's answer, the chain's count of buckets, the conversion's key, or the number of stores, with the bucket told by a step from
+    /// a start.
     answer: Guarded,
 }
 
 /// Runs a case through the library; an error says which guard words were touched.
 pub fn run(case: &Case) -> Result<Outcome, String> {
     let answer_words = case.call.answer_words();
-    let list_guard = if matches!(case.call, Call::Chain(_)) { GUARD_WORDS_OF_CHAINS } else { GUARD_WORDS };
     let mut lent = Lent {
         table: Guarded::new(&case.table),
-        list: Guarded::between(list_guard, &case.list),
+        list: Guarded::between(list_guard(case), &case.list),
         answer: Guarded::new(&vec![UNWRITTEN; answer_words]),
     };
     let number = call_library(case.call, &mut lent);
@@ -87,6 +87,15 @@ pub fn run(case: &Case) -> Result<Outcome, String> {
         table: lent.table.content().to_vec(),
         list: lent.list.content().to_vec(),
     })
+}
+
+/// Where as much is written to fewer words as a call may ever write, the guard words are what is hit, so that no crash hides it.
+fn list_guard(case: &Case) -> usize {
+    match case.call {
+        Call::Chain(_) => GUARD_WORDS_OF_CHAINS,
+        Call::Convert => GUARD_WORDS + case.table.len().saturating_sub(case.list.len()),
+        _ => GUARD_WORDS,
+    }
 }
 
 fn call_library(call: Call, lent: &mut Lent) -> u64 {
@@ -105,6 +114,7 @@ fn call_library(call: Call, lent: &mut Lent) -> u64 {
                 raw::ragansils_chain(table, words, address, depth, list, list_words, answer)
             }
             Call::Make { n } => raw::ragansils_make(table, words, list, list_words, n),
+            Call::Convert => raw::ragansils_convert(table, words, list, list_words, answer),
             Call::Change(Event::StepFrom { from }) => {
                 raw::ragansils_step_from(table, words, from, list, list_words, answer.cast())
             }

@@ -58,7 +58,7 @@ fn arguments(call: &mut Call) -> Vec<&mut u64> {
             vec![key, function, place]
         }
         Call::Change(Event::StepFrom { from }) => vec![from],
-        Call::Change(_) => vec![],
+        Call::Change(_) | Call::Convert => vec![],
         Call::Make { n } => vec![n],
     }
 }

@@ -4,12 +4,13 @@
 use ragansils::Phase;
 use ragansils_model::{Event, LEAST_LIST_WORDS, SUCCESS};
 
-use crate::both::{Both, Check, Finding};
+use crate::both::{Both, Finding};
 use crate::case::{is_resizing, phase_of, Call, Case, Outcome};
 use crate::chain::Chain;
 use crate::layout::check_tokens;
 use crate::plain_map::{self, PlainMap};
 use crate::stuck_items::{step_by_inserts, step_from_by_inserts, Kind, Step};
+use crate::there_and_back::{check_there_and_back, OLD_WORD};
 
 /// The list lent to recoveries: longer than need be, and not zero.
 const RECOVERY_LIST: [u64; 22] = [0x0123_4567_89ab_cdef; 22];
@@ -42,7 +43,10 @@ pub fn check_change(
     let outcome = both.run(case)?;
     let number = outcome.number;
     if !plain_map::answer_fits(before, event, number) {
-        return Err(finding(case, format!("the plain map does not allow the answer {number}")));
+        return Err(Finding::of_sound_table(
+            case,
+            format!("the plain map does not allow the answer {number}"),
+        ));
     }
     both.tally.phases_of_sound_tables.count_case(case, &outcome);
     match event {
@@ -85,15 +89,16 @@ fn check_step(both: &mut Both, case: &Case, outcome: &Outcome) -> Result<(), Fin
 
 /// The bucket told is the item's own too.
 fn check_step_from(case: &Case, from: u64, outcome: &Outcome) -> Result<Step, Finding> {
-    let step = step_from_by_inserts(&case.table, from)
-        .ok_or_else(|| finding(case, "no insert tells which item a step takes".to_string()))?;
+    let step = step_from_by_inserts(&case.table, from).ok_or_else(|| {
+        Finding::of_sound_table(case, "no insert tells which item a step takes".to_string())
+    })?;
     let Step { number, list, bucket, .. } = &step;
     let listed = outcome.list.get(..2 * outcome.stores() as usize);
     let is_told = outcome.answer.len() < 2 || outcome.bucket() == *bucket;
     if outcome.number == *number && listed == Some(list) && is_told {
         return Ok(step);
     }
-    Err(finding(
+    Err(Finding::of_sound_table(
         case,
         format!("by inserts a step answers {number}, lists {list:?} and tells bucket {bucket}"),
     ))
@@ -106,7 +111,7 @@ pub fn check_query(both: &mut Both, case: &Case, key: u64, map: &PlainMap) -> Re
     if plain_map::query_fits(map, key, outcome.number, &outcome.answer) {
         return Ok(());
     }
-    Err(finding(case, format!("the plain map has {:?} for this key", map.get(&key))))
+    Err(Finding::of_sound_table(case, format!("the plain map has {:?} for this key", map.get(&key))))
 }
 
 /// Checks one chain of a sound table whose map is `map`.
@@ -116,11 +121,17 @@ pub fn check_chain(both: &mut Both, case: &Case, chain: Chain, map: &PlainMap) -
     let expected = plain_map::chain_answer(map, chain, case.list.len());
     let number = expected.as_ref().err().copied().unwrap_or(SUCCESS);
     if outcome.number != number {
-        return Err(finding(case, format!("answer {}, but {number} by the plain map", outcome.number)));
+        return Err(Finding::of_sound_table(
+            case,
+            format!("answer {}, but {number} by the plain map", outcome.number),
+        ));
     }
     let records = expected.unwrap_or_default();
     if outcome.list != [&records[..], &case.list[records.len()..]].concat() {
-        return Err(finding(case, "the lent words are not those of the plain map".to_string()));
+        return Err(Finding::of_sound_table(
+            case,
+            "the lent words are not those of the plain map".to_string(),
+        ));
     }
     let depths = if [SUCCESS, 5].contains(&number) { plain_map::depths_asked(map, chain) } else { 0 };
     // A key may stand in two buckets of each level in use.
@@ -129,7 +140,7 @@ pub fn check_chain(both: &mut Both, case: &Case, chain: Chain, map: &PlainMap) -
     if (depths..=most_buckets * depths).contains(&buckets) {
         return Ok(());
     }
-    Err(finding(case, format!("{buckets} buckets were looked at for {depths} depths")))
+    Err(Finding::of_sound_table(case, format!("{buckets} buckets were looked at for {depths} depths")))
 }
 
 /// Checks a case of its own, where it is one of a sound table: the plain map is the table's.
@@ -139,15 +150,14 @@ pub fn check_alone(both: &mut Both, case: &Case) -> Result<(), Finding> {
     match (map, case.call) {
         (Some(map), Call::Query { key }) => check_query(both, case, key, &map),
         (Some(map), Call::Chain(chain)) => check_chain(both, case, chain, &map),
+        (Some(map), Call::Convert) => {
+            check_there_and_back(both, case, &map, vec![OLD_WORD; case.table.len()]).map(drop)
+        }
         (Some(map), Call::Change(event)) if case.list.len() >= LEAST_LIST_WORDS => {
             check_change(both, case, event, &map, Depth::EveryCut).map(|_| ())
         }
         _ => Ok(()),
     }
-}
-
-fn finding(case: &Case, what: String) -> Finding {
-    Finding { check: Check::SoundTable, case: Box::new(case.clone()), what }
 }
 
 struct Change<'a, 't> {
@@ -160,7 +170,7 @@ struct Change<'a, 't> {
 
 impl Change<'_, '_> {
     fn finding(&self, what: String) -> Finding {
-        finding(self.case, what)
+        Finding::of_sound_table(self.case, what)
     }
 
     fn make(&mut self, kept: u64) -> Result<Vec<u64>, Finding> {

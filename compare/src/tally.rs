@@ -7,6 +7,7 @@ use ragansils::Phase;
 
 use crate::case::{Call, Case, Outcome};
 use crate::chain_tally::ChainTally;
+use crate::conversion_tally::{self, Way, WAYS};
 use crate::kind_tally::KindTally;
 use crate::layout::FORMS;
 use crate::ledger_tally;
@@ -44,6 +45,7 @@ pub struct Tally {
     /// Of damaged token words of form 2.
     pub tags: TagTally,
     pub ledgers: KindTally<ledger_tally::Kind>,
+    pub conversions: KindTally<(Way, conversion_tally::Kind)>,
     pub total_calls: u64,
     pub cuts: u64,
     pub recovery_cuts: u64,
@@ -59,13 +61,13 @@ impl Tally {
         self.count_answered(case.call.name(), outcome.number, outcome.stores());
     }
 
-    /// Counts a call of the library or an event of a script. `stores` is of no matter for a query or a chain.
+    /// Counts a call of the library or an event of a script. `stores` is of no matter for a call that lists none.
     pub fn count_answered(&mut self, name: &str, number: u64, stores: u64) {
         add(&mut self.calls, name);
         self.count_refusal(number);
         match name {
             "recover" => add(&mut self.recoveries, recovery_kind(number, stores)),
-            "query" | "chain" | "create" | "make" => {}
+            "query" | "chain" | "create" | "make" | "convert" => {}
             _ if number == 0 => add(&mut self.lists, &format!("{name} of {stores}")),
             _ => {}
         }
@@ -92,7 +94,8 @@ impl Tally {
     }
 
     pub fn print(&self) {
-        say!("calls: {}; scripts: {}; ledgers: {}", self.total_calls, self.scripts, self.ledgers.total);
+        say!("calls: {}; conversions among them: {}", self.total_calls, self.conversions.total);
+        say!("scripts: {}; ledgers: {}", self.scripts, self.ledgers.total);
         say!("scripts with a shrink and a turning back: {}", self.scripts_with_shrink_and_back);
         print_counts("calls by the form of their table", &self.forms);
         print_counts("calls and script events by name", &self.calls);
@@ -112,6 +115,7 @@ impl Tally {
         self.print_chains();
         self.print_tags();
         print_counts("ledgers by what they show", &self.ledgers.kinds);
+        self.print_conversions();
     }
 
     fn print_starts(&self) {
@@ -135,6 +139,14 @@ impl Tally {
             print_counts(&format!("met with {kind}"), &counts);
         }
         print_counts("slots and bits of damaged token words", &self.tags.effects);
+    }
+
+    fn print_conversions(&self) {
+        for way in WAYS {
+            let of_way = self.conversions.kinds.iter().filter(|((met, _), _)| *met == way);
+            let counts: BTreeMap<_, u64> = of_way.map(|(&(_, kind), &count)| (kind, count)).collect();
+            print_counts(&format!("conversions, {way}"), &counts);
+        }
     }
 
     fn print_chains(&self) {

@@ -112,7 +112,7 @@ fn wild_making(random: &mut Random) -> Case {
 
 /// Garbage of any length, or of a right length behind a header that is nearly good. In form 2 half of them have right tags, or no key
 /// would be found.
-fn wild_table(random: &mut Random, form: u64) -> Vec<u64> {
+pub fn wild_table(random: &mut Random, form: u64) -> Vec<u64> {
     let c = 1 + random.below(5);
     let right = table_words(c).unwrap_or(0);
     let length = if random.one_in(4) { nearby_length(random, right) } else { right };
