@@ -10,8 +10,11 @@ use crate::both::{Both, Check, Finding};
 use crate::case::Case;
 use crate::case_text::{read_case, write_case};
 use crate::conversions;
+use crate::convert_scripts;
 use crate::corners;
-use crate::demands::{demand_calls, demand_conversions, demand_ledgers, demand_scripts, demand_some};
+use crate::demands::{
+    demand_calls, demand_conversions, demand_convert_scripts, demand_ledgers, demand_scripts, demand_some,
+};
 use crate::layout::FORMS;
 use crate::ledgers;
 use crate::long_ledger::LongLedger;
@@ -30,15 +33,17 @@ compare words --seed S --calls N [--form F] [--trace FILE]
 compare conversions --seed S --conversions N [--trace FILE]
 compare scripts --seed S --scripts N --program PATH
 compare ledgers --seed S --ledgers N --program PATH
-compare long MINUTES [--seed S] [--form F] [--program PATH] [--ledger-program PATH]
+compare convert-scripts --seed S --scripts N --program PATH
+compare long MINUTES [--seed S] [--form F] [--program PATH] [--ledger-program PATH] [--convert-program PATH]
 compare long-ledger --samples N --seed S --program PATH --model PATH [--folder DIR] [--most RATIO]
 compare case FILE
 compare script FILE --program PATH
 compare ledger FILE --program PATH
+compare convert-script FILE --program PATH
 compare corners <INPUT
 (F is 1 or 2: tables of that form only, and without it half of the calls for each form;
  FILE after --trace keeps the case the library was given last, for when it crashes;
- a long run without --program makes no scripts, and without --ledger-program no ledgers;
+ a long run without --program makes no scripts, and so on for the other programs;
  RATIO is the most that the ledger program's time may be of the model's)";
 
 /// From this size on, a run fails where it has not seen what it must have seen, in each form.
@@ -48,14 +53,17 @@ const FULL_SIZE_TEXTS: u64 = 1_000;
 
 /// One round of a long run.
 const ROUND_CALLS: u64 = 1_000_000;
-const ROUND_SCRIPTS: u64 = 1_500;
-const ROUND_LEDGERS: u64 = 1_500;
+const ROUND_CONVERSIONS: u64 = 50_000;
 
 /// What a program is given and compared on, byte by byte: scripts, or ledgers.
 struct Texts {
     /// One of them, and several.
     name: &'static str,
     names: &'static str,
+    /// The options that tell how many, and which program a long run compares.
+    amount: &'static str,
+    program: &'static str,
+    in_a_round: u64,
     run: fn(u64, u64, &Path, &mut Tally) -> Result<(), Disagreement>,
     compare: fn(&Path, &[u8]) -> Result<Vec<u8>, String>,
     count: fn(&Tally) -> u64,
@@ -65,6 +73,9 @@ struct Texts {
 const SCRIPTS: Texts = Texts {
     name: "script",
     names: "scripts",
+    amount: "--scripts",
+    program: "--program",
+    in_a_round: 1_500,
     run: scripts::run,
     compare: scripts::compare,
     count: |tally| tally.scripts,
@@ -74,11 +85,28 @@ const SCRIPTS: Texts = Texts {
 const LEDGERS: Texts = Texts {
     name: "ledger",
     names: "ledgers",
+    amount: "--ledgers",
+    program: "--ledger-program",
+    in_a_round: 1_500,
     run: ledgers::run,
     compare: ledgers::compare,
     count: |tally| tally.ledgers.total,
     demand: demand_ledgers,
 };
+
+const CONVERT_SCRIPTS: Texts = Texts {
+    name: "convert-script",
+    names: "convert-scripts",
+    amount: "--scripts",
+    program: "--convert-program",
+    in_a_round: 1_500,
+    run: convert_scripts::run,
+    compare: convert_scripts::compare,
+    count: |tally| tally.converts.total,
+    demand: demand_convert_scripts,
+};
+
+const TEXTS: [&Texts; 3] = [&SCRIPTS, &LEDGERS, &CONVERT_SCRIPTS];
 
 type Answer = Result<(), String>;
 
@@ -87,17 +115,11 @@ pub fn run(arguments: &[String]) -> Answer {
     let options = Options { words: &words };
     let trace = options.value("--trace").map(Path::new);
     match words[..] {
-        ["conversions", ..] => {
-            conversions_run(options.number("--seed")?, options.number("--conversions")?, trace)
-        }
         ["words", ..] => {
             words_run(options.number("--seed")?, options.number("--calls")?, &options.forms()?, trace)
         }
-        ["scripts", ..] => {
-            texts_run(&SCRIPTS, options.number("--seed")?, options.number("--scripts")?, options.program()?)
-        }
-        ["ledgers", ..] => {
-            texts_run(&LEDGERS, options.number("--seed")?, options.number("--ledgers")?, options.program()?)
+        ["conversions", ..] => {
+            conversions_run(options.number("--seed")?, options.number("--conversions")?, trace)
         }
         ["long", minutes, ..] => {
             let minutes = minutes.parse().map_err(|error| format!("{minutes}: {error}"))?;
@@ -105,16 +127,29 @@ pub fn run(arguments: &[String]) -> Answer {
                 Some(_) => options.number("--seed")?,
                 None => clock_seed(),
             };
-            let programs = ["--program", "--ledger-program"].map(|name| options.path(name).ok());
+            let programs = TEXTS.map(|texts| options.path(texts.program).ok());
             long_run(minutes, seed, &options.forms()?, programs)
         }
         ["long-ledger", ..] => long_ledger_run(&options),
         ["case", file] => one_case(file),
-        ["script", file, ..] => one_text(&SCRIPTS, file, options.program()?),
-        ["ledger", file, ..] => one_text(&LEDGERS, file, options.program()?),
         ["corners"] => corners_run(),
-        _ => Err(format!("usage:\n{USAGE}")),
+        _ => texts_command(&words, &options),
     }
+}
+
+/// A run of texts, or one text that a file has.
+fn texts_command(words: &[&str], options: &Options) -> Answer {
+    for texts in TEXTS {
+        match *words {
+            [names, ..] if names == texts.names => {
+                let (seed, count) = (options.number("--seed")?, options.number(texts.amount)?);
+                return texts_run(texts, seed, count, options.program()?);
+            }
+            [name, file, ..] if name == texts.name => return one_text(texts, file, options.program()?),
+            _ => {}
+        }
+    }
+    Err(format!("usage:\n{USAGE}"))
 }
 
 struct Options<'a> {
@@ -207,55 +242,84 @@ fn texts_run(texts: &Texts, seed: u64, count: u64, program: &Path) -> Answer {
     Ok(())
 }
 
+/// A program for each kind of text, where one is named.
+type Programs<'a> = [Option<&'a Path>; TEXTS.len()];
+
 /// Round after round, each from its own seed, until the time is over.
-fn long_run(minutes: u32, seed: u64, forms: &[u64], programs: [Option<&Path>; 2]) -> Answer {
+fn long_run(minutes: u32, seed: u64, forms: &[u64], programs: Programs) -> Answer {
     say!("long: seed {seed}, {minutes} minutes");
     let end = Instant::now() + Duration::from_secs(60 * u64::from(minutes));
     let mut seeds = Random::new(seed);
-    let mut by_form: Vec<(u64, Tally)> = forms.iter().map(|&form| (form, Tally::default())).collect();
-    let mut of_texts = Tally::default();
+    let mut seen = Seen::of_nothing(forms);
     let mut rounds = 0;
     while Instant::now() < end {
         rounds += 1;
-        let words_seed = seeds.word();
-        for (form, tally) in &mut by_form {
-            say!("round {rounds}: words of form {form}, seed {words_seed}");
-            words::run(words_seed, ROUND_CALLS / forms.len() as u64, *form, &mut Both::new(tally))
-                .map_err(|finding| report_finding(words_seed, finding))?;
-        }
-        round_of_texts(rounds, &mut seeds, programs, &mut of_texts)?;
+        seen.round_of_words(rounds, &mut seeds)?;
+        seen.round_of_conversions(rounds, &mut seeds)?;
+        seen.round_of_texts(rounds, &mut seeds, programs)?;
     }
     say!("rounds: {rounds}");
-    for (form, tally) in &by_form {
-        say!("form {form}:");
-        tally.print();
-        demand_calls(tally, *form)?;
-    }
-    of_texts.print();
-    if programs[1].is_some() {
-        demand_ledgers(&of_texts)?;
-    }
+    seen.print_and_demand(programs)?;
     say_alike();
     Ok(())
 }
 
-fn round_of_texts(
-    round: u64,
-    seeds: &mut Random,
-    [script_program, ledger_program]: [Option<&Path>; 2],
-    tally: &mut Tally,
-) -> Answer {
-    let programs = [(&SCRIPTS, ROUND_SCRIPTS, script_program), (&LEDGERS, ROUND_LEDGERS, ledger_program)];
-    for (texts, count, program) in programs {
-        // drawn where there is no program too, so that the other rounds stay the same
-        let seed = seeds.word();
-        if let Some(program) = program {
-            say!("round {round}: {} seed {seed}", texts.names);
-            (texts.run)(seed, count, program, tally)
-                .map_err(|disagreement| report_disagreement(texts, seed, program, disagreement))?;
-        }
+/// What a long run has seen: of words in each form, of conversions, and of texts.
+struct Seen {
+    by_form: Vec<(u64, Tally)>,
+    of_conversions: Tally,
+    of_texts: Tally,
+}
+
+impl Seen {
+    fn of_nothing(forms: &[u64]) -> Seen {
+        let by_form = forms.iter().map(|&form| (form, Tally::default())).collect();
+        Seen { by_form, of_conversions: Tally::default(), of_texts: Tally::default() }
     }
-    Ok(())
+
+    fn round_of_words(&mut self, round: u64, seeds: &mut Random) -> Answer {
+        let (seed, calls) = (seeds.word(), ROUND_CALLS / self.by_form.len() as u64);
+        for (form, tally) in &mut self.by_form {
+            say!("round {round}: words of form {form}, seed {seed}");
+            words::run(seed, calls, *form, &mut Both::new(tally))
+                .map_err(|finding| report_finding(seed, finding))?;
+        }
+        Ok(())
+    }
+
+    fn round_of_conversions(&mut self, round: u64, seeds: &mut Random) -> Answer {
+        let seed = seeds.word();
+        say!("round {round}: conversions, seed {seed}");
+        conversions::run(seed, ROUND_CONVERSIONS, &mut Both::new(&mut self.of_conversions))
+            .map_err(|finding| report_finding(seed, finding))
+    }
+
+    fn round_of_texts(&mut self, round: u64, seeds: &mut Random, programs: Programs) -> Answer {
+        for (texts, program) in TEXTS.into_iter().zip(programs) {
+            // drawn where there is no program too, so that the other rounds stay the same
+            let seed = seeds.word();
+            if let Some(program) = program {
+                say!("round {round}: {} seed {seed}", texts.names);
+                (texts.run)(seed, texts.in_a_round, program, &mut self.of_texts)
+                    .map_err(|disagreement| report_disagreement(texts, seed, program, disagreement))?;
+            }
+        }
+        Ok(())
+    }
+
+    fn print_and_demand(&self, programs: Programs) -> Answer {
+        for (form, tally) in &self.by_form {
+            say!("form {form}:");
+            tally.print();
+            demand_calls(tally, *form)?;
+        }
+        say!("conversions:");
+        self.of_conversions.print();
+        demand_conversions(&self.of_conversions)?;
+        self.of_texts.print();
+        let compared = TEXTS.into_iter().zip(programs).filter(|(_, program)| program.is_some());
+        compared.into_iter().try_for_each(|(texts, _)| (texts.demand)(&self.of_texts))
+    }
 }
 
 fn long_ledger_run(options: &Options) -> Answer {

@@ -5,6 +5,7 @@ use ragansils::Phase;
 use crate::chain::DEPTH_LIMIT;
 use crate::chain_tally::{KINDS_OF_SOUND_TABLES, MORE_KINDS_OF_OTHER_WORDS};
 use crate::conversion_tally;
+use crate::convert_tally;
 use crate::layout::TAGGED;
 use crate::ledger_tally;
 use crate::phases::{possible_in_other_words, possible_in_scripts, possible_in_sound_tables, PhaseTally};
@@ -28,8 +29,8 @@ const NUMBERS_OF_STARTS_ON_OTHER_WORDS: [u64; 5] = [0, 2, 3, 6, 11];
 const MORE_NUMBERS_OF_STARTS_ON_OTHER_WORDS: [(Option<Phase>, u64); 2] =
     [(Some(Phase::AtRest), 8), (None, 1)];
 
-/// So often at least each kind of ledger is met.
-const LEAST_OF_EACH_LEDGER: u64 = 3;
+/// So often at least each kind of ledger is met, and each kind of script whose table is converted.
+const LEAST_OF_EACH_TEXT: u64 = 3;
 
 /// So often at least each kind of conversion is met, each way, and each kind of damaged token words is refused.
 const LEAST_OF_EACH_CONVERSION: u64 = 3;
@@ -66,10 +67,18 @@ pub fn demand_scripts(tally: &Tally) -> Answer {
 }
 
 pub fn demand_ledgers(tally: &Tally) -> Answer {
-    let rare = tally.ledgers.rare(ledger_tally::KINDS, LEAST_OF_EACH_LEDGER);
+    let rare = tally.ledgers.rare(ledger_tally::KINDS, LEAST_OF_EACH_TEXT);
     match rare[..] {
         [] => Ok(()),
         _ => Err(format!("ledgers seldom or never seen: {rare:?}")),
+    }
+}
+
+pub fn demand_convert_scripts(tally: &Tally) -> Answer {
+    let rare = tally.converts.rare(convert_tally::KINDS, LEAST_OF_EACH_TEXT);
+    match rare[..] {
+        [] => Ok(()),
+        _ => Err(format!("scripts of tables to convert seldom or never seen: {rare:?}")),
     }
 }
 

@@ -59,7 +59,7 @@ fn function_names(random: &mut Random) -> Box<dyn Fn(u64) -> u64> {
 }
 
 /// Changes that are cut, and no recovery behind them. Recovery mends what one cut leaves, and refuses most of what comes of two.
-fn forget_recovery(random: &mut Random, script: &mut Script) {
+pub fn forget_recovery(random: &mut Random, script: &mut Script) {
     match random.below(4) {
         0 => cut_update(random, script),
         1 => cut_step(random, script),

@@ -8,26 +8,14 @@ use crate::ledger_damage::damage_ledger;
 use crate::ledger_lines::{first_sample, ByQueries};
 use crate::ledger_tally::kinds;
 use crate::ledger_text::random_ledger;
-use crate::outputs::{self, difference, ledger_output, Disagreement};
-use crate::random::Random;
+use crate::outputs::{self, difference, ledger_output, Disagreement, Source};
 use crate::script_damage::split_lines;
 use crate::tally::Tally;
 
+const SOURCE: Source = Source { name: "ledger", text: random_ledger, damage: damage_ledger };
+
 pub fn run(seed: u64, ledgers: u64, program: &Path, tally: &mut Tally) -> Result<(), Disagreement> {
-    let mut random = Random::new(seed);
-    for number in 0..ledgers {
-        let mut ledger = random_ledger(&mut random);
-        if number % 3 == 2 {
-            ledger = damage_ledger(&mut random, &ledger);
-        }
-        match compare(program, &ledger) {
-            Ok(report) => count(&ledger, &report, tally),
-            Err(what) => {
-                return Err(Disagreement { input: ledger, what: format!("ledger {number}: {what}") })
-            }
-        }
-    }
-    Ok(())
+    SOURCE.run(seed, ledgers, |ledger| compare(program, ledger).map(|report| count(ledger, &report, tally)))
 }
 
 /// Answers the report that the program and the model agree on, and the queries of a script with them; or says where they differ.

@@ -1,5 +1,5 @@
-//! Compares the proved library, the script program and the ledger program with the model. What is public makes random histories and damage for other tests
-//! too.
+//! Compares the proved library, the script program, the ledger program and the program that converts with the model. What is public makes
+//! random histories and damage for other tests too.
 //!
 //! From the bottom up:
 //! - `random`: numbers from a seed;
@@ -24,6 +24,7 @@
 //! - `script_text`, `script_damage`, `scripts`: the run of scripts;
 //! - `ledger_lines`, `ledger_text`, `ledger_damage`, `ledger_tally`, `ledgers`: the run of ledgers; `long_ledger`: a long one, with its
 //!   time and memory;
+//! - `convert_text`, `convert_tally`, `convert_scripts`: the run of scripts whose tables a program converts;
 //! - `corners`: the model's answers to the input of the proved program `corners`;
 //! - `smallest`: smaller failures;
 //! - `demands`: what a run must have seen;
@@ -40,6 +41,9 @@ pub mod commands;
 mod conversion_sources;
 mod conversion_tally;
 mod conversions;
+mod convert_scripts;
+mod convert_tally;
+mod convert_text;
 mod converted;
 mod corners;
 pub mod damage;

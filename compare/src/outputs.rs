@@ -5,6 +5,7 @@ use std::os::unix::process::ExitStatusExt;
 use std::path::Path;
 use std::process::Stdio;
 
+use crate::random::Random;
 use crate::runner::built;
 use crate::script_damage::split_lines;
 use crate::smallest::drop_pieces;
@@ -16,6 +17,36 @@ const SHORT_INPUT: usize = 400;
 pub struct Disagreement {
     pub input: Vec<u8>,
     pub what: String,
+}
+
+/// Where the texts of a run come from. One in three is damaged.
+pub struct Source {
+    /// That of one text.
+    pub name: &'static str,
+    pub text: fn(&mut Random) -> Vec<u8>,
+    pub damage: fn(&mut Random, &[u8]) -> Vec<u8>,
+}
+
+impl Source {
+    /// So many texts from a seed; `compare` says where a program and the model differ on one.
+    pub fn run(
+        &self,
+        seed: u64,
+        texts: u64,
+        mut compare: impl FnMut(&[u8]) -> Result<(), String>,
+    ) -> Result<(), Disagreement> {
+        let mut random = Random::new(seed);
+        for number in 0..texts {
+            let mut input = (self.text)(&mut random);
+            if number % 3 == 2 {
+                input = (self.damage)(&mut random, &input);
+            }
+            if let Err(what) = compare(&input) {
+                return Err(Disagreement { input, what: format!("{} {number}: {what}", self.name) });
+            }
+        }
+        Ok(())
+    }
 }
 
 /// Answers the output that a program and the model agree on, or says where they differ.
@@ -41,14 +72,20 @@ pub fn smallest(input: Vec<u8>, differs: impl Fn(&[u8]) -> bool) -> Vec<u8> {
 }
 
 pub fn script_output(script: &[u8]) -> Vec<u8> {
-    let mut output = Vec::new();
-    ragansils_model::run_script(script, &mut output).expect("memory takes every byte");
-    output
+    written(|output| ragansils_model::run_script(script, output))
 }
 
 pub fn ledger_output(ledger: &[u8]) -> Vec<u8> {
+    written(|output| ragansils_model::run_ledger(ledger, output))
+}
+
+pub fn convert_output(script: &[u8]) -> Vec<u8> {
+    written(|output| ragansils_model::run_convert(script, output))
+}
+
+fn written(run: impl FnOnce(&mut Vec<u8>) -> io::Result<()>) -> Vec<u8> {
     let mut output = Vec::new();
-    ragansils_model::run_ledger(ledger, &mut output).expect("memory takes every byte");
+    run(&mut output).expect("memory takes every byte");
     output
 }
 

@@ -163,7 +163,8 @@ fn recover(random: &mut Random, script: &mut Script) {
 pub struct Script {
     pub text: Vec<u8>,
     pub table: Vec<u64>,
-    last_number: u64,
+    /// The answer of the last event.
+    pub last_number: u64,
 }
 
 impl Script {

@@ -7,29 +7,17 @@ use ragansils_model::SUCCESS;
 
 use crate::answered_events::{answered_events, numbers_by_name, AnsweredEvent};
 use crate::bad_lines::{bad_line_kind, LONGEST_SCRIPT_LINE};
-use crate::outputs::{self, script_output, Disagreement};
+use crate::outputs::{self, script_output, Disagreement, Source};
 use crate::phases::Answered;
-use crate::random::Random;
 use crate::script_damage::{damage, split_lines};
 use crate::script_text::random_script;
 use crate::tally::Tally;
 use crate::told_slots::level_of;
 
+const SOURCE: Source = Source { name: "script", text: |random| random_script(random).text, damage };
+
 pub fn run(seed: u64, scripts: u64, program: &Path, tally: &mut Tally) -> Result<(), Disagreement> {
-    let mut random = Random::new(seed);
-    for number in 0..scripts {
-        let mut script = random_script(&mut random).text;
-        if number % 3 == 2 {
-            script = damage(&mut random, &script);
-        }
-        match compare(program, &script) {
-            Ok(output) => count(&script, &output, tally),
-            Err(what) => {
-                return Err(Disagreement { input: script, what: format!("script {number}: {what}") })
-            }
-        }
-    }
-    Ok(())
+    SOURCE.run(seed, scripts, |script| compare(program, script).map(|output| count(script, &output, tally)))
 }
 
 /// Answers the output that the program and the model agree on, or says where they differ.

@@ -8,6 +8,7 @@ use ragansils::Phase;
 use crate::case::{Call, Case, Outcome};
 use crate::chain_tally::ChainTally;
 use crate::conversion_tally::{self, Way, WAYS};
+use crate::convert_tally;
 use crate::kind_tally::KindTally;
 use crate::layout::FORMS;
 use crate::ledger_tally;
@@ -46,6 +47,8 @@ pub struct Tally {
     pub tags: TagTally,
     pub ledgers: KindTally<ledger_tally::Kind>,
     pub conversions: KindTally<(Way, conversion_tally::Kind)>,
+    /// Of the program that converts.
+    pub converts: KindTally<convert_tally::Kind>,
     pub total_calls: u64,
     pub cuts: u64,
     pub recovery_cuts: u64,
@@ -95,7 +98,12 @@ impl Tally {
 
     pub fn print(&self) {
         say!("calls: {}; conversions among them: {}", self.total_calls, self.conversions.total);
-        say!("scripts: {}; ledgers: {}", self.scripts, self.ledgers.total);
+        say!(
+            "scripts: {}; ledgers: {}; scripts of tables to convert: {}",
+            self.scripts,
+            self.ledgers.total,
+            self.converts.total
+        );
         say!("scripts with a shrink and a turning back: {}", self.scripts_with_shrink_and_back);
         print_counts("calls by the form of their table", &self.forms);
         print_counts("calls and script events by name", &self.calls);
@@ -116,6 +124,7 @@ impl Tally {
         self.print_tags();
         print_counts("ledgers by what they show", &self.ledgers.kinds);
         self.print_conversions();
+        print_counts("scripts of tables to convert by what they show", &self.converts.kinds);
     }
 
     fn print_starts(&self) {
