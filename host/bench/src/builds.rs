@@ -12,7 +12,7 @@ use crate::instructions::{this_program, Count};
 use crate::peers::{LIBRARY, TWIN};
 use crate::rounds::{Measured, Rounds};
 
-pub use answer::Answer;
+pub use answer::{with_word, Answer};
 
 pub const BEFORE: &str = "library before";
 pub const AFTER: &str = "library after";

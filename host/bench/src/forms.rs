@@ -13,7 +13,8 @@ use crate::builds::Answer;
 use crate::instructions::{count_usual, this_program, Count};
 use crate::operations::{few_of, Filled, Operation};
 use crate::peers::{both_forms, CUCKOO, FORM_1, FORM_2, LIBRARY, TWIN};
-use crate::rounds::{Measured, Rounds};
+use crate::processes::Processes;
+use crate::rounds::Measured;
 
 /// The capacities of the tables, and how many rounds each has by turns with the other. Where the memory of a process happens to lie
 /// matters most in the smaller tables, and these take little time.
@@ -71,24 +72,11 @@ fn count(operation: Operation, folder: &Path) -> Result<FormCounts, String> {
     Ok(FormCounts { operation, library: of_side(LIBRARY)?, twin: of_side(TWIN)? })
 }
 
-/// The capacities come by turns: what slows the machine for some seconds would slow all rounds of a small table.
 fn times(random: &mut Random, rounds: usize) -> Result<Vec<Measured>, String> {
-    let program = this_program()?;
-    let begun = |(c, share): (u64, usize)| (c, share, Rounds::<{ OPERATIONS.len() }>::named(PEERS.to_vec()));
-    let mut parts = MEASURED.map(begun);
-    for turn in 0..=rounds {
-        for (c, share, rounds) in &mut parts {
-            for number in turn * *share..(turn + 1) * *share {
-                let command = ["form-round".to_string(), c.to_string()];
-                let (times, sum) = Answer::<TIMES>::of_build(&program, &command, random.word())
-                    .map_err(|error| format!("{}: {error}", command.join(" ")))?;
-                let of_peer = |at: usize| [0, 1, 2].map(|operation| times[operation * PEERS.len() + at]);
-                rounds.turns(number, |at| Ok((of_peer(at), sum)))?;
-            }
-        }
-    }
+    let processes = Processes { command: "form-round", peers: PEERS, measured: MEASURED };
+    let parts = processes.rounds::<{ OPERATIONS.len() }, TIMES>(rounds, random)?;
     let name = |operation: Operation| format!("{}, load {HIGH_LOAD}", operation.name());
-    Ok(parts.into_iter().flat_map(|(c, _, rounds)| rounds.finish(c, OPERATIONS.map(name))).collect())
+    Ok(parts.into_iter().flat_map(|(c, rounds)| rounds.finish(c, OPERATIONS.map(name))).collect())
 }
 
 /// One round in a process of its own: the time of each operation by each peer, and a sum of answers.

@@ -7,7 +7,7 @@
 //! - `drivers`: the ways through a growth or a shrink;
 //! - `operations`, `recovery`, `growth` and `shrink` with their limits, `chains`: what is timed; `instructions`: what valgrind counts of it;
 //! - `builds`: what is measured before a change of the library and after it; `import`, `queries`: this, with their limits;
-//! - `forms`: form 2 beside form 1, with its limits;
+//! - `processes`: rounds that are processes; `forms`: form 2 beside form 1, with its limits;
 //! - `plan`, `run`: how much, and all of it;
 //! - `svg`, `chart`, `plots`, `report`: what is written of it.
 //!
@@ -28,6 +28,7 @@ mod operations;
 mod peers;
 mod plan;
 mod plots;
+mod processes;
 mod queries;
 mod recovery;
 mod report;

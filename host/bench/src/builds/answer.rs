@@ -12,6 +12,11 @@ pub struct Answer<const TIMES: usize> {
     pub sum: u64,
 }
 
+/// A sum of words that tells where each stands.
+pub fn with_word(sum: u64, word: u64) -> u64 {
+    sum.wrapping_mul(31).wrapping_add(word)
+}
+
 impl<const TIMES: usize> Display for Answer<TIMES> {
     fn fmt(&self, formatter: &mut Formatter<'_>) -> std::fmt::Result {
         write!(formatter, "times")?;
@@ -54,6 +59,12 @@ impl<const TIMES: usize> Answer<TIMES> {
 #[cfg(test)]
 mod tests {
     use super::*;
+
+    #[test]
+    fn words_that_change_places_change_the_sum() {
+        let sum = |words: [u64; 3]| words.into_iter().fold(0, with_word);
+        assert_ne!(sum([1, 2, 3]), sum([1, 3, 2]));
+    }
 
     #[test]
     fn an_answer_is_read_as_it_is_written() {
