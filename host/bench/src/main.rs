@@ -7,7 +7,7 @@
 //! - `drivers`: the ways through a growth or a shrink;
 //! - `operations`, `recovery`, `growth` and `shrink` with their limits, `chains`: what is timed; `instructions`: what valgrind counts of it;
 //! - `builds`: what is measured before a change of the library and after it; `import`, `queries`: this, with their limits;
-//! - `processes`: rounds that are processes; `forms`: form 2 beside form 1, with its limits;
+//! - `processes`: rounds that are processes; `forms`: form 2 beside form 1, and `conversion`: from the one to the other, with their limits;
 //! - `plan`, `run`: how much, and all of it;
 //! - `svg`, `chart`, `plots`, `report`: what is written of it.
 //!
@@ -18,6 +18,7 @@ mod by_size;
 mod chains;
 mod chart;
 mod clock;
+mod conversion;
 mod drivers;
 mod forms;
 mod growth;
@@ -50,7 +51,7 @@ use crate::rounds::Measured;
 use crate::run::{Results, Run};
 
 const USAGE: &str =
-    "usage: ragansils-bench quick|full SEED OUT-FOLDER LMDB-FOLDER   or   ragansils-bench chains|growth|shrink|forms SEED OUT-FOLDER   or   \
+    "usage: ragansils-bench quick|full SEED OUT-FOLDER LMDB-FOLDER   or   ragansils-bench chains|growth|shrink|forms|convert SEED OUT-FOLDER   or   \
     ragansils-bench import|query SEED OUT-FOLDER BUILD-WITH-THE-LIBRARY-BEFORE";
 
 fn main() -> ExitCode {
@@ -64,6 +65,7 @@ fn command(arguments: &[String]) -> Result<(), String> {
         ["growth", seed, out] => growth_alone(number(seed)?, Path::new(out)),
         ["shrink", seed, out] => shrink_alone(number(seed)?, Path::new(out)),
         ["forms", seed, out] => forms_alone(number(seed)?, Path::new(out)),
+        ["convert", seed, out] => convert_alone(number(seed)?, Path::new(out)),
         ["import", seed, out, before] => import_alone(number(seed)?, Path::new(out), Path::new(before)),
         ["query", seed, out, before] => query_alone(number(seed)?, Path::new(out), Path::new(before)),
         ["quick", seed, out, lmdb] => bench(&plan::QUICK, number(seed)?, Path::new(out), Path::new(lmdb)),
@@ -75,7 +77,7 @@ fn command(arguments: &[String]) -> Result<(), String> {
 /// What the program runs of itself, and what one build of it runs of another.
 fn by_itself(words: &[&str]) -> Result<String, String> {
     match *words {
-        // These five under valgrind.
+        // These six under valgrind.
         ["counted", operation, side, form, c] => {
             instructions::run_counted(operation, side, number(form)?, number(c)?)
                 .map(|calls| calls.to_string())
@@ -86,6 +88,9 @@ fn by_itself(words: &[&str]) -> Result<String, String> {
         ["counted-growth", side, c] => growth::run_counted(side, number(c)?).map(|items| items.to_string()),
         ["counted-shrink", side, c] => shrink::run_counted(side, number(c)?).map(|items| items.to_string()),
         ["counted-import", side, c] => import::run_counted(side, number(c)?).map(|calls| calls.to_string()),
+        ["counted-convert", way, form] => {
+            conversion::run_counted(way, number(form)?).map(|items| items.to_string())
+        }
         ["import-round", c, seed] => {
             import::run_round(number(c)?, number(seed)?).map(|times| times.to_string())
         }
@@ -93,6 +98,9 @@ fn by_itself(words: &[&str]) -> Result<String, String> {
             queries::run_round(when, number(c)?, number(seed)?).map(|times| times.to_string())
         }
         ["form-round", c, seed] => forms::run_round(number(c)?, number(seed)?).map(|times| times.to_string()),
+        ["convert-round", c, seed] => {
+            conversion::run_round(number(c)?, number(seed)?).map(|times| times.to_string())
+        }
         _ => Err(USAGE.to_string()),
     }
 }
@@ -132,6 +140,14 @@ fn forms_alone(seed: u64, out: &Path) -> Result<(), String> {
     let forms = forms::measure(&plan::FULL.counts, seed, out, |part| note(begun, part))?;
     write_section("forms", out, report::forms(&forms, seed), forms.times.iter())?;
     forms.check()
+}
+
+/// Writes the section, and then says where a conversion costs more than it may.
+fn convert_alone(seed: u64, out: &Path) -> Result<(), String> {
+    let begun = Instant::now();
+    let conversions = conversion::measure(seed, out, |part| note(begun, part))?;
+    write_section("convert", out, report::conversions(&conversions, seed), conversions.times.iter())?;
+    conversions.check()
 }
 
 /// Writes the section, and then says where an insert or an import costs more than it may.

@@ -1,12 +1,14 @@
 //! The figures as text, for docs/BENCHMARKS.md.
 
 mod builds;
+mod conversion;
 mod forms;
 mod growth;
 mod import;
 mod queries;
 mod shrink;
 
+pub use conversion::conversions;
 pub use forms::forms;
 pub use growth::growths;
 pub use import::imports;
