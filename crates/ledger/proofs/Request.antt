@@ -2,7 +2,7 @@
 -- Assumes nothing.
 use Rattle.tallying.proofs.Sentences.{firstAreCounted, onlyNamedAreCounted, functionsAscend, eachSampleCounts, samplesOfEach, allSamplesCount}
 use Rattle.lines.proofs.Samples.{sampleTextsSay, onlySampleTextsSay, samplesStart, othersDoNot}
-use Rattle.replaying.proofs.Enough.{roomIsEnough, roomMakesAll}
+use Rattle.replaying.proofs.Enough.{roomIsEnough, roomMakesAll, largerIsRefused}
 use Rattle.crediting.proofs.Whole.{reportsAreOne}
 use Rattle.crediting.proofs.Counting.{linesCounted}
 use Rattle.crediting.proofs.Sentences.{badLinesEnd, badEnd, refusedTablesEnd, finalMap, unrecoveredEnds, unrecoveredAtEnd, samplesReported, otherLinesEnd}
@@ -65,5 +65,6 @@ sampleLedger =
             knownPartsWritten = knownPartsWritten;
             roomIsEnough = roomIsEnough;
             roomMakesAll = roomMakesAll;
+            largerIsRefused = largerIsRefused;
           };
     }

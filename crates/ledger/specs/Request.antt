@@ -2,7 +2,7 @@
 -- Assumes nothing.
 use Rattle.tallying.specs.Sentences.{FirstAreCounted, OnlyNamedAreCounted, FunctionsAscend, EachSampleCounts, SamplesOfEach, AllSamplesCount}
 use Rattle.lines.specs.Samples.{SampleTextsSay, OnlySampleTextsSay, SamplesStart, OthersDoNot}
-use Rattle.replaying.specs.Rooms.{RoomIsEnough, RoomMakesAll}
+use Rattle.replaying.specs.Rooms.{RoomIsEnough, RoomMakesAll, LargerIsRefused}
 use Rattle.crediting.specs.Books.{ReportsAreOne}
 use Rattle.crediting.specs.Sentences.{LinesCounted, BadLinesEnd, BadEnd, RefusedTablesEnd, FinalMap, UnrecoveredEnds, UnrecoveredAtEnd}
 use Rattle.crediting.specs.Sentences.{SamplesReported, OtherLinesEnd, TornSamplesEnd, BadFirstSampleEnds, MissingCounted, NamedInOrder, BucketsAdded}
@@ -61,6 +61,7 @@ pub record Written : Type 0 where
   pub knownPartsWritten : KnownPartsWritten
   pub roomIsEnough : RoomIsEnough
   pub roomMakesAll : RoomMakesAll
+  pub largerIsRefused : LargerIsRefused
 
 pub record SampleLedger : Type 0 where
   pub lines : SampleLines

@@ -1,56 +1,60 @@
--- A program's room is enough for every table that it makes.
+-- A program's room is enough for every table that it makes, and for no larger one.
 -- Assumes nothing.
-use Prim.Native.Nat.{ℕ, _+_, _^_, _≤_}
-use mathlib.Core.Path.{_≡_, refl}
-use mathlib.Core.List.{List, []}
-use mathlib.Core.Logic.{_⊎_, inl, inr}
+use Prim.Native.Nat.{ℕ, _+_, _^_, _≤_, _<_}
+use mathlib.Core.Path.{_≡_}
+use mathlib.Core.List.{List}
+use mathlib.Core.Logic.{_⊎_, ⊎-elim, inl, inr}
 use native.Mathlib.Omega.{arith}
+use native.Mathlib.Decide.{decLe}
 use lib.ListN.{length, take}
-use lib.Pow.{pow-mono}
-use lib.Seq.{length-take-le}
-use borrow.Author.Tests.{le-leb}
+use lib.Pow.{pow-mono, pow-add, pow-pos}
+use lib.Seq.{length-take-le, take-all}
 use Rattle.rules.specs.Words.{Table, wordsFor}
-use Rattle.rules.specs.Answers.{verdictMeans}
-use Rattle.rules.specs.Results.{createResult}
-use Rattle.rules.specs.Demands.{GoodCreation, CreatedWords}
-use Rattle.rules.specs.declared.Verdict.{Verdict}
-use Rattle.rules.specs.declared.Verdict.the-variants.{Done}
+use Rattle.rules.specs.Demands.{GoodCreation}
 use Rattle.rules.proofs.Calls.Creating.{createAnswers}
-use Rattle.rules.proofs.Calls.Meanings.{verdict-one}
-use Rattle.following.specs.declared.Script.{Script}
-use Rattle.following.specs.declared.Asked.the-variants.{Table as askTable}
-use Rattle.replaying.specs.Replays.{askedOf}
-use Rattle.replaying.specs.declared.Answer.the-variants.{Created as CreatedAs}
-use Rattle.replaying.specs.declared.Replay.{Replay}
-use Rattle.replaying.specs.Rooms.{RoomIsEnough, RoomMakesAll}
+use Rattle.replaying.specs.Sentences.{Verdicts}
+use Rattle.replaying.specs.Rooms.{RoomIsEnough, RoomMakesAll, LargerIsRefused}
+use Rattle.replaying.proofs.Sentences.{tableMade, tableNotMade}
 
-words-grow : (c : ℕ) → c ≤ 8 → wordsFor c ≤ wordsFor 8
+words-grow : (c d : ℕ) → c ≤ d → wordsFor c ≤ wordsFor d
 unfolding wordsFor
-words-grow c small =
-    let less : c + 1 ≤ 9 = omega (arith, small) in
-    let grows : 2 ^ (c + 1) ≤ 2 ^ 9 = pow-mono less in
+words-grow c d small =
+    let less : c + 1 ≤ d + 1 = omega (arith, small) in
+    let grows : 2 ^ (c + 1) ≤ 2 ^ (d + 1) = pow-mono less in
     omega (arith, grows)
 
-pub roomIsEnough : RoomIsEnough
-roomIsEnough room enough c small = length-take-le (wordsFor c) room (omega (arith, enough, words-grow c small))
+words-more : (c : ℕ) → wordsFor c < wordsFor (c + 1)
+unfolding wordsFor
+words-more c = omega (arith, pow-add 2 (c + 1) 1, pow-pos (c + 1))
 
-module _ (room : List ℕ) (p : Replay) (next : Script) (c k mul1 mul2 : ℕ) (small : c ≤ 8) where
-  made-answer : (v : Verdict) (u : Table) → createResult (take (wordsFor c) room) 1 c k mul1 mul2 ≡ (v, u) → v ≡ Done
-      → askedOf room p next (askTable c k mul1 mul2) .answer ≡ CreatedAs Done
-  made-answer v u e d = rw (le-leb c 8 small, e, d)
+pub roomIsEnough : RoomIsEnough
+roomIsEnough most room enough c small = length-take-le (wordsFor c) room (omega (arith, enough, words-grow c most small))
+
+wrong-length : (size c k mul1 mul2 : ℕ) → size < wordsFor c → GoodCreation size 1 c k mul1 mul2 → ⊥
+unfolding wordsFor
+wrong-length size c k mul1 mul2 short good = omega (arith, short, good .long)
 
 pub roomMakesAll : RoomMakesAll
-roomMakesAll room fits p next c k mul1 mul2 small good =
+roomMakesAll most room few fits p next c k mul1 mul2 small good =
     let t = take (wordsFor c) room in
     let long : length t ≡ wordsFor c = fits c small in
-    let r = createResult t 1 c k mul1 mul2 in
-    made-answer room p next c k mul1 mul2 small (r .0) (r .1) refl (done t long (createAnswers t 1 c k mul1 mul2))
+    tableMade room p next c k mul1 mul2 (omega (arith, small, few))
+    (⊎-elim (λ x. x .1) (λ x. absurd (x .0 (rw (← long) at good))) (createAnswers t 1 c k mul1 mul2)) .0
+
+pub largerIsRefused : LargerIsRefused
+largerIsRefused most room long p next c k mul1 mul2 large = tableNotMade room p next c k mul1 mul2 (go (decLe c 8)) .0
   where
-    done : (t : Table) → length t ≡ wordsFor c
-        → (GoodCreation (length t) 1 c k mul1 mul2 × (verdictMeans (createResult t 1 c k mul1 mul2 .0) ≡ record { number = 0; values = [] })
-        × CreatedWords (length t) 1 c k mul1 mul2 (createResult t 1 c k mul1 mul2 .1))
-        ⊎ ((GoodCreation (length t) 1 c k mul1 mul2
-        → ⊥) × (verdictMeans (createResult t 1 c k mul1 mul2 .0) ≡ record { number = 13; values = [] }) × (createResult t 1 c k mul1 mul2 .1 ≡ t))
-        → createResult t 1 c k mul1 mul2 .0 ≡ Done
-    done t long (inl x) = verdict-one (createResult t 1 c k mul1 mul2 .0) Done (x .1)
-    done t long (inr x) = absurd (x .0 (rw (← long) at good))
+    t : Table
+    t = take (wordsFor c) room
+
+    short : length t < wordsFor c
+    short =
+        let more : wordsFor most < wordsFor c = omega (arith, words-more most, words-grow (most + 1) c (omega (arith, large))) in
+        rw (take-all (wordsFor c) room (omega (arith, long, more))) (omega (arith, long, more))
+
+    denied : Verdicts room c k mul1 mul2 13
+    denied = ⊎-elim (λ x. absurd (wrong-length (length t) c k mul1 mul2 short (x .0))) (λ x. x .1) (createAnswers t 1 c k mul1 mul2)
+
+    go : Dec (c ≤ 8) → (8 < c) ⊎ ((c ≤ 8) × Verdicts room c k mul1 mul2 13)
+    go (yes small) = inr (small, denied)
+    go (no more) = inl (omega arith)

@@ -361,12 +361,12 @@ pub behind-next : {s u v : Stand} {n : ℕ} {input : List ℕ} {r : Turn} → Be
     → Behind afterBytes s (n + 1) v
 behind-next {n = n} b t e = let o = read-onward t in behind-more b o (n + 1) (omega (arith, o .some e))
 
-pub ran : {s u v : Stand} {n : ℕ} {input : List ℕ} {r : Turn} → RoomFor (s .room) → Behind afterBytes s n u
+pub ran : {s u v : Stand} {n : ℕ} {input : List ℕ} {r : Turn} → RoomFor 8 (s .room) → Behind afterBytes s n u
     → ReadSome u input r v → (r .outcome ≡ Going → ⊥)
     → Ran s (r .outcome) v
 ran {n = n} fits b t stops =
     let o = read-onward t in
     record { count = n; behind = behind-more b o n (omega arith); rightly = o .rightly; never = λ e. absurd (stops e); room = fits }
 
-pub ran-on : {s u : Stand} {n : ℕ} → RoomFor (s .room) → Behind afterBytes s n u → 2 ^ 64 ≤ n + 1 → Ran s Going u
+pub ran-on : {s u : Stand} {n : ℕ} → RoomFor 8 (s .room) → Behind afterBytes s n u → 2 ^ 64 ≤ n + 1 → Ran s Going u
 ran-on {n = n} fits b e = record { count = n; behind = b; rightly = λ k. absurd (differ Going Known refl k); never = λ _. e; room = fits }

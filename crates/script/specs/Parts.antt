@@ -92,4 +92,4 @@ pub record Ran (s : Stand) (outcome : Outcome) (u : Stand) : Type 0 where
   pub behind : Behind afterBytes s count u
   pub rightly : outcome ≡ Known → known (u .run) ≡ true
   pub never : outcome ≡ Going → 2 ^ 64 ≤ count + 1
-  pub room : RoomFor (s .room)
+  pub room : RoomFor 8 (s .room)

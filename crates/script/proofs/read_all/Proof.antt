@@ -45,7 +45,7 @@ returns : tie.Need-returns Inv-loop μ-loop
 returns c =
     let d = c .before .before .before .before .before .before .before .before in
     let l = d .before .before .before .before .before .before in
-    ran (roomIsEnough _ (l .before .before .before .before .before .pre .0)) (d .before .before .before .before .before .before .loop .inv .4)
+    ran (roomIsEnough 8 _ (l .before .before .before .before .before .pre .0)) (d .before .before .before .before .before .before .loop .inv .4)
     (d .read-some .ensures) (not-going _ (c .match .keys2))
 
 add-parts : tie.Need-add-parts Inv-loop μ-loop
@@ -77,7 +77,7 @@ same-length-6 c = search needs
 returns-2 : tie.Need-returns-2 Inv-loop μ-loop
 returns-2 c =
     let v = c .before .loop .inv in
-    ran-on (roomIsEnough _ (c .before .before .before .before .before .before .pre .0)) (v .4) (omega (arith, c .loop-test .left, v .3))
+    ran-on (roomIsEnough 8 _ (c .before .before .before .before .before .before .pre .0)) (v .4) (omega (arith, c .loop-test .left, v .3))
 
 pub read-all-spec : {M : Type 1} → statement M
 read-all-spec =
