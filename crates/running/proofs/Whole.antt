@@ -11,12 +11,14 @@ use lib.Dec.{eqb, ltb}
 use lib.Seq.{take-all, take-append-le, take-suc-set}
 use borrow.Author.Tests.{lt-ltb, le-ltb}
 use Rattle.lines.specs.Lines.{lineOf}
-use Rattle.replaying.specs.Replays.{begun, Turned, turnOf}
+use Rattle.lines.specs.declared.Line.{Line}
+use Rattle.replaying.specs.Replays.{begun, Turned, turnOf, finishOf}
 use Rattle.replaying.specs.declared.Answer.{Answer}
 use Rattle.replaying.specs.declared.Answer.the-variants.{Nothing}
 use Rattle.replaying.specs.declared.Replay.{Replay}
-use Rattle.running.specs.Runs.{joined, split, answers, answersTo, lineRoom, heldAfter, After, byteTaken, endOf, fed, silent, spoken}
-use Rattle.running.specs.Runs.{BytesAnswerAsLines}
+use Rattle.running.specs.Runs.{joined, split, overLines, answers, answersTo, ready, lineRoom, heldAfter, After, byteTaken, endOf, overBytes, fed}
+use Rattle.running.specs.Runs.{silent, spoken, BytesAnswerAsLines}
+use Rattle.running.specs.declared.Run.{Run}
 use Rattle.running.proofs.Lengths.{line-enough}
 
 -- ---- lines whose first begins with bytes that were read before
@@ -93,45 +95,71 @@ held-some (b ∷ read) line held h = lt-ltb 0 held (omega (arith, h .count))
 said-line : (read line : List ℕ) (held : ℕ) → Holds read line held → lineOf (take held line) ≡ lineOf read
 said-line read line held h = ap lineOf (h .bytes) ∙ line-enough read
 
-spoken-next : (a : Answer) (x y : List Answer) → spoken x ≡ spoken y → spoken (a ∷ x) ≡ spoken (a ∷ y)
-spoken-next a x y e = ap (λ (z : List Answer). cond (silent a) z (a ∷ z)) e
+-- ---- every byte in turn
 
-fed-lines : (bs : List ℕ) (p : Replay) (held : ℕ) (room line read : List ℕ) → Holds read line held
-    → spoken (fed (record { replay = p; held = held }) room line bs) ≡ spoken
-    (answers room p (map lineOf (prefixed read (split bs) .0)) (prefixed read (split bs) .1))
-unfolding endOf byteTaken
-fed-lines [] p held room line read h = rw (held-some read line held h)
-fed-lines (b ∷ bs) p held room line read h =
-    go (eqb b 10) (λ q room₂. fed-lines bs q 0 room₂ line [] (holds-nothing line (h .long)))
-    (fed-lines bs p _ room _ (read ++ (b ∷ [])) (holds-more read line held b h))
-  where
-    t : Turned
-    t = turnOf room p (lineOf (take held line))
+-- what passes over the answers that say nothing is the same over the bytes as over the lines
+module _ {A : Type 0} (with-answer : Answer → A → A) (at-end : List ℕ → Replay → Bool → A)
+    (passes : (x : A) → with-answer Nothing x ≡ x) where
+  over-read : (bs : List ℕ) (p : Replay) (held : ℕ) (room line read : List ℕ) → Holds read line held
+      → overBytes with-answer at-end (record { replay = p; held = held }) room line bs
+      ≡ overLines with-answer at-end room p (map lineOf (prefixed read (split bs) .0)) (prefixed read (split bs) .1)
+  unfolding byteTaken
+  over-read [] p held room line read h = ap (at-end room p) (held-some read line held h)
+  over-read (b ∷ bs) p held room line read h =
+      go (eqb b 10) (λ q room₂. over-read bs q 0 room₂ line [] (holds-nothing line (h .long)))
+      (over-read bs p _ room _ (read ++ (b ∷ [])) (holds-more read line held b h))
+    where
+      t : Turned
+      t = turnOf room p (lineOf (take held line))
 
-    next : Bool → After
-    next d =
-        cond d (record { run = record { replay = t .replay; held = 0 }; room = t .room; line = line; answer = t .answer })
-        (record { run = record { replay = p; held = heldAfter line held b .0 }; room = room; line = heldAfter line held b .1; answer = Nothing })
+      next : Bool → After
+      next d =
+          cond d (record { run = record { replay = t .replay; held = 0 }; room = t .room; line = line; answer = t .answer })
+          (record { run = record { replay = p; held = heldAfter line held b .0 }; room = room; line = heldAfter line held b .1; answer = Nothing })
 
-    lines : Bool → List (List ℕ) × Bool
-    lines d = cond d ([] ∷ split bs .0, split bs .1) (joined b (split bs))
+      lines : Bool → List (List ℕ) × Bool
+      lines d = cond d ([] ∷ split bs .0, split bs .1) (joined b (split bs))
 
-    go : (d : Bool)
-        → ((q : Replay) (room₂ : List ℕ)
-        → spoken (fed (record { replay = q; held = 0 }) room₂ line bs) ≡ spoken
-        (answers room₂ q (map lineOf (prefixed [] (split bs) .0)) (prefixed [] (split bs) .1)))
-        → spoken (fed (record { replay = p; held = heldAfter line held b .0 }) room (heldAfter line held b .1) bs) ≡ spoken
-        (answers room p (map lineOf (prefixed (read ++ (b ∷ [])) (split bs) .0)) (prefixed (read ++ (b ∷ [])) (split bs) .1))
-        → spoken (next d .answer ∷ fed (next d .run) (next d .room) (next d .line) bs) ≡ spoken
-        (answers room p (map lineOf (prefixed read (lines d) .0)) (prefixed read (lines d) .1))
-    go true ended more =
-        let said : turnOf room p (lineOf (read ++ [])) ≡ t = rw (append-nil read, ← (said-line read line held h)) in
-        let rest = rw (prefixed-nothing (split bs)) at (ended (t .replay) (t .room)) in
-        let x = fed (record { replay = t .replay; held = 0 }) (t .room) line bs in
-        let y = answers (t .room) (t .replay) (map lineOf (split bs .0)) (split bs .1) in
-        rw said (spoken-next (t .answer) x y rest)
-    go false ended more = rw (prefixed-joined read b (split bs)) more
+      go : (d : Bool)
+          → ((q : Replay) (room₂ : List ℕ)
+          → overBytes with-answer at-end (record { replay = q; held = 0 }) room₂ line bs
+          ≡ overLines with-answer at-end room₂ q (map lineOf (prefixed [] (split bs) .0)) (prefixed [] (split bs) .1))
+          → overBytes with-answer at-end (record { replay = p; held = heldAfter line held b .0 }) room (heldAfter line held b .1) bs
+          ≡ overLines with-answer at-end room p (map lineOf (prefixed (read ++ (b ∷ [])) (split bs) .0)) (prefixed (read ++ (b ∷ [])) (split bs) .1)
+          → with-answer (next d .answer) (overBytes with-answer at-end (next d .run) (next d .room) (next d .line) bs)
+          ≡ overLines with-answer at-end room p (map lineOf (prefixed read (lines d) .0)) (prefixed read (lines d) .1)
+      go true ended more =
+          let said : turnOf room p (lineOf (read ++ [])) ≡ t = rw (append-nil read, ← (said-line read line held h)) in
+          let rest = rw (prefixed-nothing (split bs)) at (ended (t .replay) (t .room)) in
+          rw said (ap (with-answer (t .answer)) rest)
+      go false ended more = rw (prefixed-joined read b (split bs)) (passes _ ∙ more)
+
+  pub over-bytes : (room line input : List ℕ) → length line ≡ lineRoom
+      → overBytes with-answer at-end ready room line input
+      ≡ overLines with-answer at-end room begun (map lineOf (split input .0)) (split input .1)
+  over-bytes room line input long = rw (prefixed-nothing (split input)) at (over-read input begun 0 room line [] (holds-nothing line long))
+
+-- ---- the answers that say something
+
+abbrev speak : Answer → List Answer → List Answer
+speak a rest = cond (silent a) rest (a ∷ rest)
+
+abbrev last : List ℕ → Replay → Bool → List Answer
+last room p torn = spoken (finishOf p torn ∷ [])
+
+spoken-lines : (room : List ℕ) (p : Replay) (ls : List Line) (torn : Bool) → spoken (answers room p ls torn) ≡ overLines speak last room p ls torn
+spoken-lines room p [] torn = refl
+spoken-lines room p (l ∷ ls) torn =
+    let t = turnOf room p l in ap (speak (t .answer)) (spoken-lines (t .room) (t .replay) ls torn)
+
+spoken-bytes : (run : Run) (room line bs : List ℕ) → spoken (fed run room line bs) ≡ overBytes speak last run room line bs
+unfolding endOf
+spoken-bytes run room line [] = refl
+spoken-bytes run room line (b ∷ bs) =
+    let x = byteTaken run room line b in ap (speak (x .answer)) (spoken-bytes (x .run) (x .room) (x .line) bs)
 
 pub bytesAnswerAsLines : BytesAnswerAsLines
 unfolding answersTo
-bytesAnswerAsLines room line input long = rw (prefixed-nothing (split input)) at (fed-lines input begun 0 room line [] (holds-nothing line long))
+bytesAnswerAsLines room line input long =
+    spoken-bytes ready room line input ∙ over-bytes speak last (λ x. refl) room line input long
+    ∙ sym (spoken-lines room begun (map lineOf (split input .0)) (split input .1))

@@ -49,7 +49,14 @@ someOf (b ∷ bs) = true
 abbrev pub LinesSplit : Type 0
 LinesSplit = (ls : List (List ℕ)) (rest : List ℕ) → Lines ls → NoNewline rest → split (withEnds ls rest) ≡ (ls, someOf rest)
 
--- every line in turn, then the end
+-- Every line in turn, then the end, whatever is made of them: `with-answer` makes it of what a line is answered and of what was made of the lines
+-- behind it, `at-end` of the words, the replay and whether a line is torn
+abbrev pub overLines : {A : Type 0} → (Answer → A → A) → (List ℕ → Replay → Bool → A) → List ℕ → Replay → List Line → Bool → A
+overLines with-answer at-end room p [] torn = at-end room p torn
+overLines with-answer at-end room p (l ∷ ls) torn =
+    let t = turnOf room p l in with-answer (t .answer) (overLines with-answer at-end (t .room) (t .replay) ls torn)
+
+-- the answers
 abbrev pub answers : List ℕ → Replay → List Line → Bool → List Answer
 answers room p [] torn = finishOf p torn ∷ []
 answers room p (l ∷ ls) torn = let t = turnOf room p l in t .answer ∷ answers (t .room) (t .replay) ls torn
@@ -121,7 +128,12 @@ endOf run = finishOf (run .replay) (ltb 0 (run .held))
 
 -- ---- the two are one
 
--- every byte in turn, then the end
+-- the same of every byte in turn
+abbrev pub overBytes : {A : Type 0} → (Answer → A → A) → (List ℕ → Replay → Bool → A) → Run → List ℕ → List ℕ → List ℕ → A
+overBytes with-answer at-end run room line [] = at-end room (run .replay) (ltb 0 (run .held))
+overBytes with-answer at-end run room line (b ∷ bs) =
+    let x = byteTaken run room line b in with-answer (x .answer) (overBytes with-answer at-end (x .run) (x .room) (x .line) bs)
+
 abbrev pub fed : Run → List ℕ → List ℕ → List ℕ → List Answer
 fed run room line [] = endOf run ∷ []
 fed run room line (b ∷ bs) = let x = byteTaken run room line b in x .answer ∷ fed (x .run) (x .room) (x .line) bs
