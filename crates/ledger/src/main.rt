@@ -11,6 +11,7 @@ use posting::ready;
 use posting::take_part;
 use reporting::report;
 use running::LINE_ROOM;
+use running::Outcome;
 use tallying::MOST;
 ghost use Prim.Native.Nat.{ℕ, _≤_};
 ghost use mathlib.Core.Path.{_≡_};
@@ -18,17 +19,11 @@ ghost use mathlib.Core.List.{List};
 ghost use lib.ListN.{length};
 ghost use Rattle.rules.specs.Words.{wordsFor};
 ghost use Rattle.tallying.specs.Credits.{Orderly};
-ghost use Rattle.posting.specs.Posts.{begun, postOf};
+ghost use Rattle.replaying.specs.Rooms.{RoomFor};
+ghost use Rattle.running.specs.Inputs.{ReadSome, Ran};
+ghost use Rattle.posting.specs.Posts.{begun, afterBytes, postOf};
 ghost use Rattle.reporting.specs.Promises.{longest};
-ghost use Rattle.ledger.specs.Parts.{turnedTo, OrderlyTurn, writtenAfter, Fronted, ReadSome, Ran};
-
-// How the program goes on: it reads more; the report is known; the input has ended; or a read has failed.
-enum Outcome {
-    Going,
-    Known,
-    Ended,
-    Unread,
-}
+ghost use Rattle.ledger.specs.Parts.{knownIn, turnedTo, OrderlyTurn, writtenAfter, Fronted};
 
 struct Turn {
     posting: Posting,
@@ -45,7 +40,8 @@ fn read_some(
     input: &mut [u8],
 ) -> Turn
     requires { ⌜ Orderly (p .ledger .counts .tally .used) (now functions) (now samples) ⌝ }
-    ensures { λ r. ⌜ ReadSome (postOf p (now (room .entry)) (now (functions .entry)) (now (samples .entry)) (now (line .entry))) (now (input .exit)) r
+    ensures { λ r. ⌜ ReadSome afterBytes knownIn (postOf p (now (room .entry)) (now (functions .entry)) (now (samples .entry)) (now (line .entry)))
+        (now (input .exit)) (r .outcome)
         (turnedTo r (now (room .exit)) (now (functions .exit)) (now (samples .exit)) (now (line .exit)))
         × OrderlyTurn r (now (functions .exit)) (now (samples .exit)) ⌝ }
 {
@@ -86,9 +82,9 @@ fn read_all(
     input: &mut [u8],
 ) -> Turn
     requires { ⌜ (wordsFor 8 ≤ length (now room)) × (length (now functions) ≡ 512) × (length (now samples) ≡ 512) ⌝ }
-    ensures { λ r. ⌜ Ran (begun (now (room .entry)) (now (line .entry))) (r .outcome)
+    ensures { λ r. ⌜ Ran afterBytes knownIn (begun (now (room .entry)) (now (line .entry))) (r .outcome)
         (turnedTo r (now (room .exit)) (now (functions .exit)) (now (samples .exit)) (now (line .exit)))
-        × OrderlyTurn r (now (functions .exit)) (now (samples .exit)) ⌝ }
+        × OrderlyTurn r (now (functions .exit)) (now (samples .exit)) × RoomFor 8 (now (room .entry)) ⌝ }
 {
     let mut posting = ready();
     let mut parts: u64 = 0;

@@ -4,3 +4,4 @@ pub mod Splitting
 pub mod Whole
 pub mod Parts
 pub mod Only
+pub mod Inputs

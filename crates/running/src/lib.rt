@@ -25,6 +25,15 @@ pub struct Taken {
     pub answer: Answer,
 }
 
+// How a program goes on that reads its input part by part: it reads more; all that it will write is known; the input has ended; or a read has
+// failed.
+pub enum Outcome {
+    Going,
+    Known,
+    Ended,
+    Unread,
+}
+
 pub fn ready() -> Run
     ensures { λ r. ⌜ r ≡ readyOf ⌝ }
 {

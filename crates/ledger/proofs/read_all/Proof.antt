@@ -1,7 +1,9 @@
 -- `ledger::read_all` meets its contract.
 -- Assumes nothing.
-use Rattle.ledger.proofs.Parts.{behind-none, behind-next, not-going, ran, ran-on, orderly-none}
 use Rattle.running.specs.Runs.{Behind}
+use Rattle.running.proofs.Inputs.{behind-next, not-going, ran, ran-on}
+use Rattle.ledger.specs.Parts.{knownIn}
+use Rattle.ledger.proofs.Parts.{takes, behind-first, orderly-none}
 use Rattle.posting.specs.Posts.{begun, afterBytes, postOf}
 use Rattle.replaying.proofs.Enough.{roomIsEnough}
 use Rattle.tallying.specs.Credits.{Orderly}
@@ -37,7 +39,7 @@ loop-holds c =
       refl,
       omega arith,
       orderly-none (c .ready .ensures .1) _ _ (p .1) (p .2),
-      behind-none
+      behind-first
           (c .ready .result) _ _ _ _ (c .ready .ensures .0),
     )
 
@@ -65,9 +67,9 @@ returns c =
     let at-loop = at-before .before .before .before .before .before .before .before .before in
     let start = at-loop .before .before .before .before .before .before in
     let d = at-before .before in (
-      ran (roomIsEnough _ (start .pre .0)) (at-loop .loop .inv .6) (d .read-some .ensures .0)
-          (not-going (d .read-some .result .outcome) (c .match .keys2)),
+      ran takes knownIn (at-loop .loop .inv .6) (d .read-some .ensures .0) (not-going (d .read-some .result .outcome) (c .match .keys2)),
       d .read-some .ensures .1,
+      roomIsEnough 8 _ (start .pre .0),
     )
 
 add-parts : tie.Need-add-parts Inv-loop μ-loop
@@ -90,7 +92,7 @@ loop-again c = (
   c .before .before .before .before .before .before .before .before .before .before .before .read-some .ensures .1,
   let at-read-some = c .before .before .before .before .before .before .before .before .before .before .before in
       let at-loop = at-read-some .before .before .before .before .before .before .before in
-      behind-next (at-loop .loop .inv .6) (at-read-some .read-some .ensures .0) (c .enum-told .given .1),
+      behind-next takes knownIn (at-loop .loop .inv .6) (at-read-some .read-some .ensures .0) (c .enum-told .given .1),
 )
 
 same-length-5 : tie.Need-same-length-5 Inv-loop μ-loop
@@ -106,8 +108,12 @@ same-length-8 : tie.Need-same-length-8 Inv-loop μ-loop
 same-length-8 c = search needs
 
 returns-2 : tie.Need-returns-2 Inv-loop μ-loop
-returns-2 c = let v = c .before .loop .inv in
-    (ran-on (roomIsEnough _ (c .before .before .before .before .before .before .before .pre .0)) (v .6) (omega (arith, c .loop-test .left, v .4)), v .5)
+returns-2 c =
+    let v = c .before .loop .inv in (
+      ran-on takes knownIn (v .6) (omega (arith, c .loop-test .left, v .4)),
+      v .5,
+      roomIsEnough 8 _ (c .before .before .before .before .before .before .before .pre .0),
+    )
 
 pub read-all-spec : {M : Type 1} → statement M
 read-all-spec =

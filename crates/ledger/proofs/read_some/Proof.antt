@@ -1,6 +1,8 @@
 -- `ledger::read_some` meets its contract.
 -- Assumes nothing.
-use Rattle.ledger.proofs.Parts.{read-known, read-failed, read-ended, read-taken}
+use Rattle.running.proofs.Inputs.{read-known, read-failed, read-ended, read-taken}
+use Rattle.ledger.specs.Parts.{knownIn}
+use Rattle.ledger.proofs.Parts.{takes}
 use mathlib.Core.Path.{sym, _∙_}
 use borrow.Author.Needs.{needs}
 use Rattle.ledger.proofs.read_some.Statement.{statement}
@@ -13,7 +15,7 @@ returns : tie.Need-returns
 returns c =
     let at-known = c .before in
     let start = at-known .before .before .before .before .before .before in
-    (read-known (start .args .p) _ _ _ _ _ (sym (at-known .known .ensures) ∙ c .if1 .taken), start .pre)
+    (read-known takes knownIn (sym (at-known .known .ensures) ∙ c .if1 .taken), start .pre)
 
 read-requires : tie.Need-read-requires
 read-requires c κs = search needs
@@ -26,7 +28,7 @@ returns-2 c =
     let at-if1 = c .before .before .before .before .before in
     let at-known = at-if1 .before in
     let start = at-known .before .before .before .before .before .before in
-    (read-failed (start .args .p) _ _ _ _ _ (sym (at-known .known .ensures) ∙ at-if1 .if1 .left), start .pre)
+    (read-failed takes knownIn (sym (at-known .known .ensures) ∙ at-if1 .if1 .left), start .pre)
 
 count-requires : tie.Need-count-requires
 count-requires c κs = search needs
@@ -39,7 +41,7 @@ returns-3 c =
     let at-if1 = c .before .before .before .before .before .before .before .before in
     let at-known = at-if1 .before in
     let start = at-known .before .before .before .before .before .before in
-    (read-ended (start .args .p) _ _ _ _ _ (sym (at-known .known .ensures) ∙ at-if1 .if1 .left), start .pre)
+    (read-ended takes knownIn (sym (at-known .known .ensures) ∙ at-if1 .if1 .left), start .pre)
 
 slice-reshare-prefix-take-part : tie.Need-slice-reshare-prefix-take-part
 slice-reshare-prefix-take-part c = search needs
@@ -71,8 +73,8 @@ returns-4 c =
     let at-known = at-if1 .before in
     let start = at-known .before .before .before .before .before .before in
     let d = at-take-part .take-part .ensures in (
-      read-taken (start .args .p) _ _ _ _ _ (sym (at-known .known .ensures) ∙ at-if1 .if1 .left)
-          (at-count .count .result) (at-if3 .if3 .left) (at-count .count .ensures .0 .0) d,
+      read-taken takes knownIn (sym (at-known .known .ensures) ∙ at-if1 .if1 .left)
+          (at-count .count .result) (at-if3 .if3 .left) (at-count .count .ensures .0 .0) (d .post),
       d .orderly,
     )
 
