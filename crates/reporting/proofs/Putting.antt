@@ -1,37 +1,22 @@
 -- A report's lines, put into a buffer one after the other.
 -- Assumes nothing.
 use Prim.Native.Nat.{ℕ, _+_, _*_, _≤_, _<_}
-use Prim.Native.String.{String}
 use mathlib.Core.Path.{_≡_, refl, sym, ap, _∙_}
 use mathlib.Core.List.{List, [], _∷_, _++_, append-assoc, append-nil}
 use native.Mathlib.Numerals.{add-one}
 use native.Mathlib.Omega.{arith}
 use lib.ListN.{length, take, getD}
-use lib.Seq.{take-suc, take-take, length-take-le}
+use lib.Seq.{take-suc, length-take-le}
 use Rattle.lines.specs.Lines.{bytes}
 use Rattle.lines.specs.Texts.{decimalText}
 use Rattle.saying.specs.Texts.{lineText}
 use Rattle.saying.specs.Writing.{putAt, Put, lineWith}
-use Rattle.saying.proofs.Puts.{put-length, then, put-text}
+use Rattle.saying.proofs.Puts.{put-fits, put-lent, then}
 use Rattle.crediting.specs.Ledgers.{Figures}
 use Rattle.crediting.specs.Books.{reportAt}
 use Rattle.crediting.specs.declared.Stage.{Stage}
 use Rattle.reporting.specs.Texts.{functionText, functionTexts, countsText, reportText}
 use Rattle.reporting.specs.Promises.{Reported}
-
--- ---- a text that is put into a small buffer first
-
-module _ {text : List ℕ} {from n : ℕ} {l m : List ℕ} (p : Put text from l n m) where
-  pub put-fits : n ≤ length m
-  put-fits = omega (arith, p .room, p .next, put-length p)
-
-  pub put-lent : n ≡ length (take n m)
-  put-lent = sym (length-take-le n m put-fits)
-
-pub put-again : {text : List ℕ} {n : ℕ} {l m : List ℕ} → Put text 0 l n m → {at r : ℕ} {out left : List ℕ}
-    → Put (take n (take n m)) at out r left
-    → Put text at out r left
-put-again {n = n} {m = m} p q = let whole : take n (take n m) ≡ _ = take-take n n m (omega arith) ∙ put-text p in rw whole at q
 
 -- ---- a line for each function
 
@@ -87,9 +72,3 @@ counts-put x p q r s t = then (then (then (then p q) r) s) t
 pub reported : {s : Stage} (x : Figures) (own : Stage) {l m : List ℕ} {r : ℕ} → s ≡ own → Put (reportText (reportAt own x)) 0 l r m
     → Reported (reportAt s x) l r m
 reported x own e p = rw e (record { put = p; within = (put-fits p, put-lent p) })
-
--- a report of one line
-pub line-put : (name : String) (n k : ℕ) → n ≡ k → {l m : List ℕ} {r : ℕ} → Put (lineWith (bytes name ++ bytes "=") n) 0 l r m
-    → Put (lineText (name, k)) 0 l r m
-unfolding lineWith
-line-put name n k e p = rw (← e) p

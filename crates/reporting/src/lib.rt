@@ -6,26 +6,16 @@ use numbering::number;
 use saying::TEXT_BYTES;
 use saying::copy;
 use saying::copy_text;
-use saying::line;
+use saying::put_line;
 use saying::tell;
 ghost use Prim.Native.Nat.{_+_, _*_, _≤_};
 ghost use mathlib.Core.Path.{_≡_};
 ghost use lib.ListN.{length, take};
 ghost use Rattle.tallying.specs.Credits.{Orderly};
-ghost use Rattle.saying.specs.Writing.{Put, lineWith};
+ghost use Rattle.saying.specs.Writing.{Put};
 ghost use Rattle.crediting.specs.Books.{figuresIn, reportAt};
 ghost use Rattle.reporting.specs.Texts.{functionText, functionTexts, countsText};
 ghost use Rattle.reporting.specs.Promises.{longest, Reported};
-
-// Puts a line, of a name with its `=` and a number, from byte `at` on, and answers the next free byte.
-fn put_line(name: &[u8], value: u64, out: &mut [u8], at: usize) -> usize
-    requires { ⌜ (length (now name) ≤ 8) × (at + length (now name) + 21 ≤ length (now out)) ⌝ }
-    ensures { λ r. ⌜ Put (lineWith (now (name .entry)) value) at (now (out .entry)) r (now (out .exit)) × (r ≤ at + length (now (name .entry)) + 21) ⌝ }
-{
-    let mut text = [0u8; TEXT_BYTES];
-    let n = line(name, value, &mut text, 0);
-    copy(&text[..n], n, out, at)
-}
 
 // "one `fn` line for each function ascending (as `fn10=3`)"
 fn put_function(function: u64, samples: u64, out: &mut [u8], at: usize) -> usize

@@ -1,4 +1,4 @@
 mod Decimals
 pub mod Puts
-mod LinesPut
+pub mod LinesPut
 pub mod Only

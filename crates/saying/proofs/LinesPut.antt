@@ -1,6 +1,7 @@
 -- Lines that are put one after the other, and what is promised of an answer whose lines are put from the front.
 -- Assumes nothing.
 use Prim.Native.Nat.{ℕ, _+_, _≤_}
+use Prim.Native.String.{String}
 use mathlib.Core.Path.{_≡_, refl, ap, subst, _∙_}
 use mathlib.Core.List.{List, [], _∷_, _++_, flatMap, append-nil, append-assoc}
 use native.Mathlib.Nat.{zero-add}
@@ -30,6 +31,11 @@ named x = lineWith (bytes (x .0) ++ bytes "=") (x .1)
 line-text : (x : Line) → named x ≡ lineText x
 unfolding lineWith
 line-text x = refl
+
+-- a line alone, whose number is told as another that it equals
+pub line-put : (name : String) (n k : ℕ) → n ≡ k → {at r : ℕ} {l m : List ℕ} → Put (named (name, n)) at l r m → Put (lineText (name, k)) at l r m
+unfolding lineWith
+line-put name n k e p = rw (← e) p
 
 pub last-line : (x : Line) {at r : ℕ} {l m : List ℕ} → Put (named x) at l r m → Put (flatMap lineText (x ∷ [])) at l r m
 unfolding flatMap

@@ -1,13 +1,13 @@
 -- A text is put byte by byte, and texts that are put one after the other are put as one text.
 -- Assumes nothing.
 use Prim.Native.Nat.{ℕ, suc, _+_, _≤_, _<_}
-use mathlib.Core.Path.{_≡_, refl, ap, _∙_}
+use mathlib.Core.Path.{_≡_, refl, sym, ap, _∙_}
 use mathlib.Core.List.{List, [], _∷_, _++_}
 use native.Mathlib.Nat.{add-zero}
 use native.Mathlib.Numerals.{add-one}
 use native.Mathlib.Omega.{arith}
 use lib.ListN.{length, take, getD, set, length-append}
-use lib.Seq.{sets, length-sets, length-take-le, sets-eq, take-suc, take-at}
+use lib.Seq.{sets, length-sets, length-take-le, sets-eq, take-suc, take-at, take-take}
 use Rattle.saying.specs.Writing.{putAt, Put}
 
 sets-append : (l : List ℕ) (at : ℕ) (xs ys : List ℕ) → sets l at (xs ++ ys) ≡ sets (sets l at xs) (at + length xs) ys
@@ -58,3 +58,17 @@ put-text {text} {at} {l = l} p =
     let size : length (take at l ++ text) ≡ at + length text = length-append (take at l) text
     ∙ ap (λ (n : ℕ). n + length text) (length-take-le at l (omega (arith, p .room))) in
     rw (p .buffer, sets-eq text l at (p .room), p .next) (take-at (take at l ++ text) _ _ size)
+
+-- ---- a text that is put into a small buffer first
+
+module _ {text : List ℕ} {from n : ℕ} {l m : List ℕ} (p : Put text from l n m) where
+  pub put-fits : n ≤ length m
+  put-fits = omega (arith, p .room, p .next, put-length p)
+
+  pub put-lent : n ≡ length (take n m)
+  put-lent = sym (length-take-le n m put-fits)
+
+pub put-again : {text : List ℕ} {n : ℕ} {l m : List ℕ} → Put text 0 l n m → {at r : ℕ} {out left : List ℕ}
+    → Put (take n (take n m)) at out r left
+    → Put text at out r left
+put-again {n = n} {m = m} p q = let whole : take n (take n m) ≡ _ = take-take n n m (omega arith) ∙ put-text p in rw whole at q

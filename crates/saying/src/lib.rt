@@ -68,6 +68,17 @@ pub fn line(name: &[u8], number: u64, out: &mut [u8; TEXT_BYTES], at: usize) -> 
     copy_text(b"\n", 1, out, told)
 }
 
+// The same into a longer buffer.
+pub fn put_line(name: &[u8], number: u64, out: &mut [u8], at: usize) -> usize
+    requires { ⌜ (length (now name) ≤ 8) × (at + length (now name) + 21 ≤ length (now out)) ⌝ }
+    ensures { λ r. ⌜ Put (lineWith (now (name .entry)) number) at (now (out .entry)) r (now (out .exit))
+        × (r ≤ at + length (now (name .entry)) + 21) ⌝ }
+{
+    let mut row = [0u8; TEXT_BYTES];
+    let n = line(name, number, &mut row, 0);
+    copy(&row[..n], n, out, at)
+}
+
 // "After `made=13` comes `events=0`"
 fn created(verdict: Verdict, out: &mut [u8; TEXT_BYTES]) -> usize
     ensures { λ r. ⌜ PutLines (Answer.Created verdict) (now (out .entry)) r (now (out .exit)) ⌝ }

@@ -1,6 +1,7 @@
 -- `reporting::put_function` meets its contract.
 -- Assumes nothing.
-use Rattle.reporting.proofs.Putting.{put-fits, put-lent, put-again, function-put}
+use Rattle.saying.proofs.Puts.{put-fits, put-lent, put-again}
+use Rattle.reporting.proofs.Putting.{function-put}
 use native.Mathlib.Omega.{arith}
 use borrow.Author.Needs.{needs}
 use Rattle.reporting.proofs.put_function.Statement.{statement}

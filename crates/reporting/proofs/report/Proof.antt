@@ -1,6 +1,7 @@
 -- `reporting::report` meets its contract.
 -- Assumes nothing.
-use Rattle.reporting.proofs.Putting.{reported, line-put}
+use Rattle.saying.proofs.LinesPut.{line-put}
+use Rattle.reporting.proofs.Putting.{reported}
 use Rattle.rules.specs.Answers.{numberOf}
 use mathlib.Core.Path.{refl}
 use borrow.Author.Needs.{needs}

@@ -1,16 +1,16 @@
--- `reporting::put_line` meets its contract.
+-- `saying::put_line` meets its contract.
 -- Assumes nothing.
-use Rattle.reporting.proofs.Putting.{put-fits, put-lent, put-again}
+use Rattle.saying.proofs.Puts.{put-fits, put-lent, put-again}
 use native.Mathlib.Omega.{arith}
 use borrow.Author.Needs.{needs}
-use Rattle.reporting.proofs.put_line.Statement.{statement}
-use Rattle.reporting.proofs.put_line.Tie as tie
+use Rattle.saying.proofs.put_line.Statement.{statement}
+use Rattle.saying.proofs.put_line.Tie as tie
 
 line-requires : tie.Need-line-requires
 line-requires c κs = search needs
 
-array-share-prefix-text : tie.Need-array-share-prefix-text
-array-share-prefix-text c = put-fits (c .line .ensures .0)
+array-share-prefix-row : tie.Need-array-share-prefix-row
+array-share-prefix-row c = put-fits (c .line .ensures .0)
 
 slice-aggregate-copy : tie.Need-slice-aggregate-copy
 slice-aggregate-copy c = put-lent (c .before .line .ensures .0)
@@ -32,7 +32,7 @@ put-line-spec =
     tie.close
     (tie.spec
     line-requires
-    array-share-prefix-text
+    array-share-prefix-row
     slice-aggregate-copy
     copy-requires
     same-length
