@@ -3,14 +3,14 @@
 use Prim.Native.Nat.{ℕ}
 use mathlib.Core.Path.{_≡_, refl, sym, ap, _∙_}
 use mathlib.Core.List.{List, [], _++_}
-use native.Mathlib.Nat.{zero-add}
 use native.Mathlib.Omega.{arith}
 use lib.ListN.{length}
 use lib.Dec.{ltb}
 use Rattle.tallying.specs.Credits.{Orderly}
 use Rattle.running.specs.Runs.{together, Behind}
 use Rattle.running.proofs.Inputs.{Takes, behind-none}
-use Rattle.saying.proofs.Puts.{put-text}
+use Rattle.saying.specs.Writing.{Fronted}
+use Rattle.saying.proofs.Puts.{front-text}
 use Rattle.crediting.specs.Books.{figuresIn, atEnd, reportAt, reportIn, Turned}
 use Rattle.crediting.specs.declared.Ledger.{Ledger}
 use Rattle.posting.specs.Posts.{Post, begun, afterBytes, reportAfter, postOf}
@@ -19,7 +19,7 @@ use Rattle.posting.proofs.Whole.{bytesReportedAsLines, partsArePosted, knownSta
 use Rattle.reporting.specs.Texts.{reportText}
 use Rattle.reporting.specs.Promises.{Reported}
 use Rattle.ledger.specs.Outputs.{outputTo}
-use Rattle.ledger.specs.Parts.{writtenAfter, PartsWritten, KnownPartsWritten, knownIn, Fronted}
+use Rattle.ledger.specs.Parts.{writtenAfter, PartsWritten, KnownPartsWritten, knownIn}
 
 -- ---- all that is written
 
@@ -47,9 +47,7 @@ unfolding writtenAfter reportAfter reportIn
 report-fronted p room f s line {l} {left} d {m = m} r =
     let own : reportText (reportAt (l .stage) (figuresIn (l .counts) f s))
     ≡ writtenAfter (postOf p room f s line) = ap (λ b. reportText (reportIn b)) (d .book f s) in
-    let size = r .put .next ∙ zero-add _ in
-    let front = rw size at (put-text (r .put)) in
-    rw own at front
+    rw own at (front-text (r .put))
 
 -- ---- the parts
 

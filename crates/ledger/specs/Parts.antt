@@ -4,7 +4,7 @@ use Prim.Native.Nat.{ℕ}
 use mathlib.Core.Path.{_≡_}
 use mathlib.Core.Bool.{Bool, true}
 use mathlib.Core.List.{List, _++_}
-use lib.ListN.{length, take}
+use lib.ListN.{length}
 use Rattle.tallying.specs.Credits.{Orderly}
 use Rattle.running.specs.Runs.{lineRoom, together}
 use Rattle.crediting.specs.Books.{knownAt}
@@ -35,10 +35,6 @@ KnownPartsWritten = (room line : List ℕ) (parts : List (List ℕ)) (later : Li
 -- whether the report is known
 abbrev pub knownIn : Post → Bool
 knownIn x = knownAt (x .book .stage)
-
--- a text stands at the front of a buffer
-abbrev pub Fronted : List ℕ → List ℕ → Type 0
-Fronted out text = take (length text) out ≡ text
 
 -- a turn, with the words and bytes that are lent to it
 abbrev pub turnedTo : Turn → List ℕ → List ℕ → List ℕ → List ℕ → Post

@@ -21,9 +21,10 @@ ghost use Rattle.rules.specs.Words.{wordsFor};
 ghost use Rattle.tallying.specs.Credits.{Orderly};
 ghost use Rattle.replaying.specs.Rooms.{RoomFor};
 ghost use Rattle.running.specs.Inputs.{ReadSome, Ran};
+ghost use Rattle.saying.specs.Writing.{Fronted};
 ghost use Rattle.posting.specs.Posts.{begun, afterBytes, postOf};
 ghost use Rattle.reporting.specs.Promises.{longest};
-ghost use Rattle.ledger.specs.Parts.{knownIn, turnedTo, OrderlyTurn, writtenAfter, Fronted};
+ghost use Rattle.ledger.specs.Parts.{knownIn, turnedTo, OrderlyTurn, writtenAfter};
 
 struct Turn {
     posting: Posting,

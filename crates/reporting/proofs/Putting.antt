@@ -11,7 +11,7 @@ use Rattle.lines.specs.Lines.{bytes}
 use Rattle.lines.specs.Texts.{decimalText}
 use Rattle.saying.specs.Texts.{lineText}
 use Rattle.saying.specs.Writing.{putAt, Put, lineWith}
-use Rattle.saying.proofs.Puts.{put-fits, put-lent, then}
+use Rattle.saying.proofs.Puts.{then, put-front}
 use Rattle.crediting.specs.Ledgers.{Figures}
 use Rattle.crediting.specs.Books.{reportAt}
 use Rattle.crediting.specs.declared.Stage.{Stage}
@@ -71,4 +71,4 @@ counts-put x p q r s t = then (then (then (then p q) r) s) t
 -- what is put is the report of a stage
 pub reported : {s : Stage} (x : Figures) (own : Stage) {l m : List ℕ} {r : ℕ} → s ≡ own → Put (reportText (reportAt own x)) 0 l r m
     → Reported (reportAt s x) l r m
-reported x own e p = rw e (record { put = p; within = (put-fits p, put-lent p) })
+reported x own e p = rw e (put-front p)

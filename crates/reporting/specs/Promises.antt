@@ -2,8 +2,7 @@
 -- Assumes nothing.
 use Prim.Native.Nat.{ℕ}
 use mathlib.Core.List.{List}
-use Rattle.io.specs.Counts.{Counts}
-use Rattle.saying.specs.Writing.{Put}
+use Rattle.saying.specs.Writing.{PutFront}
 use Rattle.crediting.specs.Ledgers.{Report}
 use Rattle.reporting.specs.Texts.{reportText}
 
@@ -11,8 +10,6 @@ use Rattle.reporting.specs.Texts.{reportText}
 abbrev pub longest : ℕ
 longest = 22639
 
--- l is the buffer at entry and m the buffer at exit; r is the result. `within` follows from the other: it is here for a caller who lends
--- those bytes on, as `&out[..r]`
-pub record Reported (x : Report) (l : List ℕ) (r : ℕ) (m : List ℕ) : Type 0 where
-  pub put : Put (reportText x) 0 l r m
-  pub within : Counts r m
+-- l is the buffer at entry and m the buffer at exit; r is the result
+abbrev pub Reported : Report → List ℕ → ℕ → List ℕ → Type 0
+Reported x l r m = PutFront (reportText x) l r m

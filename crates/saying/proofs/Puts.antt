@@ -3,12 +3,12 @@
 use Prim.Native.Nat.{ℕ, suc, _+_, _≤_, _<_}
 use mathlib.Core.Path.{_≡_, refl, sym, ap, _∙_}
 use mathlib.Core.List.{List, [], _∷_, _++_}
-use native.Mathlib.Nat.{add-zero}
+use native.Mathlib.Nat.{add-zero, zero-add}
 use native.Mathlib.Numerals.{add-one}
 use native.Mathlib.Omega.{arith}
 use lib.ListN.{length, take, getD, set, length-append}
 use lib.Seq.{sets, length-sets, length-take-le, sets-eq, take-suc, take-at, take-take}
-use Rattle.saying.specs.Writing.{putAt, Put}
+use Rattle.saying.specs.Writing.{putAt, Put, PutFront, Fronted}
 
 sets-append : (l : List ℕ) (at : ℕ) (xs ys : List ℕ) → sets l at (xs ++ ys) ≡ sets (sets l at xs) (at + length xs) ys
 sets-append l at [] ys = rw add-zero
@@ -72,3 +72,11 @@ pub put-again : {text : List ℕ} {n : ℕ} {l m : List ℕ} → Put text 0 l n 
     → Put (take n (take n m)) at out r left
     → Put text at out r left
 put-again {n = n} {m = m} p q = let whole : take n (take n m) ≡ _ = take-take n n m (omega arith) ∙ put-text p in rw whole at q
+
+-- ---- a text at the front
+
+pub put-front : {text l m : List ℕ} {r : ℕ} → Put text 0 l r m → PutFront text l r m
+put-front p = record { put = p; within = (put-fits p, put-lent p) }
+
+pub front-text : {text l m : List ℕ} {r : ℕ} → Put text 0 l r m → Fronted m text
+front-text p = rw (p .next ∙ zero-add _) at (put-text p)

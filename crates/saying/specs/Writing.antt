@@ -3,8 +3,9 @@
 use Prim.Native.Nat.{ℕ, _+_, _≤_}
 use mathlib.Core.Path.{_≡_}
 use mathlib.Core.List.{List, [], _∷_, _++_, flatMap}
-use lib.ListN.{length}
+use lib.ListN.{length, take}
 use lib.Seq.{sets}
+use Rattle.io.specs.Counts.{Counts}
 use Rattle.replaying.specs.declared.Answer.{Answer}
 use Rattle.lines.specs.Texts.{decimalText}
 use Rattle.saying.specs.Texts.{Line, lineText, linesOf}
@@ -18,6 +19,15 @@ pub record Put (text : List ℕ) (at : ℕ) (l : List ℕ) (r : ℕ) (m : List �
   pub room : at + length text ≤ length l
   pub next : r ≡ at + length text
   pub buffer : m ≡ putAt l at text
+
+-- a text that is put at the front. `within` follows from the other: it is here for a caller who lends those bytes on, as `&out[..r]`
+pub record PutFront (text l : List ℕ) (r : ℕ) (m : List ℕ) : Type 0 where
+  pub put : Put text 0 l r m
+  pub within : Counts r m
+
+-- a text stands at the front of a buffer
+abbrev pub Fronted : List ℕ → List ℕ → Type 0
+Fronted out text = take (length text) out ≡ text
 
 -- a line whose name comes with its `=`
 unfoldable pub lineWith : List ℕ → ℕ → List ℕ

@@ -5,7 +5,6 @@ use mathlib.Core.Path.{_≡_, refl, sym, ap, _∙_}
 use mathlib.Core.Bool.{Bool, true, false, cond}
 use mathlib.Core.List.{List, [], _∷_, _++_, flatMap, append-nil, append-assoc}
 use mathlib.Core.Logic.{⊎-elim, inl, inr}
-use native.Mathlib.Nat.{zero-add}
 use native.Mathlib.Numerals.{add-one}
 use native.Mathlib.Omega.{arith}
 use lib.ListN.{length, take, drop, getD, length-append, length-drop}
@@ -22,7 +21,7 @@ use Rattle.running.specs.declared.Taken.{Taken}
 use Rattle.running.proofs.Parts.{partsAreFed, after-more, answers-more, behind-nothing, behind-part, knownIsAll}
 use Rattle.saying.specs.Texts.{textOf, textBytes}
 use Rattle.saying.specs.Writing.{Put}
-use Rattle.saying.proofs.Puts.{put-length, put-text}
+use Rattle.saying.proofs.Puts.{put-length, put-text, front-text}
 use Rattle.script.specs.Outputs.{outputTo}
 use Rattle.script.specs.Parts.{begun, textIn, pauses, texts, PartsWritten, KnownPartsWritten, TookSome, TookPart, WentOn}
 use Rattle.script.specs.Parts.{ReadSome, Ran}
@@ -160,10 +159,7 @@ took t why = record { within = t .within; stand = t .stand; fits = t .fits; fron
 
 pub end-put : (run : Run) {a : Answer} → a ≡ endOf run → {l m : List ℕ} {r : ℕ} → Put (textOf a) 0 l r m
     → take (length (textOf (endOf run))) m ≡ textOf (endOf run)
-end-put run e p =
-    let said = ap textOf e in
-    let size = p .next ∙ zero-add _ ∙ ap length said in
-    rw size at (put-text p ∙ said)
+end-put run e p = let said = ap textOf e in rw said at (front-text p)
 
 -- ---- part by part
 
