@@ -1,0 +1,2 @@
+pub mod Outputs
+pub mod Parts
