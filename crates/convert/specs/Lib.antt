@@ -1,2 +1,3 @@
 pub mod Outputs
 pub mod Parts
+pub mod Sentences

@@ -70,6 +70,9 @@ reportTo room input = overLines withAnswer atEnd room begun (map lineOf (split i
 abbrev pub wayText : Conversion → List ℕ
 wayText a = flatMap lineText (answerLines ("key" ∷ []) (conversionMeans a .number) (conversionMeans a .values))
 
+abbrev pub waysText : Table → List ℕ
+waysText t = flatMap wayText (waysFrom t)
+
 abbrev pub reportText : Report → List ℕ
 reportText (badLine n) = lineText ("bad", n)
 reportText (unmade e) = lineText ("made", numberOf e)

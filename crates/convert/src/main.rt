@@ -28,7 +28,7 @@ ghost use Rattle.replaying.specs.Rooms.{RoomFor};
 ghost use Rattle.running.specs.Inputs.{ReadSome, Ran};
 ghost use Rattle.running.specs.Runs.{endOf};
 ghost use Rattle.saying.specs.Writing.{Put, PutFront, Fronted};
-ghost use Rattle.convert.specs.Outputs.{wayText, waysIn, waysFrom, reportText};
+ghost use Rattle.convert.specs.Outputs.{waysIn, wayText, waysText, reportText};
 ghost use Rattle.convert.specs.Parts.{largest, longest, endedBy, hasEnded, lastEnding, standing, begun, afterBytes, isKnown, reportFrom};
 
 // The words of a table of the largest cap, 7: "limited to cap 7 so that both fit". A larger one finds no room here, and is not made.
@@ -196,7 +196,7 @@ fn put_ways(t: &mut [u64], second: &mut [u64], out: &mut [u8]) -> usize
 // The table that a script has left, in the first of the lent words.
 fn put_table(words: usize, room: &mut [u64], out: &mut [u8]) -> usize
     requires { ⌜ (length (now room) ≡ wordsFor largest) × (longest ≤ length (now out)) ⌝ }
-    ensures { λ r. ⌜ PutFront (flatMap wayText (waysFrom (take words (now (room .entry))))) (now (out .entry)) r (now (out .exit)) ⌝ }
+    ensures { λ r. ⌜ PutFront (waysText (take words (now (room .entry)))) (now (out .entry)) r (now (out .exit)) ⌝ }
 {
     let mut space = [0u64; ROOM];
     let second: &mut [u64] = &mut space;

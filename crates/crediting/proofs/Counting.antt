@@ -29,8 +29,9 @@ use Rattle.following.specs.declared.Asked.{Asked}
 use Rattle.following.specs.declared.Asked.the-variants.{Nothing as askNothing, Table as askTable, Event as askEvent, Bad as askEnd}
 use Rattle.following.specs.declared.Reading.{Reading}
 use Rattle.replaying.specs.Replays.{created, tooLarge, askedOf, turnOf}
+use Rattle.replaying.specs.Sentences.{GoesOn}
 use Rattle.replaying.specs.declared.Replay.{Replay}
-use Rattle.crediting.specs.Sentences.{GoesOn, Read, nothing, line, LinesCounted}
+use Rattle.crediting.specs.Sentences.{Read, nothing, line, LinesCounted}
 
 -- ---- a line more is counted, and nothing more is due only behind a bad line
 

@@ -45,6 +45,7 @@ use Rattle.following.specs.declared.Cut.the-variants.{None as noCut, After as c
 use Rattle.following.specs.declared.Script.{Script}
 use Rattle.replaying.specs.Events.{lent, answerTo, tableAfter}
 use Rattle.replaying.specs.Replays.{begun, tableOf, turnOf, finishOf}
+use Rattle.replaying.specs.Sentences.{GoesOn}
 use Rattle.replaying.specs.declared.Answer.{Answer}
 use Rattle.replaying.specs.declared.Answer.the-variants.{Nothing, Created, Changed, Kept, Found, Events, Bad}
 use Rattle.replaying.specs.declared.Replay.{Replay}
@@ -52,7 +53,7 @@ use Rattle.crediting.specs.Ledgers.{sumOf, withoutRecord, noneIn, functi
 use Rattle.crediting.specs.Ledgers.{unrecovered, badLine, counts}
 use Rattle.crediting.specs.Ledgers.{keysIn, allGood, lineBehind, onceRecovered, noSampleYet, samplesReport, eventAt, eventDue, startsSample}
 use Rattle.crediting.specs.Ledgers.{samplesBegin, unlessEnded, reportFrom, reportOf}
-use Rattle.crediting.specs.Sentences.{NoSample, GoesOn, Read, nothing, line, BadLinesEnd, BadEnd, RefusedTablesEnd, finalTable}
+use Rattle.crediting.specs.Sentences.{NoSample, Read, nothing, line, BadLinesEnd, BadEnd, RefusedTablesEnd, finalTable}
 use Rattle.crediting.specs.Sentences.{FinalMap, UnrecoveredEnds, UnrecoveredAtEnd, Words, finalFigures, numberBehind, SamplesReported}
 use Rattle.crediting.specs.Sentences.{OtherLinesEnd, TornSamplesEnd, BadFirstSampleEnds, EndsAreKnown, CountsExact, MissingCounted}
 use Rattle.crediting.specs.Sentences.{NamedInOrder, BucketsAdded, CreditsStood, SumIsSamples}

@@ -26,7 +26,7 @@ use Rattle.lines.specs.declared.Sample.the-variants.{Key, Bad as BadSample, Oth
 use Rattle.following.specs.Sentences.{EventDue}
 use Rattle.replaying.specs.Events.{lent}
 use Rattle.replaying.specs.Replays.{begun, tableOf, turnOf, finishOf}
-use Rattle.replaying.specs.declared.Answer.{Answer}
+use Rattle.replaying.specs.Sentences.{GoesOn}
 use Rattle.replaying.specs.declared.Answer.the-variants.{Created, Bad}
 use Rattle.replaying.specs.declared.Replay.{Replay}
 use Rattle.crediting.specs.Books.{Book, figuresWith, reportIn, knownAt}
@@ -37,11 +37,6 @@ use Rattle.crediting.specs.Ledgers.{noneIn, namedIn, bucketsIn, Figures,
 -- a line with which no samples begin: where an event line could stand, it does not start with `sample=`
 abbrev pub NoSample : Replay → List ℕ → Type 0
 NoSample p l = EventDue (p .script) → sampleOf l ≡ Other
-
--- an answer after which the script goes on: no line was bad, and no table was refused
-pub record GoesOn (a : Answer) : Type 0 where
-  pub good : (n : ℕ) → a ≡ Bad n → ⊥
-  pub made : (e : Refusal) → a ≡ Created (Denied e) → ⊥
 
 -- lines of a script, one after the other: from a replay with its words to another
 pub data Read : List ℕ → Replay → List (List ℕ) → List ℕ → Replay → Type 0 where

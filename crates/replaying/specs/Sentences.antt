@@ -14,6 +14,7 @@ use Rattle.rules.specs.declared.ScriptCall.{ScriptCall}
 use Rattle.rules.specs.declared.ScriptCall.the-variants.{Query}
 use Rattle.rules.specs.declared.Change.{Change}
 use Rattle.rules.specs.declared.Query.{Query as QueryAnswer}
+use Rattle.rules.specs.declared.Refusal.{Refusal}
 use Rattle.rules.specs.declared.Refusal.the-variants.{BadCreation}
 use Rattle.rules.specs.declared.Verdict.the-variants.{Done, Denied}
 use Rattle.following.specs.Scripts.{endingOf}
@@ -88,6 +89,11 @@ NothingAnswered = (room : List ℕ) (p : Replay) (next : Script)
 abbrev pub BadAnswered : Type 0
 BadAnswered = (room : List ℕ) (p : Replay) (next : Script) (line : ℕ)
     → (askedOf room p next (askEnd line) .answer ≡ Bad line) × (askedOf room p next (askEnd line) .room ≡ room)
+
+-- an answer after which the script goes on: no line was bad, and no table was refused
+pub record GoesOn (a : Answer) : Type 0 where
+  pub good : (n : ℕ) → a ≡ Bad n → ⊥
+  pub made : (e : Refusal) → a ≡ Created (Denied e) → ⊥
 
 -- "events=3": how many were answered, from none. A bad line at the end is told; after a bad line, and without a table, nothing is
 abbrev pub EndAnswered : Type 0
