@@ -1,3 +1,4 @@
 pub mod Parts
 mod Ways
 pub mod Sentences
+pub mod Request

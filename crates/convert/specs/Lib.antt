@@ -1,3 +1,5 @@
 pub mod Outputs
+pub mod Cases
 pub mod Parts
 pub mod Sentences
+pub mod Request

@@ -45,7 +45,8 @@ returns c =
     let at-put = c .before .before .before .before .before in
     let at-least = at-put .before .before .before .before in
     let start = at-least .before .before .before .before in
-    rw (← (lent-ways (start .args .words) (now (start .args .room)) 3324 (at-least .least .ensures) (omega (arith, start .pre .0)))) (at-put .put-ways .ensures)
+    let same = lent-ways (start .args .words) (now (start .args .room)) 3324 (at-least .least .ensures) (omega (arith, start .pre .0)) in
+    rw (← same) (at-put .put-ways .ensures)
 
 pub put-table-spec : {M : Type 1} → statement M
 put-table-spec =

@@ -30,7 +30,8 @@ returns c =
     let at-number = at-key .before .before .before .before .before in
     let at-words = at-number .before .before .before in
     let start = at-words .before .before in
-    (way-put (start .args .answer) (at-words .conversion-words .result) (at-words .conversion-words .ensures) (at-number .put-line .ensures .0) (at-key .put-line2 .ensures .0), omega arith)
+    let told = at-words .conversion-words in
+    (way-put (start .args .answer) (told .result) (told .ensures) (at-number .put-line .ensures .0) (at-key .put-line2 .ensures .0), omega arith)
 
 pub put-way-spec : {M : Type 1} → statement M
 put-way-spec =

@@ -52,7 +52,8 @@ returns-2 c =
     let at-told = at-back .before .before .before in
     let at-first = at-told .before .before .before .before in
     let at-there = at-first .before .before .before .before in
-    put-front (rw (ways-both (at-there .convert .ensures) (at-told .enum-told .given .1) (at-back .convert2 .ensures)) (then (at-first .put-way .ensures .0) (at-second .put-way2 .ensures .0)))
+    let both = ways-both (at-there .convert .ensures) (at-told .enum-told .given .1) (at-back .convert2 .ensures) in
+    put-front (rw both (then (at-first .put-way .ensures .0) (at-second .put-way2 .ensures .0)))
 
 pub put-ways-spec : {M : Type 1} → statement M
 put-ways-spec =

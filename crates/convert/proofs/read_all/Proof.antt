@@ -44,7 +44,8 @@ returns c =
     let at-read = c .before .before .before .before .before .before in
     let at-loop = at-read .before .before .before .before .before in
     let start = at-loop .before .before .before .before in
-    (ran takes isKnown (at-loop .loop .inv .3) (at-read .read-some .ensures) (not-going (at-read .read-some .result .outcome) (c .match .keys2)), roomIsEnough 7 _ (omega (arith, start .pre)))
+    let stops = not-going (at-read .read-some .result .outcome) (c .match .keys2) in
+    (ran takes isKnown (at-loop .loop .inv .3) (at-read .read-some .ensures) stops, roomIsEnough 7 _ (omega (arith, start .pre)))
 
 add-parts : tie.Need-add-parts Inv-loop μ-loop
 add-parts c = search needs
@@ -57,7 +58,8 @@ loop-again c =
     let at-read = c .before .before .before .before .before .before .before in
     let at-test = at-read .before .before .before .before in
     let at-loop = at-test .before in
-    (search needs, search needs, omega (arith, at-test .loop-test .taken), behind-next takes isKnown (at-loop .loop .inv .3) (at-read .read-some .ensures) (c .enum-told .given .1))
+    let next = behind-next takes isKnown (at-loop .loop .inv .3) (at-read .read-some .ensures) (c .enum-told .given .1) in
+    (search needs, search needs, omega (arith, at-test .loop-test .taken), next)
 
 same-length-3 : tie.Need-same-length-3 Inv-loop μ-loop
 same-length-3 c = search needs

@@ -60,7 +60,9 @@ returns-4 c =
     let at-count = at-some .before in
     let at-if1 = at-count .before .before .before .before .before .before .before in
     let at-known = at-if1 .before in
-    read-taken takes isKnown (sym (at-known .known .ensures) ∙ at-if1 .if1 .left) (at-count .count .result) (at-some .if3 .left) (at-count .count .ensures .0 .0) (at-part .take-part .ensures)
+    let n = at-count .count in
+    read-taken takes isKnown (sym (at-known .known .ensures) ∙ at-if1 .if1 .left) (n .result) (at-some .if3 .left) (n .ensures .0 .0)
+    (at-part .take-part .ensures)
 
 pub read-some-spec : {M : Type 1} → statement M
 read-some-spec =

@@ -62,7 +62,8 @@ returns-2 c =
     let at-told = at-number .before .before .before in
     let at-last = at-told .before .before .before .before in
     let start = at-last .before .before .before in
-    told-as (start .args .course) _ _ (at-last .last-ending .ensures) (at-told .last .given .1) (line-put "made" (at-number .number .result) _ (at-number .number .ensures) (at-line .put-line .ensures .0))
+    let one = line-put "made" (at-number .number .result) _ (at-number .number .ensures) (at-line .put-line .ensures .0) in
+    told-as (start .args .course) _ _ (at-last .last-ending .ensures) (at-told .last .given .1) one
 
 same-length-4 : tie.Need-same-length-4
 same-length-4 c = search needs

@@ -53,7 +53,8 @@ loop-again c =
     let at-if1 = at-byte .before .before .before .before .before in
     let at-known = at-if1 .before in
     let at-loop = at-known .before .before in
-    (refl, search needs, passed-more (at-loop .loop .inv .2) (omega arith) (sym (at-known .known .ensures) ∙ at-if1 .if1 .left) (at-byte .take-byte .ensures) (c .ended-by .ensures))
+    let goes = sym (at-known .known .ensures) ∙ at-if1 .if1 .left in
+    (refl, search needs, passed-more (at-loop .loop .inv .2) (omega arith) goes (at-byte .take-byte .ensures) (c .ended-by .ensures))
 
 same-length-2 : tie.Need-same-length-2 Inv-loop μ-loop
 same-length-2 c = search needs
