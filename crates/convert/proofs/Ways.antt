@@ -60,9 +60,9 @@ module _ {t s u v : Table} {a : Conversion} (d : Converts t s a u v) where
       alone (Stuck key) k = append-nil (wayText (Stuck key))
       alone (Rejected e) k = append-nil (wayText (Rejected e))
 
-  pub ways-both : {b : Conversion} {x y : Table} → a ≡ Converted → Converts v t b x y → flatMap wayText (waysIn t s) ≡ wayText a ++ wayText b
+  pub ways-both : a ≡ Converted → flatMap wayText (waysIn t s) ≡ wayText a ++ wayText (convertResult v t .0)
   unfolding flatMap
-  ways-both {b} k e = ways-by ∙ rw (k, ← (e .answer)) (rw (append-nil (wayText b)))
+  ways-both k = ways-by ∙ rw k (rw (append-nil (wayText (convertResult v t .0))))
 
 -- ---- the table that a script has left
 

@@ -24,6 +24,7 @@ ghost use mathlib.Core.Path.{_≡_};
 ghost use mathlib.Core.List.{flatMap};
 ghost use lib.ListN.{length, take};
 ghost use Rattle.rules.specs.Words.{wordsFor};
+ghost use Rattle.rules.specs.Conversions.{convertResult};
 ghost use Rattle.replaying.specs.Rooms.{RoomFor};
 ghost use Rattle.running.specs.Inputs.{ReadSome, Ran};
 ghost use Rattle.running.specs.Runs.{endOf};
@@ -179,6 +180,15 @@ fn put_way(answer: Conversion, out: &mut [u8], at: usize) -> usize
     put_line(b"key=", words.key, out, second)
 }
 
+// The way back, from the table that the way there has made.
+fn put_back(second: &[u64], t: &mut [u64], out: &mut [u8], at: usize) -> usize
+    requires { ⌜ at + 53 ≤ length (now out) ⌝ }
+    ensures { λ r. ⌜ Put (wayText (convertResult (now (second .entry)) (now (t .entry)) .0)) at (now (out .entry)) r (now (out .exit)) ⌝ }
+{
+    let back = convert(second, t);
+    put_way(back, out, at)
+}
+
 // "the way to form 2, and where that is 0 the same two lines of the way back", for which the first table's words are lent.
 fn put_ways(t: &mut [u64], second: &mut [u64], out: &mut [u8]) -> usize
     requires { ⌜ longest ≤ length (now out) ⌝ }
@@ -189,8 +199,7 @@ fn put_ways(t: &mut [u64], second: &mut [u64], out: &mut [u8]) -> usize
     let Conversion::Converted = there else {
         return next;
     };
-    let back = convert(second, t);
-    put_way(back, out, next)
+    put_back(second, t, out, next)
 }
 
 // The table that a script has left, in the first of the lent words.

@@ -30,11 +30,8 @@ returns c =
     let at-there = at-put .before .before .before .before in
     put-front (rw (way-alone (at-there .convert .ensures) (c .match .keys2)) (at-put .put-way .ensures .0))
 
-convert-requires-2 : tie.Need-convert-requires-2
-convert-requires-2 c κs = search needs
-
-put-way-requires-2 : tie.Need-put-way-requires-2
-put-way-requires-2 c κs = search needs
+put-back-requires : tie.Need-put-back-requires
+put-back-requires c κs = search needs
 
 same-length-4 : tie.Need-same-length-4
 same-length-4 c = search needs
@@ -47,13 +44,12 @@ same-length-6 c = search needs
 
 returns-2 : tie.Need-returns-2
 returns-2 c =
-    let at-second = c .before .before in
-    let at-back = at-second .before .before .before .before in
-    let at-told = at-back .before .before .before in
+    let at-back = c .before .before .before .before in
+    let at-told = at-back .before .before .before .before in
     let at-first = at-told .before .before .before .before in
     let at-there = at-first .before .before .before .before in
-    let both = ways-both (at-there .convert .ensures) (at-told .enum-told .given .1) (at-back .convert2 .ensures) in
-    put-front (rw both (then (at-first .put-way .ensures .0) (at-second .put-way2 .ensures .0)))
+    let both = ways-both (at-there .convert .ensures) (at-told .enum-told .given .1) in
+    put-front (rw both (then (at-first .put-way .ensures .0) (at-back .put-back .ensures)))
 
 pub put-ways-spec : {M : Type 1} → statement M
 put-ways-spec =
@@ -66,8 +62,7 @@ put-ways-spec =
     same-length-2
     same-length-3
     returns
-    convert-requires-2
-    put-way-requires-2
+    put-back-requires
     same-length-4
     same-length-5
     same-length-6
