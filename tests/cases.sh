@@ -57,7 +57,7 @@ try_cases() { # FILE LEAST EDITS-OF-SED: what a row's short words stand for
         lines=${lines# }
         lines=$(printf '%s\n' "${lines% }" | sed "$3")
         spread "$lines" >"$work/input"
-        spread "${rest#*-> }" >"$work/expected"
+        spread "$(printf '%s\n' "${rest#*-> }" | sed "$3")" >"$work/expected"
         run "$program" <"$work/input" >"$work/answered" 2>"$work/said" || echo "it ended with status $?" >>"$work/said"
         quiet "$name"
         answers "$name"
@@ -75,4 +75,35 @@ try_pieces() { # NAME FILE
         tail -c +48 "$2"
     } | run "$program" >"$work/answered"
     answers "$1, in pieces"
+}
+
+# seconds within which a program has to do what it does at once, also under an emulator on a busy machine
+limit=20
+
+# what is known does not wait for the end of the input
+stops() { # NAME ANSWER LINES: which come before lines without end of the fourth argument
+    echo "$2" >"$work/expected"
+    { spread "$3"; yes "$4"; } | run_within "$limit" "$program" >"$work/answered"
+    answers "$1"
+}
+
+told() { # NAME
+    seen=$((seen + 1))
+    [ -s "$work/said" ] && return
+    echo "$1 is not told on standard error"
+    bad=$((bad + 1))
+}
+
+# a read or a write that fails is told
+try_failures() { # FILE
+    : >"$work/expected"
+    run_within "$limit" "$program" </ >"$work/answered" 2>"$work/said"
+    answers 'a directory is not answered'
+    told 'a directory'
+    run_within "$limit" "$program" <"$1" >/dev/full 2>"$work/said"
+    told 'a full device'
+    # another program may not see it: Rust opens what is closed
+    case $program in target/bin/*) ;; *) return ;; esac
+    run_within "$limit" "$program" <"$1" >&- 2>"$work/said"
+    told 'no standard output'
 }
