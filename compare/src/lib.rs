@@ -10,7 +10,8 @@
 //! - `told_slots`: where a query tells that its key stands; `converted`: what a conversion leaves;
 //! - `stuck_items`: which interim item a step takes; `starts`: where a step that goes on starts;
 //! - `tags`: what calls do with damaged token words of form 2;
-//! - `kind_tally`: how often each kind was seen; `tally`: what a run has seen; `chain_tally`: of chains; `conversion_tally`: of conversions; `phases`: in each phase;
+//! - `kind_tally`: how often each kind was seen; `tally`: what a run has seen; `chain_tally`: of chains; `conversion_tally`: of
+//!   conversions; `phases`: in each phase;
 //! - `both`: a case through library and model;
 //! - `plain_map`, `sound_tables`: sound tables against a plain map, with every cut; `there_and_back`: and converted;
 //! - `history`, `damage`, `tag_damage`: where tables come from; `random_chains`: which chains are put in and asked for;
