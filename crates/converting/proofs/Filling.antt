@@ -10,7 +10,8 @@ use types.Run.{OneOf, miss}
 use denote.Enum.Declared.{tagOf}
 use lib.ListN.{length, drop}
 use Rattle.rules.specs.Choice.{from}
-use Rattle.rules.specs.Words.{Table, headerOf, sizeOf, bucketsOf, levelsInUse, placeAt, slotsOf, slotsInUse, slotAt, slotsIn, keyIn, recordIn, tokenOf, isTaken, taken}
+use Rattle.rules.specs.Words.{Table, headerOf, sizeOf, bucketsOf, levelsInUse, placeAt, slotsOf, slotsInUse, slotAt, slotsIn, keyIn, recordIn, tokenOf}
+use Rattle.rules.specs.Words.{isTaken, taken}
 use Rattle.rules.specs.Places.{lookup}
 use Rattle.rules.specs.Calls.{insertIn, outcome}
 use Rattle.rules.specs.Conversions.{Filling, filled, withItem}

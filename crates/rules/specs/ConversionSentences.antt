@@ -9,7 +9,7 @@ use mathlib.Core.Logic.{_↔_}
 use lib.ListN.{length}
 use Rattle.rules.specs.Words.{Table, word, headerOf, keyIn, recordIn}
 use Rattle.rules.specs.Soundness.{TakenSlot, SoundTable, PlainMap, HasMap, Before}
-use Rattle.rules.specs.Answers.{conversionMeans}
+use Rattle.rules.specs.Answers.{numberOf, conversionMeans}
 use Rattle.rules.specs.Calls.{Outcome, refused, listed, insert}
 use Rattle.rules.specs.Results.{changeResult, createResult}
 use Rattle.rules.specs.Conversions.{convertResult}
@@ -86,7 +86,7 @@ abbrev pub LeavesBy : Table → Table → Conversion → Table → Type 0
 LeavesBy t s Converted u = Told Converted 0 0 × (createResult s (3 - word t 0) (word t 1) (word t 4) (word t 2) (word t 3) .0 ≡ Done) × Built t s u
 LeavesBy t s (Stuck key) u =
     Told (Stuck key) 6 key × StuckAt t s key × CreatedWords (length s) (3 - word t 0) (word t 1) (word t 4) (word t 2) (word t 3) u
-LeavesBy t s (Rejected r) u = ((n : ℕ) × Told (Rejected r) n 0) × (r ≡ NoPlace → ⊥) × (u ≡ s)
+LeavesBy t s (Rejected r) u = Told (Rejected r) (numberOf r) 0 × (r ≡ NoPlace → ⊥) × (u ≡ s)
 
 abbrev pub ConvertLeaves : Type 0
 ConvertLeaves = (t s : Table) → LeavesBy t s (convertResult t s .0) (convertResult t s .1)

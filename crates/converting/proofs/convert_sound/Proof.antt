@@ -36,13 +36,6 @@ enum-told c = search needs
 enum-known-filled : tie.Need-enum-known-filled
 enum-known-filled c = search needs
 
-create-fresh-requires-2 : tie.Need-create-fresh-requires-2
-create-fresh-requires-2 c κs =
-    let t = c .before .before .before .before .before .before in
-    let f = t .before .before .before .before .before .before in
-    let s = f .before .before .before .before in
-    (rw (filled-long _ _ (s .pre .0) (source s) _ (f .create-fresh .ensures) _ _ (t .fill-table .ensures)) (s .pre .0 .good), s .pre .2)
-
 same-length : tie.Need-same-length
 same-length c = search needs
 
@@ -64,6 +57,13 @@ returns-2 c =
     let f = t .before .before .before .before .before .before in
     let s = f .before .before .before .before in
     one-stuck _ _ (s .pre .0) (source s) _ (f .create-fresh .ensures) _ _ (t .fill-table .ensures) _ (k .filled .given .1) _ (again .create-fresh2 .ensures)
+
+create-fresh-requires-2 : tie.Need-create-fresh-requires-2
+create-fresh-requires-2 c κs =
+    let t = c .before .before .before .before .before .before in
+    let f = t .before .before .before .before .before .before in
+    let s = f .before .before .before .before in
+    (rw (filled-long _ _ (s .pre .0) (source s) _ (f .create-fresh .ensures) _ _ (t .fill-table .ensures)) (s .pre .0 .good), s .pre .2)
 
 pub convert-sound-spec : {M : Type 1} → statement M
 convert-sound-spec =

@@ -34,8 +34,12 @@ unfolding Takes
 put-by-move-requires c κs =
     let p = c .before .before in
     let f = p .before .before in
-    let h = f .before .before in
-    (h .before .before .pre, sym (p .p2 .given .1) ∙ placing-told-by (f .placing .ensures .0), (refl, rw (p .p2 .given .1) at (f .placing .ensures .1)), tag-hashed _ _ _ (h .hashes .ensures))
+    let h = f .before .before in (
+      h .before .before .pre,
+      sym (p .p2 .given .1) ∙ placing-told-by (f .placing .ensures .0),
+      (refl, rw (p .p2 .given .1) at (f .placing .ensures .1)),
+      tag-hashed _ _ _ (h .hashes .ensures),
+    )
 
 enum-told : tie.Need-enum-told
 enum-told c = search needs

@@ -247,7 +247,8 @@ module _ (t : Table) (source : Source t) where
 
       pub never-stuck : ⊥
       unfolding fresh
-      never-stuck = before-done (foldl (withItem t) (filled fresh) (k .before)) halves (fill-all t (k .before) fresh (λ (j : ℕ). none) fresh-given (parts .0) (λ x i. refl))
+      never-stuck = before-done (foldl (withItem t) (filled fresh) (k .before)) halves
+          (fill-all t (k .before) fresh (λ (j : ℕ). none) fresh-given (parts .0) (λ x i. refl))
 
 -- ---- the tests
 
@@ -329,7 +330,7 @@ module _ (t s : Table) where
 
   leaves : (a : Answer) → Tested a → LeavesBy t s (a .0) (a .1)
   leaves a (passes source long e) = rw e (leaves-filled source long (filling t) (filling-fills t source))
-  leaves a (refuses r d e) = rw e ((numberOf r, refl), d, refl)
+  leaves a (refuses r d e) = rw e (refl, d, refl)
 
   -- ---- the order of refusals
 
