@@ -68,7 +68,7 @@ fn create_fresh(second: &mut [u64], h: Header)
     create(second, other_form(h.form), h.c, state.k, h.mul1, h.mul2);
 }
 
-// An item in a free slot: its three words and its token, stored at once. No cut has to be thought of in a table that is being made.
+// An item in a free slot: its three words and its token, stored at once. A table that is being made need not survive a cut.
 fn put_free(second: &mut [u64], to: Header, y: Slot, key: u64, tag: u64, r: Record)
     requires { ⌜ (length (now second) < 2 ^ 32) × SlotWithin (now second) y × (tag ≡ tagOf to key) ⌝ }
     ensures { λ _. ⌜ now (second .exit) ≡ made (now (second .entry)) (putStores to (tokenOf (now (second .entry)) (y .bucket)) y key r) ⌝ }

@@ -105,7 +105,8 @@ loop-again c =
     let l = i .before .before in (
       ⊎-elim (λ u. rw (u .9) (left-others _ _ _ _ _ _ _ (next (record { before = i; if1 = u .0 })) _ _
           (put-fills _ _ _ _ _ (u .2 .ensures) (u .3 .ensures) _ _ (u .4 .ensures)) (u .7 .keys1)))
-          (λ u. rw (u .1) (slot-skipped _ _ _ _ _ _ _ _ (i .before .loop-test .taken) _ (l .loop .inv .1) (l .loop .inv .0) (sym (i .is-taken .ensures) ∙ u .0 .left)))
+          (λ u. rw (u .1) (slot-skipped _ _ _ _ _ _ _ _ (i .before .loop-test .taken) _ (l .loop .inv .1) (l .loop .inv .0)
+          (sym (i .is-taken .ensures) ∙ u .0 .left)))
           (c .if1 .came),
       l .loop .inv .1,
     )

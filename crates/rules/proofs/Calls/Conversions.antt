@@ -301,7 +301,8 @@ module _ (t s : Table) where
   pub refuses-length : Source t → (length s ≡ length t → ⊥) → convertResult t s ≡ (Rejected BadCreation, s)
   unfolding convertResult convertTests headerGood
   refuses-length source other =
-      rw (header-passes (length t) (headerOf t) (source .sound .orderly .header), sound-tells .1 (source .sound), rest-tells .1 (source .rest), ne-eqb _ _ other)
+      let good = header-passes (length t) (headerOf t) (source .sound .orderly .header) in
+      rw (good, sound-tells .1 (source .sound), rest-tells .1 (source .rest), ne-eqb _ _ other)
 
   -- and where the source is sound and at rest and the lengths are equal, all pass
   pub all-pass : Source t → length s ≡ length t → convertResult t s ≡ filledTo (headerOf t) (filling t)
@@ -312,7 +313,7 @@ module _ (t s : Table) where
   -- ---- what it leaves
 
   fresh-words : Source t → length s ≡ length t
-      → CreatedWords (length s) (otherForm (headerOf t .form)) (headerOf t .c) (headerOf t .state .k) (headerOf t .mul1) (headerOf t .mul2) (freshFor (headerOf t))
+      → let h = headerOf t in CreatedWords (length s) (otherForm (h .form)) (h .c) (h .state .k) (h .mul1) (h .mul2) (freshFor h)
   unfolding freshFor
   fresh-words source long =
       rw long (created-words (length t) (otherForm (headerOf t .form)) (headerOf t .c) (headerOf t .state .k) (headerOf t .mul1) (headerOf t .mul2)
