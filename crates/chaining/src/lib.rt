@@ -1,4 +1,6 @@
 // Document 02, request a): the chain of inlined callers. The records of an address at a depth, then at each smaller one, down to 0.
+#![tactic(auto)]
+
 ghost use Rattle.std.specs.Prelude.{◌≡◌, ◌+◌, ◌*◌, ◌/◌, ◌%◌, ◌≤◌, length};
 ghost use Rattle.rules.specs.Words.{header_of, GoodHeader};
 ghost use Rattle.rules.specs.Chains.{position_good, walk as walk_of, query_of};

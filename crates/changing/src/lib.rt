@@ -1,4 +1,6 @@
 // Insert, update and delete: each reads the table and lists its stores.
+#![tactic(auto)]
+
 ghost use Rattle.std.specs.Prelude.{◌≡◌, ◌^◌, ◌≤◌, ◌<◌, length};
 ghost use Rattle.rules.specs.Forms.{tag_of};
 ghost use Rattle.rules.specs.Words.{GoodHeader};
@@ -162,7 +164,7 @@ fn insert_absent(t: &[u64], list: &mut [u64], h: Header, key: u64, x: Hashes, r:
 }
 
 // What is known of a key before it is placed: its hashes, and whether it stands.
-#[derive(Drop)]
+#[derive(Clone, Copy)]
 pub struct Sought {
     pub hashes: Hashes,
     pub stands: bool,

@@ -1,5 +1,7 @@
 // The calls for a collector written in C or Rust. Each is the call itself, with the documents' number as its result, "0 is success", and
 // the values that go with it in words that the caller lends.
+#![tactic(auto)]
+
 ghost use Rattle.std.specs.Prelude.{◌≡◌, [], ◌∷◌};
 ghost use Rattle.rules.specs.Answers.{change_means};
 ghost use Rattle.rules.specs.Calls.{insert as insertCall, update as updateCall, delete as deleteCall, begin as beginCall};

@@ -1,6 +1,8 @@
 // The conversion program: a table script on standard input, and on standard output what the conversion of its table to form 2 answers, and where
 // that succeeds what the way back answers. The table is converted as the script leaves it, and is not recovered. `running` takes the bytes;
 // here they are read, part by part, so that a script of any length runs in the same little memory.
+#![tactic(auto)]
+
 ghost use Rattle.std.specs.Prelude.{◌+◌, ◌≤◌, ◌≡◌, length, take};
 ghost use mathlib.Core.List.{flat_map};
 ghost use Rattle.rules.specs.Words.{words_for};
@@ -28,7 +30,7 @@ const ROOM: usize = 3324;
 const LONGEST: usize = 106;
 
 // Whether a script has ended so far, and how: with a table that is not made, or with a bad line.
-#[derive(Drop)]
+#[derive(Clone, Copy)]
 enum Ending {
     Open,
     Unmade(Refusal),
@@ -36,7 +38,7 @@ enum Ending {
 }
 
 // Where the bytes before have led to.
-#[derive(Drop)]
+#[derive(Clone, Copy)]
 struct Course {
     run: Run,
     ending: Ending,
@@ -94,7 +96,7 @@ fn take_part(start: Course, room: &mut [u64], line: &mut [u8; LINE_ROOM], part: 
     course
 }
 
-#[derive(Drop)]
+#[derive(Clone, Copy)]
 struct Turn {
     course: Course,
     outcome: Outcome,

@@ -1,4 +1,6 @@
 // Document 02, request h): a sound table at rest is converted to the other form in a second lent table. The source is only read.
+#![tactic(auto)]
+
 ghost use Rattle.std.specs.Prelude.{◌≡◌, true, ◌^◌, ◌≤◌, ◌<◌, length};
 ghost use Rattle.rules.specs.Forms.{tag_of};
 ghost use Rattle.rules.specs.Words.{GoodHeader, at_rest, slots_in, slots_of, slots_in_use, token_of};
@@ -27,7 +29,7 @@ use rules::{Conversion, Finding, Header, Level, Place, Placing, Record, Refusal,
 use words::power;
 
 // Whether every item so far has found its place, or the key of the one that has not.
-#[derive(Drop)]
+#[derive(Clone, Copy)]
 pub enum Progress {
     Going,
     Stuck(u64),

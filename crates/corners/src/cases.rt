@@ -4,7 +4,7 @@ use printing::{UNWRITTEN, change, placing, query, say, verdict, words};
 use rules::{Change, Record};
 
 // How many words of the room and of the list's room the calls are lent.
-#[derive(Drop)]
+#[derive(Clone, Copy)]
 pub struct Lent {
     pub table: usize,
     pub list: usize,

@@ -2,7 +2,7 @@
 ghost use Rattle.std.specs.Prelude.{◌≤◌, length};
 
 // What a line says: the first letter of its word, and its numbers; a number that is missing is 0.
-#[derive(Drop)]
+#[derive(Clone, Copy)]
 pub struct Line {
     pub letter: u8,
     pub a: u64,
@@ -13,7 +13,7 @@ pub struct Line {
 }
 
 // A number, and the index of what follows the space after it.
-#[derive(Drop)]
+#[derive(Clone, Copy)]
 struct Numeral {
     value: u64,
     next: usize,

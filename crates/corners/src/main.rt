@@ -19,6 +19,8 @@
 //   # ..                      is a remark
 // Each line is written as it stands, with what it tells after a colon. Before a call that lists stores every word of the
 // list is 77 again, so that a word written beyond the stores is seen.
+#![tactic(auto)]
+
 mod cases;
 mod lines;
 

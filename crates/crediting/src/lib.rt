@@ -1,4 +1,6 @@
 // The sample ledger, line by line: a table script, and then samples, each credited to the function that the table has for its key.
+#![tactic(auto)]
+
 ghost use Rattle.std.specs.Prelude.{◌≡◌, ℕ, List};
 ghost use Rattle.tallying.specs.Credits.{Orderly};
 ghost use Rattle.replaying.specs.Replays.{finish_of};
@@ -19,7 +21,7 @@ use tallying::{Tally, credit, nothing};
 
 // What a ledger has come to: the script is read, or the samples; or its report is known: no table was made, or it was not recovered,
 // or a line was bad.
-#[derive(Drop)]
+#[derive(Clone, Copy)]
 pub enum Stage {
     Script,
     Samples,
@@ -29,7 +31,7 @@ pub enum Stage {
 }
 
 // Samples in all, those with no record, those of each function and of others, and the buckets looked at.
-#[derive(Drop)]
+#[derive(Clone, Copy)]
 pub struct Counts {
     pub samples: u64,
     pub missing: u64,
@@ -37,7 +39,7 @@ pub struct Counts {
     pub tally: Tally,
 }
 
-#[derive(Drop)]
+#[derive(Clone, Copy)]
 pub struct Ledger {
     pub replay: Replay,
     pub stage: Stage,

@@ -1,4 +1,6 @@
 // A script, line by line: what it waits for, and what a line makes of that.
+#![tactic(auto)]
+
 mod waiting;
 
 use lines::Name;
@@ -6,7 +8,7 @@ use rules::ScriptCall;
 pub use waiting::{finish, read, start};
 
 // What a script waits for: a number of that name, a line that begins an event, or nothing more.
-#[derive(Drop)]
+#[derive(Clone, Copy)]
 pub enum Due {
     Number(Name),
     Event,
@@ -14,7 +16,7 @@ pub enum Due {
 }
 
 // The cut line that the next event stands under: how many stores it lets be made, and its number.
-#[derive(Drop)]
+#[derive(Clone, Copy)]
 pub enum Cut {
     None,
     After(u64, u64),
@@ -22,7 +24,7 @@ pub enum Cut {
 
 // Where a script stands: what it waits for; the event that was begun last, and the numbers read for it, or for the header; the cut
 // line; and how many lines were read.
-#[derive(Drop)]
+#[derive(Clone, Copy)]
 pub struct Script {
     pub due: Due,
     pub event: ScriptCall,
@@ -35,7 +37,7 @@ pub struct Script {
 
 // What a line asks for: mostly nothing, since a header and most events have several lines; a table of that cap and top with
 // those multipliers; an event, under a cut line or not; or the end, for a bad line.
-#[derive(Drop)]
+#[derive(Clone, Copy)]
 pub enum Asked {
     Nothing,
     Table(u64, u64, u64, u64),
@@ -43,14 +45,14 @@ pub enum Asked {
     Bad(u64),
 }
 
-#[derive(Drop)]
+#[derive(Clone, Copy)]
 pub struct Reading {
     pub script: Script,
     pub asked: Asked,
 }
 
 // How a script ends: after whole events, in a bad line, or long before, where a bad line or a table that was not made ended it.
-#[derive(Drop)]
+#[derive(Clone, Copy)]
 pub enum Ending {
     Whole,
     Bad(u64),

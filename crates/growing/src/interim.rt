@@ -16,14 +16,14 @@ use reading::tokens::{any_taken, is_taken, lowest_taken};
 use rules::{Header, Place, Placing, Slot, State};
 use words::power;
 
-#[derive(Drop)]
+#[derive(Clone, Copy)]
 pub enum Item {
     At(Slot),
     Empty,
 }
 
 // An item and the placing that was found for it: nothing where no item has a place.
-#[derive(Drop)]
+#[derive(Clone, Copy)]
 pub struct Found {
     pub item: Slot,
     pub placing: Placing,

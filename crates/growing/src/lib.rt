@@ -1,4 +1,6 @@
 // Growing and shrinking in small steps: begin, shrink, back, step and end.
+#![tactic(auto)]
+
 pub mod interim;
 
 ghost use Rattle.std.specs.Prelude.{◌≡◌, false, ◌≤◌, length};

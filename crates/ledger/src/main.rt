@@ -1,6 +1,8 @@
 // The sample ledger: a table script and then samples on standard input, the report on standard output. What is reported is settled in the
 // library, of which `posting` takes the bytes and `reporting` has the text. Here the bytes are read, part by part, so that an input of any
 // length runs in the same little memory, and the report is written.
+#![tactic(auto)]
+
 ghost use Rattle.std.specs.Prelude.{ℕ, ◌≤◌, ◌≡◌, List, length};
 ghost use Rattle.rules.specs.Words.{words_for};
 ghost use Rattle.tallying.specs.Credits.{Orderly};
@@ -18,7 +20,7 @@ use reporting::report;
 use running::{LINE_ROOM, Outcome};
 use tallying::MOST;
 
-#[derive(Drop)]
+#[derive(Clone, Copy)]
 struct Turn {
     posting: Posting,
     outcome: Outcome,

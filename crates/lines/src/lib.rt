@@ -1,4 +1,6 @@
 // What a line of a script says: a name with a decimal, an event, or a cut. Any other line is bad.
+#![tactic(auto)]
+
 ghost use Rattle.std.specs.Prelude.{◌≡◌, not, ◌+◌, ◌*◌, ◌^◌, ◌≤◌, drop, ltb};
 ghost use Rattle.lines.specs.Lines.{decimal_of, row_at, whole_line};
 ghost use Rattle.lines.specs.Found.{digits_from, decimal_found, start_of, texts_of, find_in};
@@ -7,7 +9,7 @@ ghost use Rattle.lines.specs.Promises.{Parsed, SampleParsed};
 use rules::{Record, ScriptCall};
 
 // The names that a number may have.
-#[derive(Drop)]
+#[derive(Clone, Copy)]
 pub enum Name {
     Cap,
     Top,
@@ -20,7 +22,7 @@ pub enum Name {
 }
 
 // What a line says. An event is a call whose numbers are still 0: they stand in the lines after it.
-#[derive(Drop)]
+#[derive(Clone, Copy)]
 pub enum Line {
     Number(Name, u64),
     Event(ScriptCall),
@@ -51,7 +53,7 @@ const TEXTS: [u8; 190] = *b"key=      \
                             mul2=     ";
 
 // What a line of a ledger says: a sample of a key, or one that is bad; or it does not begin as a sample does.
-#[derive(Drop)]
+#[derive(Clone, Copy)]
 pub enum Sample {
     Key(u64),
     Bad,
@@ -92,7 +94,7 @@ fn says(row: usize) -> Line
 }
 
 // Whether a line begins with the text of a row, and how many bytes that text has.
-#[derive(Drop)]
+#[derive(Clone, Copy)]
 enum Start {
     Bytes(usize),
     Not,
@@ -116,7 +118,7 @@ fn starts(line: &[u8], text: &[u8]) -> Start
 }
 
 // The row whose text a line begins with, and how many bytes that text has.
-#[derive(Drop)]
+#[derive(Clone, Copy)]
 enum Found {
     Row(usize, usize),
     Not,
@@ -136,7 +138,7 @@ fn find(line: &[u8], texts: &[u8]) -> Found
 }
 
 // A decimal, or none.
-#[derive(Drop)]
+#[derive(Clone, Copy)]
 enum Decimal {
     Value(u64),
     Not,

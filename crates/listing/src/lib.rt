@@ -1,5 +1,7 @@
 // Writing stores to a lent list, in order, as pairs: word index, new word. Each function writes from pair `at` on and
 // answers the next free pair.
+#![tactic(auto)]
+
 ghost use Rattle.std.specs.Prelude.{◌≡◌, [], ◌∷◌, ◌+◌, ◌^◌, ◌≤◌, ◌<◌, length};
 ghost use Rattle.rules.specs.Forms.{tag_of};
 ghost use Rattle.rules.specs.Stores.{put_stores, clear_stores, move_stores, placing_stores, redo_stores, log_stores};

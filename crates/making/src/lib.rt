@@ -1,4 +1,6 @@
 // The two calls that write the table. "A changing call only reads the table": it lists its stores, and make makes them.
+#![tactic(auto)]
+
 ghost use Rattle.std.specs.Prelude.{◌≡◌, true, ◌*◌, ◌≤◌, length, replicate};
 ghost use Rattle.rules.specs.Choice.{all};
 ghost use Rattle.rules.specs.Stores.{pairs, made};

@@ -1,4 +1,6 @@
 // Answers as the numbers of documents 01 and 02: "0 is success", and else the refusal's.
+#![tactic(auto)]
+
 ghost use Rattle.std.specs.Prelude.{◌≡◌};
 ghost use Rattle.rules.specs.Answers.{number_of, change_means, conversion_means, query_means, verdict_means};
 ghost use Rattle.rules.specs.Histories.{reported as reportedOf};
@@ -60,7 +62,7 @@ pub fn reported(change: Change) -> u64
 }
 
 // A query's answer as a number and words.
-#[derive(Drop)]
+#[derive(Clone, Copy)]
 pub struct QueryWords {
     pub number: u64,
     pub function: u64,
@@ -95,7 +97,7 @@ pub fn query_words(answer: Query) -> QueryWords
 }
 
 // A conversion's answer as a number and the key that goes with it.
-#[derive(Drop)]
+#[derive(Clone, Copy)]
 pub struct ConversionWords {
     pub number: u64,
     pub key: u64,

@@ -3,6 +3,8 @@
 //
 // What `asked` tells and the part that `parts` gives rest on the same tests and the same lookups, but each goes through them by itself: so the compiler
 // keeps what a lookup finds in registers, and the answer of one does not go through memory to the other (docs/DECISIONS.md).
+#![tactic(auto)]
+
 pub mod parts;
 
 ghost use Rattle.std.specs.Prelude.{◌≡◌, ◌≤◌, length};

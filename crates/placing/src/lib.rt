@@ -1,4 +1,6 @@
 // "Placing uses top and bottom only": the slot that a key which stands nowhere would get.
+#![tactic(auto)]
+
 mod buckets;
 mod moves;
 pub mod room;

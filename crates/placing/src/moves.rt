@@ -17,7 +17,7 @@ use reading::places::{Places, both_places, hashes, no_place, one_place, place};
 use rules::{Hashes, Header, Level, Place, Placing, Slot};
 
 // Where the items of a part may go, in a level: up to either of their places there, or else to their "other" place.
-#[derive(Drop)]
+#[derive(Clone, Copy)]
 pub struct Way {
     pub up: bool,
     pub level: Level,

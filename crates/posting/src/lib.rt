@@ -1,4 +1,6 @@
 // A ledger part by part, so that an input of any length runs in little memory: the bytes of a line are held until its newline comes.
+#![tactic(auto)]
+
 ghost use Rattle.std.specs.Prelude.{ℕ, ◌≡◌, List, ltb};
 ghost use Rattle.tallying.specs.Credits.{Orderly};
 ghost use Rattle.crediting.specs.Books.{book_of, at_end, Turned};
@@ -9,7 +11,7 @@ use replaying::lending::least;
 use running::{LINE_ROOM, hold};
 
 // Where the bytes before have led to: the ledger, and how many bytes of a line are held.
-#[derive(Drop)]
+#[derive(Clone, Copy)]
 pub struct Posting {
     pub ledger: Ledger,
     pub held: usize,
@@ -24,7 +26,7 @@ pub fn ready() -> Posting
 }
 
 // Some bytes of a text are taken: how many of a line are held now, how many were taken, and whether a newline was the last of them.
-#[derive(Drop)]
+#[derive(Clone, Copy)]
 struct Gathered {
     held: usize,
     taken: usize,

@@ -1,5 +1,7 @@
 // Answers as text on standard output, in document 01's numbers and values: "a definition tells you this paper's number and
 // values for each of its cases". Each answer begins with a colon.
+#![tactic(auto)]
+
 use numbering::{number, query_words, verdict_number};
 use rules::{Change, Placing, Query, Slot, Verdict};
 

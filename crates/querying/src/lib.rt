@@ -1,4 +1,6 @@
 // Query: the record of a key, where the key stands, and the number of buckets looked at.
+#![tactic(auto)]
+
 pub mod lookup;
 mod probing;
 

@@ -9,7 +9,7 @@ use rules::layout::{FLAG, HEADER_WORDS};
 use rules::{Header, Refusal};
 
 // A good header to go on with, or the refusal of the first test that fails.
-#[derive(Drop)]
+#[derive(Clone, Copy)]
 pub enum Gate {
     Open(Header),
     Shut(Refusal),

@@ -11,7 +11,7 @@ use rules::{Hashes, Header, Level, Place, State};
 use words::{hash, power, product};
 
 // At most two places: the first n of the list.
-#[derive(Drop)]
+#[derive(Clone, Copy)]
 pub struct Places {
     pub list: [Place; 2],
     pub n: usize,

@@ -1,5 +1,7 @@
 // Recovery: what it finds (a sound table, one key in two slots, a set flag with its slot, or none of these), and the stores that it
 // lists.
+#![tactic(auto)]
+
 pub mod levels;
 pub mod target;
 

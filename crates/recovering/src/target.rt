@@ -12,14 +12,14 @@ use rules::{Header, Level, Slot, State};
 use words::power;
 
 // The slot that word 6 names, if it names a taken slot in a level in use.
-#[derive(Drop)]
+#[derive(Clone, Copy)]
 pub enum Target {
     At(Slot),
     Nothing,
 }
 
 // The level in use that a bucket belongs to, if it belongs to one.
-#[derive(Drop)]
+#[derive(Clone, Copy)]
 pub enum Home {
     In(Level),
     Nowhere,

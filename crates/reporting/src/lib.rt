@@ -1,4 +1,6 @@
 // The report of a ledger as text.
+#![tactic(auto)]
+
 ghost use Rattle.std.specs.Prelude.{◌+◌, ◌*◌, ◌≤◌, ◌≡◌, length, take};
 ghost use Rattle.tallying.specs.Credits.{Orderly};
 ghost use Rattle.saying.specs.Writing.{Put};

@@ -1,18 +1,20 @@
 // The types that the rules of documents 01 and 02 and the code share: what the header says, where an item stands,
 // the calls, and what each call answers. The only code is that of a state (`phases`); specs/ has the rules, and proofs/ the laws about
 // them.
+#![tactic(auto)]
+
 pub mod layout;
 mod phases;
 
 // Word 4, decoded: "k + 256·phase; phase 0 at rest, 1 growing"; 2 shrinking.
-#[derive(Drop)]
+#[derive(Clone, Copy)]
 pub struct State {
     pub k: u64,
     pub phase: u64,
 }
 
 // Words 0 to 4, decoded.
-#[derive(Drop)]
+#[derive(Clone, Copy)]
 pub struct Header {
     pub form: u64,
     pub c: u64,
@@ -22,14 +24,14 @@ pub struct Header {
 }
 
 // A level: which one it is (0 the top, 1 the bottom, 2 the interim level), and e where it has 2^e buckets.
-#[derive(Drop)]
+#[derive(Clone, Copy)]
 pub struct Level {
     pub name: u64,
     pub exponent: u64,
 }
 
 // Hash 1 and hash 2 of a key, and beside them its tag, which comes from the product of hash 1; 0 in form 1, which has none.
-#[derive(Drop)]
+#[derive(Clone, Copy)]
 pub struct Hashes {
     pub first: u64,
     pub second: u64,
@@ -37,14 +39,14 @@ pub struct Hashes {
 }
 
 // A bucket of a level.
-#[derive(Drop)]
+#[derive(Clone, Copy)]
 pub struct Place {
     pub level: u64,
     pub bucket: usize,
 }
 
 // A slot of a bucket of a level.
-#[derive(Drop)]
+#[derive(Clone, Copy)]
 pub struct Slot {
     pub level: u64,
     pub bucket: usize,
@@ -52,21 +54,21 @@ pub struct Slot {
 }
 
 // What a key leads to.
-#[derive(Drop)]
+#[derive(Clone, Copy)]
 pub struct Record {
     pub function: u64,
     pub place: u64,
 }
 
 // Where a key stands: the index of its key word, and its level, 0 the top, 1 the bottom, 2 the interim level.
-#[derive(Drop)]
+#[derive(Clone, Copy)]
 pub struct Spot {
     pub word: u64,
     pub level: u64,
 }
 
 // What a script's events are: document 01's calls, but for create, and make, which makes their stores; and request f)'s two.
-#[derive(Drop)]
+#[derive(Clone, Copy)]
 pub enum ScriptCall {
     Query(u64),
     Insert(u64, Record),
@@ -81,14 +83,14 @@ pub enum ScriptCall {
 }
 
 // What the search for a key finds, with the number of buckets looked at.
-#[derive(Drop)]
+#[derive(Clone, Copy)]
 pub enum Lookup {
     Stands(Slot, u64),
     Absent(u64),
 }
 
 // "So a placing is a free slot, a move of one slot to another, or nothing."
-#[derive(Drop)]
+#[derive(Clone, Copy)]
 pub enum Placing {
     Free(Slot),
     Move(Slot, Slot),
@@ -97,7 +99,7 @@ pub enum Placing {
 
 // What recovery finds: a sound table; one key in two slots, of which the second is to be cleared; a set flag with
 // the slot that it is set for; or none of these.
-#[derive(Drop)]
+#[derive(Clone, Copy)]
 pub enum Finding {
     Sound,
     Doubled(Slot, Slot),
@@ -106,7 +108,7 @@ pub enum Finding {
 }
 
 // The refusals, in the order of their numbers: document 01's fourteen, then those of document 02.
-#[derive(Drop)]
+#[derive(Clone, Copy)]
 pub enum Refusal {
     BadHeader,
     ShortList,
@@ -128,14 +130,14 @@ pub enum Refusal {
 }
 
 // What insert, update, delete, begin, shrink, back, end and recover answer: how many stores they listed, or why they listed none.
-#[derive(Drop)]
+#[derive(Clone, Copy)]
 pub enum Change {
     Listed(u64),
     Refused(Refusal),
 }
 
 // What a step answers: the change, and the placing of the item that it takes; nothing where it was refused.
-#[derive(Drop)]
+#[derive(Clone, Copy)]
 pub struct Stepped {
     pub change: Change,
     pub placing: Placing,
@@ -143,14 +145,14 @@ pub struct Stepped {
 
 // What a step from a given interim bucket on answers beside it: the bucket in which the item stood, counted from 0 in the level; 0 where the
 // step was refused.
-#[derive(Drop)]
+#[derive(Clone, Copy)]
 pub struct SteppedFrom {
     pub stepped: Stepped,
     pub bucket: u64,
 }
 
 // What query answers: the record and where its key stands, or why there is none; and the number of buckets looked at.
-#[derive(Drop)]
+#[derive(Clone, Copy)]
 pub enum Query {
     Known(Record, Spot, u64),
     Unknown(Refusal, u64),
@@ -158,7 +160,7 @@ pub enum Query {
 
 // What the chain of inlined callers answers: that every depth has its record, or why no record was written; and the number of buckets
 // looked at.
-#[derive(Drop)]
+#[derive(Clone, Copy)]
 pub enum Chain {
     Whole(u64),
     Broken(Refusal, u64),
@@ -166,7 +168,7 @@ pub enum Chain {
 
 // What a conversion answers: that the second table is the other form of the first; the key of the item that found no place in it; or why
 // nothing was converted.
-#[derive(Drop)]
+#[derive(Clone, Copy)]
 pub enum Conversion {
     Converted,
     Stuck(u64),
@@ -175,14 +177,14 @@ pub enum Conversion {
 
 // What asking two tables answers: the table that holds the key, 0 the newer or 1 the older, and the index of its key word there; or the table that
 // is told of, and why there is no record; and the number of buckets looked at.
-#[derive(Drop)]
+#[derive(Clone, Copy)]
 pub enum Asked {
     Hit(u64, u64, u64),
     Miss(u64, Refusal, u64),
 }
 
 // What create and make answer.
-#[derive(Drop)]
+#[derive(Clone, Copy)]
 pub enum Verdict {
     Done,
     Denied(Refusal),

@@ -1,4 +1,6 @@
 // A script byte by byte, so that one of any length runs in little memory: the bytes of a line are held until its newline comes.
+#![tactic(auto)]
+
 ghost use Rattle.std.specs.Prelude.{◌≡◌};
 ghost use Rattle.running.specs.Runs.{ready as readyOf, HeldIs, LineTaken, ByteTaken, known as known_of, end_of};
 
@@ -12,13 +14,13 @@ use replaying::{Answer, Replay, begun, finish, take_line};
 pub const LINE_ROOM: usize = 28;
 
 // Where a run stands: in its replay, and how many bytes of the line are held.
-#[derive(Drop)]
+#[derive(Clone, Copy)]
 pub struct Run {
     pub replay: Replay,
     pub held: usize,
 }
 
-#[derive(Drop)]
+#[derive(Clone, Copy)]
 pub struct Taken {
     pub run: Run,
     pub answer: Answer,
@@ -26,7 +28,7 @@ pub struct Taken {
 
 // How a program goes on that reads its input part by part: it reads more; all that it will write is known; the input has ended; or a read has
 // failed.
-#[derive(Drop)]
+#[derive(Clone, Copy)]
 pub enum Outcome {
     Going,
     Known,

@@ -1,4 +1,6 @@
 // An answer of the script program as lines of text.
+#![tactic(auto)]
+
 ghost use Rattle.std.specs.Prelude.{◌≡◌, ◌+◌, ◌≤◌, length, take};
 ghost use Rattle.saying.specs.Promises.{Said};
 ghost use Rattle.lines.specs.Texts.{decimal_text};

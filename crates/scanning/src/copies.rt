@@ -8,7 +8,7 @@ use rules::Slot;
 
 // What a scan has met: no key in two slots; one pair of slots with one key; or a second pair, or a slot that is in no
 // place of its key.
-#[derive(Drop)]
+#[derive(Clone, Copy)]
 pub enum Scan {
     Clear,
     Pair(Slot, Slot),

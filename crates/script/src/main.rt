@@ -1,6 +1,8 @@
 // The script program: a script on standard input, its answers on standard output. What is answered is settled in the library, of
 // which `running` takes the bytes and `saying` has the text of an answer. Here the bytes are read and the text is written, part by
 // part, so that a script of any length runs in the same little memory, and what has been answered is written before more is read.
+#![tactic(auto)]
+
 ghost use Rattle.std.specs.Prelude.{◌≤◌, ◌≡◌, length, take};
 ghost use Rattle.rules.specs.Words.{words_for};
 ghost use Rattle.running.specs.Runs.{end_of};
@@ -12,7 +14,7 @@ use running::{LINE_ROOM, Run, end, known, ready, take_byte};
 use saying::{TEXT_BYTES, say_at};
 
 // The first bytes of a text are taken: how many, and how many bytes of answers wait at the front of the buffer.
-#[derive(Drop)]
+#[derive(Clone, Copy)]
 struct Took {
     run: Run,
     taken: usize,
@@ -60,7 +62,7 @@ fn take_some(
 }
 
 // How much of a part is taken, and whether all that it is answered with was written.
-#[derive(Drop)]
+#[derive(Clone, Copy)]
 struct Part {
     run: Run,
     taken: usize,
@@ -104,7 +106,7 @@ fn take_part(
 }
 
 // How the program goes on: it reads more; the answer is known; the input has ended; or a read or a write has failed.
-#[derive(Drop)]
+#[derive(Clone, Copy)]
 enum Outcome {
     Going,
     Known,
@@ -113,7 +115,7 @@ enum Outcome {
     Unwritten,
 }
 
-#[derive(Drop)]
+#[derive(Clone, Copy)]
 struct Turn {
     run: Run,
     outcome: Outcome,

@@ -1,5 +1,7 @@
 // How many samples each function has. The functions that are counted stand in ascending order at the front of lent words, and the samples
 // of each stand at the same place of other lent words. So a function is found by halving, and the report needs no sorting.
+#![tactic(auto)]
+
 ghost use Rattle.std.specs.Prelude.{◌≡◌, ◌+◌, ◌-◌, ◌/◌, ◌<◌, ◌≤◌, length, take};
 ghost use Rattle.tallying.specs.Functions.{place_for};
 ghost use Rattle.tallying.specs.Credits.{Searched, Between, stands_at, Inserted, Credited, Orderly};
@@ -10,7 +12,7 @@ use std::num::wrapping_add_u64;
 pub const MOST: usize = 512;
 
 // How many functions are counted, and the samples of the others.
-#[derive(Drop)]
+#[derive(Clone, Copy)]
 pub struct Tally {
     pub used: usize,
     pub other: u64,
@@ -27,7 +29,7 @@ pub fn nothing() -> Tally
 const HALVINGS: usize = 10;
 
 // What is left to look at: the place that is looked for is not before `low` and not behind `high`.
-#[derive(Drop)]
+#[derive(Clone, Copy)]
 struct Range {
     low: usize,
     high: usize,

@@ -1,5 +1,7 @@
 // Arithmetic on words that the rules lean on: the product, the hash and powers of two.
 // Each function is promised equal to a definition of specs/ that a reader of document 01 recognises.
+#![tactic(auto)]
+
 ghost use Rattle.std.specs.Prelude.{◌≡◌, ◌^◌, ◌<◌};
 ghost use Rattle.words.specs.Product.{product_of, hash_of};
 
