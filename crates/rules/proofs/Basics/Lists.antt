@@ -169,7 +169,7 @@ map_in f (x ∷ xs) y i =
     ⊎_elim (λ (h : y ≡ f x). (x, here refl, h)) (λ (h : In y (map f xs)). let r = map_in f xs y h in (r.0, there r.1, r.2))
     (Memᴰ.cases_cons i)
 
-pub in_map : {A B : Type 0} (f : A → B) {l : List A} {x : A} → In x l → In (f x) (map f l)
+pub in_map : {A B : Type 0} (f : A → B) {x : A} {l : List A} → In x l → In (f x) (map f l)
 in_map f (here e) = here (ap f e)
 in_map f (there i) = there (in_map f i)
 
@@ -309,7 +309,7 @@ first_of-given p g (x ∷ xs) = go (p x) (first_of-given p g xs)
 
 -- ---- what is in a list: the converses
 
-pub in_select : {A : Type 0} (p : A → Bool) {l : List A} {x : A} → In x l → p x ≡ true → In x (select p l)
+pub in_select : {A : Type 0} (p : A → Bool) {x : A} {l : List A} → In x l → p x ≡ true → In x (select p l)
 in_select p (here {x = y} e) q = let r : p y ≡ true = rw e at q in rw r (here e)
 in_select p {x = x} (there {x = y} {xs = ys} i) q = go (p y) (in_select p i q)
   where
@@ -317,7 +317,7 @@ in_select p {x = x} (there {x = y} {xs = ys} i) q = go (p y) (in_select p i q)
     go true k = there k
     go false k = k
 
-pub in_flat_map : {A B : Type 0} (f : A → List B) {l : List A} {x : A} {y : B} → In x l → In y (f x) → In y (flat_map f l)
+pub in_flat_map : {A B : Type 0} (f : A → List B) {x : A} {l : List A} {y : B} → In x l → In y (f x) → In y (flat_map f l)
 unfolding flat_map
 in_flat_map f (here {xs = xs} e) j = Memᴰ.append_left (flat_map f xs) (rw e at j)
 in_flat_map f (there {x = z} i) j = Memᴰ.append_right (f z) (in_flat_map f i j)
