@@ -1,0 +1,9 @@
+-- `reading::slots::spot` meets its contract.
+-- Assumes nothing.
+use borrow.Author.Rules.{rules}
+use Rattle.rules.specs.Words.{spot_of}
+use Rattle.reading.proofs.slots.spot.Goals as goal
+
+pub returns : goal.returns
+unfolding spot_of
+returns c = rw c.key_word.ensures
