@@ -7,7 +7,7 @@ use mathlib.Core.List.{List}
 use native.Mathlib.Omega.{arith}
 use lib.ListN.{length, take, drop}
 use lib.Dec.{eqb}
-use denote.Ref.{Bor, MutBor}
+use denote.Ref.{Bor}
 use Rattle.rules.specs.Words.{Table, token_word, key_word}
 use Rattle.rules.specs.Places.{lookup}
 use Rattle.rules.specs.Answers.{LookupTells}
@@ -59,9 +59,9 @@ module _ {f : Lookup} (behind : Lookup) (t u r : Bor (List ℕ)) where
 
 -- ---- the promise
 
-module _ (t u : MutBor (List ℕ)) (key : ℕ) where
+module _ (t u : Bor (List ℕ)) (key : ℕ) where
   -- the part that an answer leads to
-  abbrev PartFor : Asked → MutBor (List ℕ) → Type 0
+  abbrev PartFor : Asked → Bor (List ℕ) → Type 0
   PartFor a r = PartAt (named (part_of a).name t u) (part_of a).start (part_of a).size r
 
   over_for : (f g : Lookup) {r : Bor (List ℕ)} → PartOver f g t u r → PartFor (in_either f g) r
@@ -77,7 +77,7 @@ module _ (t u : MutBor (List ℕ)) (key : ℕ) where
       go true = refl
       go false = refl
 
-  parted : {a : Asked} {r : MutBor (List ℕ)} → a ≡ asked_result t.now u.now key → PartFor a r → Parted t u key r t.now u.now
+  parted : {a : Asked} {r : Bor (List ℕ)} → a ≡ asked_result t.now u.now key → PartFor a r → Parted t u key r t.now u.now
   unfolding part_result words_of
   parted {a} e p =
       record {

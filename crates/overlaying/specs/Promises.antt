@@ -2,7 +2,7 @@
 -- the key. Both tables are only read, and stay. Here t is the newer table and u the older, at exit x and y.
 -- Assumes nothing.
 use Rattle.std.specs.Prelude.{ℕ, ◌+◌, ◌*◌, ◌^◌, ◌≤◌, ◌<◌, ◌≡◌, List, take, drop}
-use Rattle.std.specs.Borrow.{Bor, MutBor}
+use Rattle.std.specs.Borrow.{Bor}
 use Rattle.rules.specs.Words.{Table, key_word}
 use Rattle.rules.specs.Answers.{Meaning, asked_means}
 use Rattle.rules.specs.Overlays.{named, asked_result, part_result, words_of}
@@ -44,7 +44,7 @@ PartOver (Absent n) behind t u r = PartFound behind u r
 
 -- "The answer is the part of whichever table holds the key, three words of that table and no copy; an empty part with a refusal": r has the words of
 -- the part that the rules name, and begins at its first word in that table's own memory
-pub record Parted (t u : MutBor (List ℕ)) (key : ℕ) (r : MutBor (List ℕ)) (x y : Table) : Type 0 where
+pub record Parted (t u : Bor (List ℕ)) (key : ℕ) (r : Bor (List ℕ)) (x y : Table) : Type 0 where
   pub words : r.now ≡ words_of (part_result t.now u.now key) t.now u.now
   pub memory : let p = part_result t.now u.now key in let s = named p.name t u in r.ref_ptr ≡ (s.ref_ptr.0, p.start * 8 + s.ref_ptr.1)
   pub newer : x ≡ t.now

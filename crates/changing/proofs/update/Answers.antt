@@ -1,0 +1,24 @@
+-- `changing::update` meets its contract.
+-- Assumes nothing.
+use Rattle.rules.specs.Calls.{update}
+use Rattle.listing.proofs.Outcomes.{changed_shut, changed_open, change-long}
+use borrow.Author.Rules.{rules}
+use Rattle.changing.proofs.update.Goals as goal
+
+pub update_at-requires : goal.update_at-requires
+update_at-requires c =
+    let q = c.change_gate-gate.ensures in
+    let y = rw c.in-Open.is at q.1 in
+    (change-long _ _ q.0 c.in-Open.is, y.1)
+
+pub returns-in-Shut : goal.returns-in-Shut
+returns-in-Shut c =
+    let a = c.args in
+    changed_shut (update a.key a.r) _ _ c.change_gate-gate.ensures.0 c.in-Shut.is
+
+pub returns-in-Open : goal.returns-in-Open
+returns-in-Open c =
+    let a = c.args in
+    let q = c.change_gate-gate.ensures in
+    let y = rw c.in-Open.is at q.1 in
+    changed_open (update a.key a.r) _ _ q.0 c.in-Open.is y.0 c.update_at.ensures

@@ -1,0 +1,46 @@
+-- `growing::step_at` meets its contract.
+-- Assumes nothing.
+use borrow.Enum.Refused.{opened}
+use mathlib.Core.Path.{◌≡◌, sym, ◌∙◌}
+use mathlib.Core.Bool.{false}
+use mathlib.Core.List.{head?}
+use mathlib.Core.Option.{some}
+use Rattle.rules.specs.Words.{at_rest}
+use Rattle.rules.specs.Calls.{items_from}
+use Rattle.rules.proofs.Words.Headers.{header-state}
+use Rattle.growing.proofs.Searches.{first_in_level}
+use Rattle.growing.proofs.Growth.{is_empty, nothing}
+use Rattle.growing.proofs.Stepping.{item-some, step-resting, step-empty, did_on, did_step_refuse}
+use borrow.Author.Rules.{rules}
+use Rattle.growing.proofs.step_at.Goals as goal
+use Rattle.growing.proofs.step_at.Goals.{Else-at_rest, In-At}
+
+pub returns-then-at_rest : goal.returns-then-at_rest
+returns-then-at_rest c = did_step_refuse _ _ _ _ (step-resting _ _ _ (sym c.at_rest.ensures ∙ c.if-at_rest.true)) c.unplaced.ensures
+
+-- past the first test
+resizing : (c : Else-at_rest) → at_rest c.args.h.state ≡ false
+resizing c = sym c.at_rest.ensures ∙ c.if-at_rest.false
+
+pub first_item-item-requires : goal.first_item-item-requires
+first_item-item-requires c = (c.requires.1.good, resizing (goal.at.first_item-item-requires c).Else-at_rest)
+
+pub returns-in_default : goal.returns-in_default
+returns-in_default c =
+    let none = nothing (items_from _ _ _) (sym c.first_item-item.ensures.0 ∙ is_empty _ c.in_default.in_default-own.keys2) in
+    did_step_refuse _ _ _ _ (step-empty _ _ _ (resizing (goal.at.returns-in_default c).Else-at_rest) none)
+    c.unplaced-in_default.ensures
+
+-- the first item
+first : (c : In-At) →
+    head? (items_from c.args.t.now c.args.h c.args.b) ≡ some c.in-At.first
+first c = item-some _ (sym c.first_item-item.ensures.0 ∙ c.in-At.is)
+
+pub bucket_in_level-requires : goal.bucket_in_level-requires
+bucket_in_level-requires c = (header-state _ _ c.requires.1.good, resizing (goal.at.bucket_in_level-requires c).Else-at_rest, first_in_level _ _ _ _ (first (goal.at.bucket_in_level-requires c).In-At))
+
+pub step_item-requires : goal.step_item-requires
+step_item-requires c = (c.requires.0, c.requires.1, resizing (goal.at.step_item-requires c).Else-at_rest)
+
+pub returns : goal.returns
+returns c = did_on _ _ _ (resizing (goal.at.returns c).Else-at_rest) _ (first (goal.at.returns c).In-At) c.bucket_in_level.ensures c.step_item.ensures
