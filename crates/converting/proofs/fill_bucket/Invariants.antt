@@ -1,0 +1,20 @@
+-- `converting::fill_bucket` meets its contract.
+-- Assumes nothing.
+use Prim.Native.Nat.{◌+◌, ◌-◌}
+use mathlib.Core.Path.{◌≡◌, sym, ◌∙◌}
+use mathlib.Core.List.{[], ◌∷◌, ◌++◌}
+use mathlib.Core.Logic.{⊎_elim}
+use native.Mathlib.Omega.{arith}
+use lib.ListN.{drop}
+use borrow.Author.Rules.{rules}
+use Rattle.rules.specs.Words.{slot_at, slots_in, token_of}
+use Rattle.rules.proofs.Basics.Walks.{slots_end}
+use Rattle.converting.specs.Fillings.{items_in}
+use Rattle.converting.proofs.Filling.{Left, left_whole, left_others, left_stuck, slot-first, slot_skipped, none_left, item_unsought, put_fills}
+use Rattle.converting.proofs.fill_bucket.Given as goal
+
+abbrev pub invariant-loop-s : goal.invariant-loop-s
+invariant-loop-s l = Left l.t l.to l.initial.second (items_in l.t l.h (slots_in l.p)) l.second (items_in l.t l.h (drop l.s (slots_in l.p))) × (l.word ≡ token_of l.t l.p.bucket)
+
+abbrev pub decreases-loop-s : goal.decreases-loop-s
+decreases-loop-s l = 4 - l.s
