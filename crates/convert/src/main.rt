@@ -15,13 +15,13 @@ ghost use Rattle.convert.specs.Outputs.{ways_in, way_text, ways_text, report_tex
 ghost use Rattle.convert.specs.Parts.{largest, longest, ended_by, has_ended, last_ending, standing, begun, after_bytes, is_known, report_from};
 
 use converting::convert;
-use libc::{STDERR_FILENO, STDIN_FILENO, STDOUT_FILENO};
 use numbering::{conversion_words, number};
 use replaying::Answer;
 use replaying::lending::least;
 use rules::{Conversion, Refusal, Verdict};
 use running::{LINE_ROOM, Outcome, Run, end, ready, take_byte};
-use saying::put_line;
+use saying::{STDERR, STDOUT, put_line};
+use std::io::{Read, Stdin};
 
 // The words of a table of the largest cap, 7: "limited to cap 7 so that both fit". A larger one finds no room here, and is not made.
 const ROOM: usize = 3324;
@@ -103,7 +103,7 @@ struct Turn {
 }
 
 // Reads once, unless all is known, and takes what came.
-fn read_some(course: Course, room: &mut [u64], line: &mut [u8; LINE_ROOM], input: &mut [u8]) -> Turn
+fn read_some(stdin: Stdin, course: Course, room: &mut [u64], line: &mut [u8; LINE_ROOM], input: &mut [u8]) -> Turn
     ensures { ReadSome after_bytes is_known (standing course room.old line.old) input.new result.outcome
         (standing result.course room.new line.new) }
 {
@@ -113,14 +113,13 @@ fn read_some(course: Course, room: &mut [u64], line: &mut [u8; LINE_ROOM], input
             outcome: Outcome::Known,
         };
     }
-    let got = libc::read(STDIN_FILENO, input);
-    if got < 0 {
+    let mut source = stdin;
+    let Ok(n) = source.read(input) else {
         return Turn {
             course,
             outcome: Outcome::Unread,
         };
-    }
-    let n = io::count(got, input);
+    };
     if n == 0 {
         return Turn {
             course,
@@ -135,7 +134,7 @@ fn read_some(course: Course, room: &mut [u64], line: &mut [u8; LINE_ROOM], input
 }
 
 // A proved loop has to end, and nothing says that the input does. So the parts are counted, up to a number that no run comes to.
-fn read_all(room: &mut [u64], line: &mut [u8; LINE_ROOM], input: &mut [u8]) -> Turn
+fn read_all(stdin: Stdin, room: &mut [u64], line: &mut [u8; LINE_ROOM], input: &mut [u8]) -> Turn
     requires { length room.old ≡ words_for largest }
     ensures { Ran after_bytes is_known (begun room.old line.old) result.outcome
         (standing result.course room.new line.new) × RoomFor largest room.old }
@@ -146,7 +145,7 @@ fn read_all(room: &mut [u64], line: &mut [u8; LINE_ROOM], input: &mut [u8]) -> T
     };
     let mut parts: u64 = 0;
     while parts < u64::MAX {
-        let turn = read_some(course, room, line, input);
+        let turn = read_some(stdin, course, room, line, input);
         let next = turn.course;
         let outcome = turn.outcome;
         let Outcome::Going = outcome else {
@@ -235,7 +234,7 @@ fn report(course: Course, room: &mut [u64], out: &mut [u8]) -> usize
 }
 
 fn complain(text: &[u8]) {
-    io::write_all(STDERR_FILENO, text);
+    io::write_all(STDERR, text);
 }
 
 // Whether the report was written.
@@ -244,7 +243,7 @@ fn write_report(course: Course, room: &mut [u64], out: &mut [u8]) -> bool
     ensures { Fronted out.new (report_text (report_from course room.old)) }
 {
     let n = report(course, room, out);
-    io::write_all(STDOUT_FILENO, &out[..n])
+    io::write_all(STDOUT, &out[..n])
 }
 
 // A program cannot end with a status of its own. So a failure is told on standard error, where nothing else is written: whoever
@@ -271,11 +270,11 @@ fn conclude(last: Turn, room: &mut [u64], out: &mut [u8])
     }
 }
 
-fn main() {
+fn main(rt: HostRuntime) {
     let mut words = [0u64; ROOM];
     let mut line = [0u8; LINE_ROOM];
     let mut input = io::large_buffer();
     let mut out = [0u8; LONGEST];
-    let last = read_all(&mut words, &mut line, &mut input);
+    let last = read_all(rt.stdin(), &mut words, &mut line, &mut input);
     conclude(last, &mut words, &mut out);
 }

@@ -14,10 +14,11 @@ ghost use Rattle.reporting.specs.Promises.{longest};
 ghost use Rattle.ledger.specs.Parts.{known_in, turned_to, OrderlyTurn, written_after};
 
 use crediting::known;
-use libc::{STDERR_FILENO, STDIN_FILENO, STDOUT_FILENO};
 use posting::{Posting, end, ready, take_part};
 use reporting::report;
 use running::{LINE_ROOM, Outcome};
+use saying::{STDERR, STDOUT};
+use std::io::{Read, Stdin};
 use tallying::MOST;
 
 #[derive(Clone, Copy)]
@@ -28,6 +29,7 @@ struct Turn {
 
 // Reads once, unless the report is known, and takes what came.
 fn read_some(
+    stdin: Stdin,
     p: Posting,
     room: &mut [u64],
     functions: &mut [u64],
@@ -48,14 +50,13 @@ fn read_some(
             outcome: Outcome::Known,
         };
     }
-    let got = libc::read(STDIN_FILENO, input);
-    if got < 0 {
+    let mut source = stdin;
+    let Ok(n) = source.read(input) else {
         return Turn {
             posting: p,
             outcome: Outcome::Unread,
         };
-    }
-    let n = io::count(got, input);
+    };
     if n == 0 {
         return Turn {
             posting: p,
@@ -71,6 +72,7 @@ fn read_some(
 
 // A proved loop has to end, and nothing says that the input does. So the parts are counted, up to a number that no run comes to.
 fn read_all(
+    stdin: Stdin,
     room: &mut [u64],
     functions: &mut [u64],
     samples: &mut [u64],
@@ -85,7 +87,7 @@ fn read_all(
     let mut posting = ready();
     let mut parts: u64 = 0;
     while parts < u64::MAX {
-        let turn = read_some(posting, room, functions, samples, line, input);
+        let turn = read_some(stdin, posting, room, functions, samples, line, input);
         let next = turn.posting;
         let outcome = turn.outcome;
         let Outcome::Going = outcome else {
@@ -104,7 +106,7 @@ fn read_all(
 }
 
 fn complain(text: &[u8]) {
-    io::write_all(STDERR_FILENO, text);
+    io::write_all(STDERR, text);
 }
 
 // Whether the report was written.
@@ -121,7 +123,7 @@ fn write_report(
 {
     let ledger = end(p, room);
     let n = report(ledger, functions, samples, out);
-    io::write_all(STDOUT_FILENO, &out[..n])
+    io::write_all(STDOUT, &out[..n])
 }
 
 // A program cannot end with a status of its own. So a failure is told on standard error, where nothing else is written: whoever
@@ -149,7 +151,7 @@ fn conclude(last: Turn, room: &mut [u64], functions: &[u64], samples: &[u64], ou
 }
 
 // The room holds a table of the largest cap, 8.
-fn main() {
+fn main(rt: HostRuntime) {
     let mut words = [0u64; 6652];
     let mut functions = [0u64; MOST];
     let mut samples = [0u64; MOST];
@@ -157,6 +159,7 @@ fn main() {
     let mut input = io::large_buffer();
     let mut out = io::large_buffer();
     let last = read_all(
+        rt.stdin(),
         &mut words,
         &mut functions,
         &mut samples,

@@ -12,6 +12,11 @@ use numbering::{QueryWords, change_number, query_words, reported, verdict_number
 use replaying::Answer;
 use rules::{Change, Query, Verdict};
 
+// The files that a program's answers and its failures go to, as the system numbers them.
+pub const STDOUT: i32 = 1;
+
+pub const STDERR: i32 = 2;
+
 // The bytes of a buffer for an answer's lines: the longest have 157, a query's six numbers of 20 digits.
 pub const TEXT_BYTES: usize = 160;
 

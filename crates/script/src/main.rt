@@ -9,9 +9,9 @@ ghost use Rattle.running.specs.Runs.{end_of};
 ghost use Rattle.saying.specs.Texts.{text_of, text_bytes};
 ghost use Rattle.script.specs.Parts.{standing, begun, pauses as pausesOf, TookSome, TookPart, WentOn, ReadSome, Ran};
 
-use libc::{STDERR_FILENO, STDIN_FILENO, STDOUT_FILENO};
 use running::{LINE_ROOM, Run, end, known, ready, take_byte};
-use saying::{TEXT_BYTES, say_at};
+use saying::{STDERR, STDOUT, TEXT_BYTES, say_at};
+use std::io::{Read, Stdin};
 
 // The first bytes of a text are taken: how many, and how many bytes of answers wait at the front of the buffer.
 #[derive(Clone, Copy)]
@@ -90,7 +90,7 @@ fn take_part(
         run = took.run;
         taken += took.taken;
         let waiting = took.waiting;
-        if !io::write_all(STDOUT_FILENO, &out[..waiting]) {
+        if !io::write_all(STDOUT, &out[..waiting]) {
             return Part {
                 run,
                 taken,
@@ -127,7 +127,7 @@ fn finish(run: Run, out: &mut [u8]) -> bool
     ensures { take (length (text_of (end_of run))) out.new ≡ text_of (end_of run) }
 {
     let waiting = say_at(end(run), out, 0);
-    io::write_all(STDOUT_FILENO, &out[..waiting])
+    io::write_all(STDOUT, &out[..waiting])
 }
 
 // Takes what was read, which is nothing where the input has ended.
@@ -170,6 +170,7 @@ fn take_read(
 
 // Reads once, unless the answer is known, and takes what came.
 fn read_some(
+    stdin: Stdin,
     run: Run,
     room: &mut [u64],
     line: &mut [u8; LINE_ROOM],
@@ -186,26 +187,25 @@ fn read_some(
             outcome: Outcome::Known,
         };
     }
-    let got = libc::read(STDIN_FILENO, input);
-    if got < 0 {
+    let mut source = stdin;
+    let Ok(n) = source.read(input) else {
         return Turn {
             run,
             outcome: Outcome::Unread,
         };
-    }
-    let n = io::count(got, input);
+    };
     take_read(run, room, line, &input[..n], out)
 }
 
 // A proved loop has to end, and nothing says that the input does. So the parts are counted, up to a number that no run comes to.
-fn read_all(room: &mut [u64], line: &mut [u8; LINE_ROOM], input: &mut [u8], out: &mut [u8]) -> Turn
+fn read_all(stdin: Stdin, room: &mut [u64], line: &mut [u8; LINE_ROOM], input: &mut [u8], out: &mut [u8]) -> Turn
     requires { (words_for 8 ≤ length room.old) × (text_bytes ≤ length out.old) }
     ensures { Ran (begun room.old line.old) result.outcome (standing result.run room.new line.new) }
 {
     let mut run = ready();
     let mut parts: u64 = 0;
     while parts < u64::MAX {
-        let turn = read_some(run, room, line, input, out);
+        let turn = read_some(stdin, run, room, line, input, out);
         let next = turn.run;
         let outcome = turn.outcome;
         let Outcome::Going = outcome else {
@@ -221,7 +221,7 @@ fn read_all(room: &mut [u64], line: &mut [u8; LINE_ROOM], input: &mut [u8], out:
 }
 
 fn complain(text: &[u8]) {
-    io::write_all(STDERR_FILENO, text);
+    io::write_all(STDERR, text);
 }
 
 // A program cannot end with a status of its own. So a failure is told on standard error, where nothing else is written: whoever
@@ -239,12 +239,12 @@ fn tell(outcome: Outcome) {
 }
 
 // The room holds a table of the largest cap, 8.
-fn main() {
+fn main(rt: HostRuntime) {
     let mut words = [0u64; 6652];
     let mut line = [0u8; LINE_ROOM];
     let mut input = io::large_buffer();
     let mut out = io::large_buffer();
-    let last = read_all(&mut words, &mut line, &mut input, &mut out);
+    let last = read_all(rt.stdin(), &mut words, &mut line, &mut input, &mut out);
     let outcome = last.outcome;
     tell(outcome);
 }
