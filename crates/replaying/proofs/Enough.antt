@@ -1,6 +1,6 @@
 -- A program's room is enough for every table that it makes, and for no larger one.
 -- Assumes nothing.
-use Rattle.std.proofs.Common.{◌≡◌, ℕ, ◌+◌, ◌^◌, ◌<◌, ◌≤◌, ◌⊎◌, List, length, take, inl, inr, ⊎_elim, arith, length-take-le, take_all, pow_pos, pow_mono, pow-add}
+use Rattle.std.proofs.Common.{◌≡◌, ℕ, ◌+◌, ◌^◌, ◌<◌, ◌≤◌, ◌⊎◌, length, take, inl, inr, ⊎_elim, arith, length-take-le, take_all, pow_pos, pow_mono, pow-add}
 use native.Mathlib.Decide.{dec_le}
 use Rattle.rules.specs.Words.{Table, words_for}
 use Rattle.rules.specs.Demands.{GoodCreation}
