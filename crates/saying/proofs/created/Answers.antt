@@ -1,0 +1,11 @@
+-- `saying::created` meets its contract: its lines are put one after the other.
+-- Assumes nothing.
+use Rattle.saying.proofs.LinesPut.{created_done, created_denied}
+use borrow.Author.Rules.{rules}
+use Rattle.saying.proofs.created.Goals as goal
+
+pub returns-in-Done : goal.returns-in-Done
+returns-in-Done c = created_done c.verdict_number.ensures c.in-Done.is c.line-second.ensures.0
+
+pub returns-in-Denied : goal.returns-in-Denied
+returns-in-Denied c = created_denied c.verdict_number.ensures c.in-Denied.is c.line-second.ensures.0 c.line.ensures.0
