@@ -335,10 +335,10 @@ figures_sum m looked keys few =
 
 -- counts that are reported are those of some keys, no more than there are lines
 record Counted (x : Figures) (n : ℕ) : Type 0 where
-  map_of_lem : PlainMap
+  the_map : PlainMap
   looked : ℕ → ℕ
   keys : List ℕ
-  figures : figures_of map_of_lem looked keys ≡ x
+  figures : figures_of the_map looked keys ≡ x
   few : length keys ≤ n
 
 keys_few : (ls : List (List ℕ)) → length (keys_in ls) ≤ length ls
@@ -373,7 +373,7 @@ module _ (x : Figures) where
 
   samples-counted : (t : Table) (n : ℕ) (ls : List (List ℕ)) (torn : Bool) → samples_report t n ls torn ≡ counts x → Counted x (length ls)
   unfolding samples_report
-  samples-counted t n ls torn e = record { map_of_lem = map_of u; looked = looked_in u; keys = keys_in ls; figures = figures_are; few = keys_few ls }
+  samples-counted t n ls torn e = record { the_map = map_of u; looked = looked_in u; keys = keys_in ls; figures = figures_are; few = keys_few ls }
     where
       u : Table
       u = table_after t Recover noCut
@@ -405,7 +405,7 @@ module _ (x : Figures) where
       (unless (turn_of room p (line_of l)).answer _ k))) e
     where
       longer : Counted x (length ls) → Counted x (length (l ∷ ls))
-      longer c = record { map_of_lem = c.map_of; looked = c.looked; keys = c.keys; figures = c.figures; few = omega (arith, c.few) }
+      longer c = record { the_map = c.the_map; looked = c.looked; keys = c.keys; figures = c.figures; few = omega (arith, c.few) }
 
       go : (b : Bool) {r q : Report} → (r ≡ counts x → Counted x (length (l ∷ ls)))
           → (q ≡ counts x → Counted x (length (l ∷ ls))) → cond b r q ≡ counts x
@@ -417,7 +417,7 @@ pub sum_is_samples : SumIsSamples
 unfolding report_of
 sum_is_samples room ls torn x few e =
     let c = report_counted x ls torn room begun e in
-    rw (← c.figures) (figures_sum c.map_of c.looked c.keys (omega (arith, c.few, few)))
+    rw (← c.figures) (figures_sum c.the_map c.looked c.keys (omega (arith, c.few, few)))
 
 -- ---- where a credit comes from
 

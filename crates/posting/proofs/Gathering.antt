@@ -77,7 +77,7 @@ unfolding after_gathered
 gathered-behind book line held n [] =
     let none : drop {A = ℕ} (n - n) [] ≡ [] = drop_of_length-le [] {i = n - n} (omega arith) in
     record { some = λ l. absurd (omega arith); least = omega arith; within = omega arith; post = rw none }
-gathered-behind book line held n (b ∷ bs) = go (eqb b 10) refl (gathered-behind book _ _ (n + 1) bs)
+gathered-behind book line held n (b ∷ bs) = go (eqb b 10) refl (gathered-behind book h.1 h.0 (n + 1) bs)
   where
     x : Post
     x = record { book = book; line = line; held = held }
