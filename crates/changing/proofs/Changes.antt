@@ -9,7 +9,7 @@ use native.Mathlib.Omega.{arith}
 use denote.Enum.Declared.{tag_of}
 use types.Run.{OneOf}
 use Rattle.rules.specs.Words.{Table, place_of, token_of, hide}
-use Rattle.rules.specs.Forms.{tag_of as keyTag}
+use Rattle.rules.specs.Forms.{tag_of as key_tag}
 use Rattle.rules.specs.Places.{hashes_of, lookup}
 use Rattle.rules.specs.declared.Hashes.{Hashes}
 use Rattle.rules.specs.Placing.{free_slot, placing}
@@ -66,7 +66,7 @@ module _ (t : Table) (h : Header) (o : Lookup) (key : ℕ) (r : Record) where
       go (Stands x n) q = never refl q
 
 -- the tag beside the hashes
-pub hashed_tag : (h : Header) (key : ℕ) {x : Hashes} → x ≡ hashes_of h key → x.tag ≡ keyTag h key
+pub hashed_tag : (h : Header) (key : ℕ) {x : Hashes} → x ≡ hashes_of h key → x.tag ≡ key_tag h key
 unfolding hashes_of
 hashed_tag h key e = ap (λ (z : Hashes). z.tag) e
 

@@ -4,10 +4,10 @@
 ghost use Rattle.std.specs.Prelude.{◌≡◌, ◌^◌, ◌≤◌, ◌<◌, length};
 ghost use Rattle.rules.specs.Forms.{tag_of};
 ghost use Rattle.rules.specs.Words.{GoodHeader};
-ghost use Rattle.rules.specs.Places.{hashes_of, lookup as lookupOf};
+ghost use Rattle.rules.specs.Places.{hashes_of, lookup as lookup_of};
 ghost use Rattle.rules.specs.Stores.{placing_stores, update_stores};
 ghost use Rattle.rules.specs.Calls.{insert_in, update_in, delete_in};
-ghost use Rattle.rules.specs.Calls.{insert as insertCall, update as updateCall, delete as deleteCall};
+ghost use Rattle.rules.specs.Calls.{insert as insert_call, update as update_call, delete as delete_call};
 ghost use Rattle.rules.specs.declared.Lookup.TheVariants.{Absent};
 ghost use Rattle.rules.specs.declared.Placing.TheVariants.{Move as move};
 ghost use Rattle.reading.specs.Gates.{Headed};
@@ -30,7 +30,7 @@ use rules::{Change, Hashes, Header, Lookup, Place, Placing, Record, Refusal, Slo
 // "delete | token cleared"
 fn delete_at(t: &[u64], list: &mut [u64], h: Header, key: u64) -> Change
     requires { (20 ≤ length list.old) × GoodHeader (length t.now) h }
-    ensures { Did (delete_in t.now h (lookupOf t.now h key)) list.old result list.new }
+    ensures { Did (delete_in t.now h (lookup_of t.now h key)) list.old result list.new }
 {
     let found = lookup(t, h, key);
     match found {
@@ -44,7 +44,7 @@ fn delete_at(t: &[u64], list: &mut [u64], h: Header, key: u64) -> Change
 
 // After the tests 1, 2 and 3: "5 | key absent".
 pub fn delete(t: &[u64], list: &mut [u64], key: u64) -> Change
-    ensures { Changed (deleteCall key) t.now list.old result t.now list.new }
+    ensures { Changed (delete_call key) t.now list.old result t.now list.new }
 {
     let gate = change_gate(t, list.len());
     match gate {
@@ -86,7 +86,7 @@ fn renewed(t: &[u64], list: &mut [u64], h: Header, x: Slot, key: u64, tag: u64, 
 // "Update works in whichever level the key stands."
 fn update_at(t: &[u64], list: &mut [u64], h: Header, key: u64, r: Record) -> Change
     requires { (20 ≤ length list.old) × GoodHeader (length t.now) h }
-    ensures { Did (update_in t.now h (lookupOf t.now h key) key r) list.old result list.new }
+    ensures { Did (update_in t.now h (lookup_of t.now h key) key r) list.old result list.new }
 {
     let hash = hashes(h, key);
     let found = lookup_by(t, h, key, hash);
@@ -101,7 +101,7 @@ fn update_at(t: &[u64], list: &mut [u64], h: Header, key: u64, r: Record) -> Cha
 
 // After the tests 1, 2 and 3: "5 | key absent".
 pub fn update(t: &[u64], list: &mut [u64], key: u64, r: Record) -> Change
-    ensures { Changed (updateCall key r) t.now list.old result t.now list.new }
+    ensures { Changed (update_call key r) t.now list.old result t.now list.new }
 {
     let gate = change_gate(t, list.len());
     match gate {
@@ -183,7 +183,7 @@ fn has_found(found: Lookup) -> bool
 // The key is hashed in each branch, where the compiler knows the kind of table: so an insert in a table without tags mixes nothing.
 fn look_for(t: &[u64], h: Header, key: u64) -> Sought
     requires { GoodHeader (length t.now) h }
-    ensures { (result.hashes ≡ hashes_of h key) × (result.stands ≡ has_found (lookupOf t.now h key)) }
+    ensures { (result.hashes ≡ hashes_of h key) × (result.stands ≡ has_found (lookup_of t.now h key)) }
 {
     if has_tags(h) {
         let x = hashes(h, key);
@@ -204,7 +204,7 @@ fn look_for(t: &[u64], h: Header, key: u64) -> Sought
 // "for insert 4 before 6"
 fn insert_at(t: &[u64], list: &mut [u64], h: Header, key: u64, r: Record) -> Change
     requires { (20 ≤ length list.old) × Headed t.now h }
-    ensures { Did (insert_in t.now h (lookupOf t.now h key) key r) list.old result list.new }
+    ensures { Did (insert_in t.now h (lookup_of t.now h key) key r) list.old result list.new }
 {
     let known = look_for(t, h, key);
     if known.stands {
@@ -216,7 +216,7 @@ fn insert_at(t: &[u64], list: &mut [u64], h: Header, key: u64, r: Record) -> Cha
 
 // After the tests 1, 2 and 3: "4 | key present", "6 | no place".
 pub fn insert(t: &[u64], list: &mut [u64], key: u64, r: Record) -> Change
-    ensures { Changed (insertCall key r) t.now list.old result t.now list.new }
+    ensures { Changed (insert_call key r) t.now list.old result t.now list.new }
 {
     let gate = change_gate(t, list.len());
     match gate {

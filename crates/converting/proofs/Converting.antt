@@ -3,18 +3,15 @@
 use Prim.Native.Nat.{ℕ}
 use mathlib.Core.Path.{◌≡◌, refl, sym, ap, ◌∙◌}
 use mathlib.Core.Bool.{Bool, true, false}
-use mathlib.Core.List.{List, [], ◌∷◌, foldl}
+use mathlib.Core.List.{[], ◌∷◌, foldl}
 use mathlib.Core.Option.{none}
-use native.Mathlib.Omega.{arith}
 use types.Run.{OneOf, miss}
 use denote.Enum.Declared.{tag_of}
 use lib.ListN.{length}
-use lib.Dec.{eqb}
 use borrow.Author.Tests.{eqb-true, eqb-false}
 use Rattle.rules.specs.Words.{Table, words_for, header_of, at_rest, GoodHeader, slots_in_use}
 use Rattle.rules.specs.Soundness.{taken_slots, SoundTable, finding}
 use Rattle.rules.specs.Answers.{FindingTells}
-use Rattle.rules.specs.Demands.{AtRest}
 use Rattle.rules.specs.Conversions.{convert_tests, fresh_for, filled, with_item, filling, filled_to, convert_result}
 use Rattle.rules.specs.ConversionSentences.{other_header}
 use Rattle.rules.specs.declared.Header.{Header}
@@ -26,7 +23,7 @@ use Rattle.rules.specs.declared.Conversion.{Conversion}
 use Rattle.rules.specs.declared.Conversion.TheVariants.{Converted, Stuck, Rejected}
 use Rattle.rules.proofs.Basics.Lists.{ascending-tells}
 use Rattle.rules.specs.contracts.Finding.{the_type as finding-type}
-use Rattle.rules.proofs.Tables.Findings.{KindOf, finding-means, kind_found}
+use Rattle.rules.proofs.Tables.Findings.{finding-means, kind_found}
 use Rattle.rules.proofs.Calls.Meanings.{finding-told_by}
 use Rattle.rules.proofs.Calls.Conversions.{Source, fresh-given, fresh-empty, items_apart, refuses-unsound, refuses-resizing, refuses_length, all_pass}
 use Rattle.reading.specs.Gates.{gate_of, header_test, Headed}

@@ -8,14 +8,12 @@ use mathlib.Core.List.Memᴰ
 use mathlib.Core.List.Memᴰ.{head as here}
 use mathlib.Core.List.{Memᴰ as In}
 use mathlib.Core.Bool.{Bool, true, false}
-use mathlib.Core.Option.{none}
 use types.Run.{OneOf, miss}
 use denote.Enum.Declared.{tag_of}
 use lib.ListN.{length, drop}
 use Rattle.rules.specs.Choice.{from}
 use Rattle.rules.specs.Words.{Table, header_of, size_of, buckets_of, levels_in_use, place_at, slots_of, slots_in_use, slot_at, slots_in, key_in, record_in, token_of}
 use Rattle.rules.specs.Words.{is_taken, taken}
-use Rattle.rules.specs.Places.{lookup}
 use Rattle.rules.specs.Calls.{insert_in, outcome}
 use Rattle.rules.specs.Conversions.{Filling, filled, with_item}
 use Rattle.rules.specs.declared.State.{State}

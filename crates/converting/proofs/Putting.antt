@@ -10,7 +10,7 @@ use borrow.Author.Tests.{eqb-true}
 use native.Mathlib.Omega.{arith}
 use lib.ListN.{length, take}
 use lib.Seq.{take_all}
-use Rattle.rules.specs.Forms.{tag_of as tagFor}
+use Rattle.rules.specs.Forms.{tag_of as tag_for}
 use Rattle.rules.specs.Places.{hashes_of}
 use Rattle.rules.specs.declared.Hashes.{Hashes}
 use Rattle.rules.specs.Words.{Table, GoodHeader, at_rest, token_of}
@@ -59,7 +59,7 @@ module _ (u : Table) (to : Header) (key : ℕ) (r : Record) (w : Unsought u to k
         record { filling = rw (lists, result) refl; long = rw result (made-long u stores) }
 
 -- the tag beside a key's hashes
-pub tag_hashed : (h : Header) (key : ℕ) (x : Hashes) → x ≡ hashes_of h key → x.tag ≡ tagFor h key
+pub tag_hashed : (h : Header) (key : ℕ) (x : Hashes) → x ≡ hashes_of h key → x.tag ≡ tag_for h key
 unfolding hashes_of
 tag_hashed h key x e = ap (λ (z : Hashes). z.tag) e
 

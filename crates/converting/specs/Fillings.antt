@@ -2,7 +2,7 @@
 -- t is the source, u the second table at entry and v at exit.
 -- Assumes nothing.
 use Rattle.std.specs.Prelude.{ℕ, ◌≡◌, length}
-use mathlib.Core.List.{List, [], ◌∷◌, ◌++◌, foldl, Memᴰ as In}
+use mathlib.Core.List.{List, ◌∷◌, ◌++◌, foldl, Memᴰ as In}
 use Rattle.std.proofs.Math.Option.{none}
 use Rattle.rules.specs.Choice.{select}
 use Rattle.rules.specs.Words.{Table, header_of, taken, key_in}

@@ -4,7 +4,7 @@
 ghost use Rattle.std.specs.Prelude.{◌≡◌, true, ◌^◌, ◌≤◌, ◌<◌, length};
 ghost use Rattle.rules.specs.Forms.{tag_of};
 ghost use Rattle.rules.specs.Words.{GoodHeader, at_rest, slots_in, slots_of, slots_in_use, token_of};
-ghost use Rattle.rules.specs.Placing.{placing as placingOf};
+ghost use Rattle.rules.specs.Placing.{placing as placing_of};
 ghost use Rattle.rules.specs.Stores.{put_stores, made};
 ghost use Rattle.rules.specs.Conversions.{other_form, fresh_for};
 ghost use Rattle.rules.specs.Soundness.{SoundTable};
@@ -68,7 +68,7 @@ fn put_free(second: &mut [u64], to: Header, y: Slot, key: u64, tag: u64, r: Reco
 
 // An item that takes slot y, from which another moves. There are nine stores, so they are listed, in pairs of this function's own, and made.
 fn put_by_move(second: &mut [u64], to: Header, p: Placing, y: Slot, key: u64, tag: u64, r: Record)
-    requires { Unsought second.old to key r × (p ≡ placingOf second.old to key) × Takes second.old p y × (tag ≡ tag_of to key) }
+    requires { Unsought second.old to key r × (p ≡ placing_of second.old to key) × Takes second.old p y × (tag ≡ tag_of to key) }
     ensures { PutIn second.old key r Going second.new }
 {
     let mut pairs = [0u64; 20];

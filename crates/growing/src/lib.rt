@@ -7,7 +7,7 @@ ghost use Rattle.std.specs.Prelude.{◌≡◌, false, ◌≤◌, length};
 ghost use Rattle.rules.specs.Words.{GoodState, GoodHeader, at_rest};
 ghost use Rattle.rules.specs.Stores.{state_stores};
 ghost use Rattle.rules.specs.Calls.{listed as listed_of, begin_of, shrink_of, back_of, step_item, step_in, step_of, end_of};
-ghost use Rattle.rules.specs.Calls.{begin as beginCall, shrink as shrinkCall, back as backCall, end as endCall};
+ghost use Rattle.rules.specs.Calls.{begin as begin_call, shrink as shrink_call, back as back_call, end as end_call};
 ghost use Rattle.reading.specs.Gates.{Headed};
 ghost use Rattle.listing.specs.Promises.{Changed, StepTaken, StepTakenFrom, Did};
 ghost use Rattle.growing.specs.Steps.{RefusedStep, DidStep};
@@ -46,7 +46,7 @@ fn begin_at(list: &mut [u64], h: Header) -> Change
 
 // After the tests 1, 2 and 3: "7 | already growing", "9 | k = c".
 pub fn begin(t: &[u64], list: &mut [u64]) -> Change
-    ensures { Changed beginCall t.now list.old result t.now list.new }
+    ensures { Changed begin_call t.now list.old result t.now list.new }
 {
     let gate = change_gate(t, list.len());
     match gate {
@@ -72,7 +72,7 @@ fn shrink_at(list: &mut [u64], h: Header) -> Change
 
 // After the tests 1, 2 and 3: 7 in either phase, then "It needs k at least 2, else new refusal 17".
 pub fn shrink(t: &[u64], list: &mut [u64]) -> Change
-    ensures { Changed shrinkCall t.now list.old result t.now list.new }
+    ensures { Changed shrink_call t.now list.old result t.now list.new }
 {
     let gate = change_gate(t, list.len());
     match gate {
@@ -96,7 +96,7 @@ fn back_at(list: &mut [u64], h: Header) -> Change
 
 // After the tests 1, 2 and 3: "At rest it, step and end give 8."
 pub fn back(t: &[u64], list: &mut [u64]) -> Change
-    ensures { Changed backCall t.now list.old result t.now list.new }
+    ensures { Changed back_call t.now list.old result t.now list.new }
 {
     let gate = change_gate(t, list.len());
     match gate {
@@ -196,7 +196,7 @@ fn end_at(t: &[u64], list: &mut [u64], h: Header) -> Change
 
 // After the tests 1, 2 and 3: "8 | not growing", "10 | interim not empty".
 pub fn end(t: &[u64], list: &mut [u64]) -> Change
-    ensures { Changed endCall t.now list.old result t.now list.new }
+    ensures { Changed end_call t.now list.old result t.now list.new }
 {
     let gate = change_gate(t, list.len());
     match gate {

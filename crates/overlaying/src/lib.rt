@@ -9,7 +9,7 @@ pub mod parts;
 
 ghost use Rattle.std.specs.Prelude.{◌≡◌, ◌≤◌, length};
 ghost use Rattle.rules.specs.Words.{GoodHeader};
-ghost use Rattle.rules.specs.Places.{lookup as lookupOf};
+ghost use Rattle.rules.specs.Places.{lookup as lookup_of};
 ghost use Rattle.rules.specs.Overlays.{in_older, in_either};
 ghost use Rattle.overlaying.specs.Promises.{Near, Asks};
 
@@ -39,7 +39,7 @@ fn older_told(found: Lookup, before: u64) -> Asked
 // As in a query, the key is hashed in each branch, where the compiler knows the kind of table.
 fn in_older(older: &[u64], g: Header, key: u64, before: u64) -> Asked
     requires { GoodHeader (length older.now) g × (before ≤ 6) }
-    ensures { result ≡ in_older before (lookupOf older.now g key) }
+    ensures { result ≡ in_older before (lookup_of older.now g key) }
 {
     if has_tags(g) {
         return older_told(lookup_with(older, g, key, hashes(g, key), true), before);
@@ -50,7 +50,7 @@ fn in_older(older: &[u64], g: Header, key: u64, before: u64) -> Asked
 // What the newer table's lookup tells; only where it finds nothing is the older table looked up.
 fn newer_told(found: Lookup, older: &[u64], g: Header, key: u64) -> Asked
     requires { Near found × GoodHeader (length older.now) g }
-    ensures { result ≡ in_either found (lookupOf older.now g key) }
+    ensures { result ≡ in_either found (lookup_of older.now g key) }
 {
     match found {
         Lookup::Stands(x, looked) => Asked::Hit(NEWER, key_word(x) as u64, looked),
@@ -61,7 +61,7 @@ fn newer_told(found: Lookup, older: &[u64], g: Header, key: u64) -> Asked
 // "Ask both: a key in the newer table hides the same key in the older." Behind the tests of both.
 fn in_either(newer: &[u64], h: Header, older: &[u64], g: Header, key: u64) -> Asked
     requires { GoodHeader (length newer.now) h × GoodHeader (length older.now) g }
-    ensures { result ≡ in_either (lookupOf newer.now h key) (lookupOf older.now g key) }
+    ensures { result ≡ in_either (lookup_of newer.now h key) (lookup_of older.now g key) }
 {
     if has_tags(h) {
         return newer_told(

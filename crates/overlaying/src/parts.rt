@@ -1,7 +1,7 @@
 // The part of whichever table holds the key: words of that table's own memory.
 ghost use Rattle.std.specs.Prelude.{◌+◌, ◌≤◌, length};
 ghost use Rattle.rules.specs.Words.{GoodHeader};
-ghost use Rattle.rules.specs.Places.{lookup as lookupOf};
+ghost use Rattle.rules.specs.Places.{lookup as lookup_of};
 ghost use Rattle.reading.specs.Within.{Standing};
 ghost use Rattle.overlaying.specs.Promises.{PartAt, PartFound, PartOver, Parted};
 
@@ -36,7 +36,7 @@ fn older_part<'a>(older: &'a [u64], found: Lookup) -> &'a [u64]
 // As in a query, the key is hashed in each branch, where the compiler knows the kind of table.
 fn part_in_older<'a>(older: &'a [u64], g: Header, key: u64) -> &'a [u64]
     requires { GoodHeader (length older.now) g }
-    ensures { PartFound (lookupOf older.now g key) older.entry result }
+    ensures { PartFound (lookup_of older.now g key) older.entry result }
 {
     if has_tags(g) {
         return older_part(older, lookup_with(older, g, key, hashes(g, key), true));
@@ -53,7 +53,7 @@ fn newer_part<'a>(
     key: u64,
 ) -> &'a [u64]
     requires { Standing newer.now found × GoodHeader (length older.now) g }
-    ensures { PartOver found (lookupOf older.now g key) newer.entry older.entry result }
+    ensures { PartOver found (lookup_of older.now g key) newer.entry older.entry result }
 {
     match found {
         Lookup::Stands(x, _) => words_from(newer, key_word(x), SLOT_WORDS),
@@ -70,7 +70,7 @@ fn part_in_either<'a>(
     key: u64,
 ) -> &'a [u64]
     requires { GoodHeader (length newer.now) h × GoodHeader (length older.now) g }
-    ensures { PartOver (lookupOf newer.now h key) (lookupOf older.now g key) newer.entry older.entry result }
+    ensures { PartOver (lookup_of newer.now h key) (lookup_of older.now g key) newer.entry older.entry result }
 {
     if has_tags(h) {
         return newer_part(

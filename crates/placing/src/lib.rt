@@ -8,7 +8,7 @@ pub mod room;
 ghost use Rattle.std.specs.Prelude.{◌≡◌};
 ghost use Rattle.rules.specs.Choice.{first_of};
 ghost use Rattle.rules.specs.Places.{hashes_of};
-ghost use Rattle.rules.specs.Placing.{move_of, candidates, placing as placingOf};
+ghost use Rattle.rules.specs.Placing.{move_of, candidates, placing as placing_of};
 ghost use Rattle.rules.specs.Answers.{PlacingTells};
 ghost use Rattle.reading.specs.Gates.{Headed};
 ghost use Rattle.reading.specs.Within.{PlacingWithin};
@@ -36,7 +36,7 @@ fn one_move(t: &[u64], h: Header, x: Hashes) -> Placing
 // answer, and no enum copied: so an insert keeps it in registers.
 pub fn placing(t: &[u64], h: Header, key: u64, x: Hashes) -> Placing
     requires { Headed t.now h × (x ≡ hashes_of h key) }
-    ensures { PlacingTells result (placingOf t.now h key) × PlacingWithin t.now result }
+    ensures { PlacingTells result (placing_of t.now h key) × PlacingWithin t.now result }
 {
     let in_top = room(t, h, x, 0);
     if let Placing::Free(y) = in_top {
@@ -53,7 +53,7 @@ pub fn placing(t: &[u64], h: Header, key: u64, x: Hashes) -> Placing
 // part of the call that asks, and so an insert hands its placing through no memory.
 pub fn interim_placing(t: &[u64], h: Header, key: u64, x: Hashes) -> Placing
     requires { Headed t.now h × (x ≡ hashes_of h key) }
-    ensures { PlacingTells result (placingOf t.now h key) × PlacingWithin t.now result }
+    ensures { PlacingTells result (placing_of t.now h key) × PlacingWithin t.now result }
 {
     let above = room(t, h, x, 0);
     let Placing::Nowhere = above else {

@@ -2,7 +2,7 @@
 ghost use Rattle.std.specs.Prelude.{◌≡◌, ◌<◌, length};
 ghost use Rattle.std.proofs.Math.Option.{map};
 ghost use Rattle.rules.specs.Words.{GoodState, levels_in_use};
-ghost use Rattle.rules.specs.Placing.{free_slot, emptier as emptierOf, room_in};
+ghost use Rattle.rules.specs.Placing.{free_slot, emptier as emptier_of, room_in};
 ghost use Rattle.rules.specs.declared.Placing.TheVariants.{Free as free};
 ghost use Rattle.reading.specs.Levels.{nth_level};
 ghost use Rattle.reading.specs.Within.{BucketWithin, PlacingWithin};
@@ -32,7 +32,7 @@ pub fn free_slot(t: &[u64], h: Header, p: Place) -> Placing
 // "the place with fewer taken slots (tie: first place)". Where they coincide they tie.
 fn emptier(t: &[u64], h: Header, first: Place, second: Place) -> Place
     requires { BucketWithin t.now first.bucket × BucketWithin t.now second.bucket }
-    ensures { (result ≡ emptierOf t.now h first second) × BucketWithin t.now result.bucket }
+    ensures { (result ≡ emptier_of t.now h first second) × BucketWithin t.now result.bucket }
 {
     let in_first = taken_count(h, token(t, first.bucket));
     let in_second = taken_count(h, token(t, second.bucket));

@@ -2,7 +2,7 @@
 ghost use Rattle.std.specs.Prelude.{◌≡◌, length};
 ghost use Rattle.rules.specs.Forms.{tagged, tag_of};
 ghost use Rattle.rules.specs.Words.{GoodHeader};
-ghost use Rattle.rules.specs.Places.{hashes_of, probes, hit_in, seek, lookup as lookupOf};
+ghost use Rattle.rules.specs.Places.{hashes_of, probes, hit_in, seek, lookup as lookup_of};
 ghost use Rattle.rules.specs.Answers.{LookupTells};
 ghost use Rattle.reading.specs.Within.{Standing};
 
@@ -56,7 +56,7 @@ fn find(t: &[u64], h: Header, key: u64, x: Hashes, tags: bool) -> Lookup
 // fast search for each form.
 pub fn lookup_with(t: &[u64], h: Header, key: u64, x: Hashes, tags: bool) -> Lookup
     requires { GoodHeader (length t.now) h × (x ≡ hashes_of h key) × (tags ≡ tagged h) }
-    ensures { LookupTells result (lookupOf t.now h key) × Standing t.now result }
+    ensures { LookupTells result (lookup_of t.now h key) × Standing t.now result }
 {
     find(t, h, key, x, tags)
 }
@@ -64,7 +64,7 @@ pub fn lookup_with(t: &[u64], h: Header, key: u64, x: Hashes, tags: bool) -> Loo
 // The lookup of a key whose hashes are known.
 pub fn lookup_by(t: &[u64], h: Header, key: u64, x: Hashes) -> Lookup
     requires { GoodHeader (length t.now) h × (x ≡ hashes_of h key) }
-    ensures { LookupTells result (lookupOf t.now h key) × Standing t.now result }
+    ensures { LookupTells result (lookup_of t.now h key) × Standing t.now result }
 {
     if has_tags(h) {
         return lookup_with(t, h, key, x, true);
@@ -74,7 +74,7 @@ pub fn lookup_by(t: &[u64], h: Header, key: u64, x: Hashes) -> Lookup
 
 pub fn lookup(t: &[u64], h: Header, key: u64) -> Lookup
     requires { GoodHeader (length t.now) h }
-    ensures { LookupTells result (lookupOf t.now h key) × Standing t.now result }
+    ensures { LookupTells result (lookup_of t.now h key) × Standing t.now result }
 {
     lookup_by(t, h, key, hashes(h, key))
 }

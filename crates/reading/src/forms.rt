@@ -1,6 +1,6 @@
 // The two forms of a table, chosen by word 0: what they mean is known here and in `tokens`. Who calls the lookup asks only whether there are tags.
 ghost use Rattle.std.specs.Prelude.{◌≡◌};
-ghost use Rattle.rules.specs.Forms.{form_good, tagged, mixed as mixedKey, tag_from};
+ghost use Rattle.rules.specs.Forms.{form_good, tagged, mixed as mixed_key, tag_from};
 
 use rules::Header;
 
@@ -23,7 +23,7 @@ pub fn has_tags(h: Header) -> bool
 
 // "In form 2, before hashing, a key is combined by exclusive or with itself divided by 2^32."
 pub fn mixed(h: Header, key: u64) -> u64
-    ensures { result ≡ mixedKey h key }
+    ensures { result ≡ mixed_key h key }
 {
     if has_tags(h) {
         return key ^ (key / 4294967296);

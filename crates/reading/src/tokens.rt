@@ -1,7 +1,7 @@
 // What token words hold and mean: known only here, since form 2 keeps a tag for each taken slot in them.
 ghost use Rattle.std.specs.Prelude.{◌≡◌, ◌&&◌, ◌+◌, ◌^◌, ◌≤◌, ◌<◌, eqb, ltb};
 ghost use Rattle.rules.specs.Words.{keys_of, token_of, token_number, is_taken, mark, hide as hidden, taken_of, lowest_free, lowest_taken};
-ghost use Rattle.rules.specs.Words.{mark_meant, meant as meantWord};
+ghost use Rattle.rules.specs.Words.{mark_meant, meant as meant_word};
 ghost use Rattle.reading.specs.Within.{BucketWithin};
 ghost use Rattle.reading.specs.Tokens.{entry_of, TagFor, readable, spread, lowest_mark, rest_of};
 
@@ -68,7 +68,7 @@ fn mark_meant(t: &[u64], h: Header, j: usize, word: u64, s: usize) -> u64
 // The word that should stand in bucket j, by the slots that its token word calls taken and by their keys, which play no part in form 1.
 pub fn meant(t: &[u64], h: Header, j: usize, word: u64) -> u64
     requires { BucketWithin t.now j }
-    ensures { result ≡ meantWord h word (keys_of t.now j) }
+    ensures { result ≡ meant_word h word (keys_of t.now j) }
 {
     if !has_tags(h) {
         return token_number(word);

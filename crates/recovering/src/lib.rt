@@ -7,10 +7,10 @@ pub mod target;
 
 ghost use Rattle.std.specs.Prelude.{◌≡◌, ◌≤◌, length};
 ghost use Rattle.rules.specs.Words.{header_of, GoodHeader};
-ghost use Rattle.rules.specs.Soundness.{finding as findingOf, same_record};
+ghost use Rattle.rules.specs.Soundness.{finding as finding_of, same_record};
 ghost use Rattle.rules.specs.Answers.{FindingTells};
 ghost use Rattle.rules.specs.Calls.{recover_of};
-ghost use Rattle.rules.specs.Calls.{recover as recoverCall};
+ghost use Rattle.rules.specs.Calls.{recover as recover_call};
 ghost use Rattle.listing.specs.Promises.{Changed, Did};
 ghost use Rattle.recovering.specs.Found.{ScanWithin, FindingWithin, target_means, still_of, flagged_of};
 
@@ -66,7 +66,7 @@ fn flagged(scan: Scan, target: Target) -> Finding
 // "Recovery accepts exactly three kinds of table": which one this is.
 pub fn finding(t: &[u64], h: Header) -> Finding
     requires { GoodHeader (length t.now) h × (h ≡ header_of t.now) }
-    ensures { FindingTells result (findingOf t.now) × FindingWithin t.now result }
+    ensures { FindingTells result (finding_of t.now) × FindingWithin t.now result }
 {
     if !tokens_tidy(t, h) {
         return Finding::Neither;
@@ -87,7 +87,7 @@ pub fn finding(t: &[u64], h: Header) -> Finding
 // "sound: no stores"; "clear the later ..: one store"; "function and place from words 7 and 8, then flag 0: three stores"
 fn recover_at(t: &[u64], list: &mut [u64], h: Header) -> Change
     requires { (20 ≤ length list.old) × GoodHeader (length t.now) h × (h ≡ header_of t.now) }
-    ensures { Did (recover_of t.now h (findingOf t.now)) list.old result list.new }
+    ensures { Did (recover_of t.now h (finding_of t.now)) list.old result list.new }
 {
     let found = finding(t, h);
     match found {
@@ -110,7 +110,7 @@ fn recover_at(t: &[u64], list: &mut [u64], h: Header) -> Change
 
 // After the tests 1 and 2, and no test of the flag: "12 | none of the three kinds above".
 pub fn recover(t: &[u64], list: &mut [u64]) -> Change
-    ensures { Changed recoverCall t.now list.old result t.now list.new }
+    ensures { Changed recover_call t.now list.old result t.now list.new }
 {
     let gate = recover_gate(t, list.len());
     match gate {

@@ -24,12 +24,12 @@ pub put_before-requires : goal.put_before-requires
 put_before-requires t c = omega (arith, c.requires.1)
 
 pub returns-then-depth-eq0 : goal.returns-then-depth-eq0
-returns-then-depth-eq0 t c = 
+returns-then-depth-eq0 t c =
     let k = stands_there _ _ c.decode.ensures c.lookup-found.ensures.0 c.in-Stands.is c.record_at-r.ensures in
     rw (last_depth _ _ c.if-depth-eq0.true) (put_on k c.put_before.ensures.0 c.put_before.ensures.1 _ (nothing_below _ _ _))
 
 pub walk-below-requires : goal.walk-below-requires
-walk-below-requires t c = 
+walk-below-requires t c =
     let p = c.requires in
     let n = c.if-depth-eq0.false in
     let six = rw c.in-Stands.is at (few _ _ c.decode.ensures c.lookup-found.ensures.0) in
@@ -42,7 +42,7 @@ pub returns-in-Absent : goal.returns-in-Absent
 returns-in-Absent t c = gap _ _ _ _ _ (not_there _ _ c.decode.ensures c.lookup-found.ensures.0 c.in-Absent.is)
 
 pub returns-else-depth-eq0 : goal.returns-else-depth-eq0
-returns-else-depth-eq0 t c = 
+returns-else-depth-eq0 t c =
     let n = c.if-depth-eq0.false in
     let k = stands_there _ _ c.decode.ensures c.lookup-found.ensures.0 c.in-Stands.is c.record_at-r.ensures in
     rw (next_depth _ _ n) (put_on k c.put_before-in-Stands.ensures.0 c.put_before-in-Stands.ensures.1 _ (smaller _ _ n c.walk-below.ensures))

@@ -1,6 +1,5 @@
 -- `chaining::chain` meets its contract.
 -- Assumes nothing.
-use borrow.Author.Rules.{rules}
 use Rattle.reading.proofs.Gated.{is_open, open_ready}
 use Rattle.chaining.proofs.Answered.{refused, let_through}
 use Rattle.chaining.proofs.chain.Goals as goal

@@ -3,11 +3,9 @@
 use mathlib.Core.Path.{◌≡◌, sym, ◌∙◌}
 use mathlib.Core.Bool.{true}
 use native.Mathlib.Omega.{arith}
-use borrow.Author.Tests.{not-true, not-false}
 use Rattle.rules.specs.Chains.{position_good}
 use Rattle.chaining.proofs.Walking.{of_position}
 use Rattle.chaining.proofs.Answered.{position-means, no_position, no_room, walked}
-use borrow.Author.Rules.{rules}
 use Rattle.chaining.proofs.chain_at.Goals as goal
 use Rattle.chaining.proofs.chain_at.Goals.{Else-not-position_good}
 

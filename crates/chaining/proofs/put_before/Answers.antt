@@ -4,7 +4,6 @@ use mathlib.Core.Path.{refl}
 use native.Mathlib.Omega.{arith}
 use lib.ListN.{length-set}
 use Rattle.listing.proofs.Runs.{one_pair}
-use borrow.Author.Rules.{rules}
 use Rattle.chaining.proofs.put_before.Goals as goal
 
 pub bounds-records-at-then-below : goal.bounds-records-at-then-below

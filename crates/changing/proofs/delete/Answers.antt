@@ -2,7 +2,6 @@
 -- Assumes nothing.
 use Rattle.rules.specs.Calls.{delete}
 use Rattle.listing.proofs.Outcomes.{changed_shut, changed_open, change-long}
-use borrow.Author.Rules.{rules}
 use Rattle.changing.proofs.delete.Goals as goal
 
 pub delete_at-requires : goal.delete_at-requires

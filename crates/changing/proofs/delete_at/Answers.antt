@@ -7,7 +7,6 @@ use Rattle.rules.proofs.Words.Headers.{table-small}
 use Rattle.listing.proofs.Outcomes.{did_list, did_refuse, did_as}
 use Rattle.querying.proofs.Standings.{is_absent}
 use Rattle.changing.proofs.Changes.{delete-absent, delete-listed}
-use borrow.Author.Rules.{rules}
 use Rattle.changing.proofs.delete_at.Goals as goal
 use Rattle.changing.proofs.delete_at.Goals.{In-Stands}
 

@@ -3,7 +3,6 @@
 use Rattle.rules.specs.Calls.{insert}
 use Rattle.listing.proofs.Outcomes.{changed_shut, changed_open, change-long}
 use Rattle.reading.proofs.Gated.{open_headed}
-use borrow.Author.Rules.{rules}
 use Rattle.changing.proofs.insert.Goals as goal
 
 pub insert_at-requires : goal.insert_at-requires

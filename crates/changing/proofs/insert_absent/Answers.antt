@@ -3,9 +3,6 @@
 use Rattle.std.proofs.Common.{refl}
 use Rattle.rules.specs.Placing.{placing}
 use Rattle.rules.specs.Answers.{PlacingTells}
-use borrow.Enum.Refused.{opened}
-use mathlib.Core.Logic.{⊎_elim}
-use mathlib.Core.Path.{◌≡◌, ◌∙◌}
 use native.Mathlib.Omega.{arith}
 use Rattle.rules.proofs.Words.Headers.{table-small}
 use Rattle.rules.proofs.Calls.Meanings.{placing-told_by}
@@ -13,7 +10,6 @@ use Rattle.listing.specs.Listing.{Takes}
 use Rattle.listing.proofs.Placings.{apart-free, apart_move}
 use Rattle.listing.proofs.Outcomes.{did_list, did_refuse, did_as}
 use Rattle.changing.proofs.Changes.{hashed_tag, take_nowhere, take_listed}
-use borrow.Author.Rules.{rules}
 use Rattle.changing.proofs.insert_absent.Goals as goal
 use Rattle.changing.proofs.insert_absent.Goals.{in-Free, in-Free-2}
 use Rattle.changing.proofs.insert_absent.Goals.{Joined-p}
@@ -23,7 +19,7 @@ taken : (c : Joined-p) →
     PlacingTells c.match-p.p (placing c.args.t.now c.args.h c.args.key) × Takes c.args.t.now c.match-p.p c.match-p.y
 taken c =
     elim c.match-p.branch [
-      in-Free u ↦ (rw u.p-is u.in-Free.ensures.0, (apart-free _ refl u.p-is u.y-is u.in-Free.ensures.1).1)
+      | in-Free u ↦ (rw u.p-is u.in-Free.ensures.0, (apart-free _ refl u.p-is u.y-is u.in-Free.ensures.1).1)
       | in-Free-2 u ↦ (rw u.p-is u.in-Free.ensures.0, (apart_move _ refl u.p-is u.y-is u.in-Free.ensures.1).1)
     ]
 

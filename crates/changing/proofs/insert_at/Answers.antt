@@ -4,7 +4,6 @@ use mathlib.Core.Path.{sym, ◌∙◌}
 use Rattle.rules.specs.Places.{lookup}
 use Rattle.listing.proofs.Outcomes.{did_refuse, did_as}
 use Rattle.changing.proofs.Changes.{insert-found, insert_not_found}
-use borrow.Author.Rules.{rules}
 use Rattle.changing.proofs.insert_at.Goals as goal
 
 pub returns-then-known : goal.returns-then-known

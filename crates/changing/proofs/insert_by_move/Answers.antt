@@ -3,7 +3,6 @@
 use mathlib.Core.Path.{refl}
 use native.Mathlib.Omega.{arith}
 use Rattle.listing.specs.Listing.{Takes}
-use borrow.Author.Rules.{rules}
 use Rattle.changing.proofs.insert_by_move.Goals as goal
 
 pub list_placing-requires : goal.list_placing-requires

@@ -4,7 +4,6 @@ use borrow.Enum.Refused.{opened}
 use native.Mathlib.Omega.{arith}
 use Rattle.reading.specs.Within.{SlotWithin}
 use Rattle.listing.proofs.Placings.{takes_within, takes_free, takes_moved, free-run}
-use borrow.Author.Rules.{rules}
 use Rattle.changing.proofs.insert_stores.Goals as goal
 use Rattle.changing.proofs.insert_stores.Goals.{Start}
 

@@ -3,7 +3,6 @@
 use mathlib.Core.Path.{sym, ap, ◌∙◌}
 use Rattle.rules.proofs.Calls.Meanings.{lookup-told_by}
 use Rattle.changing.specs.Founds.{has_found}
-use borrow.Author.Rules.{rules}
 use Rattle.changing.proofs.look_for.Goals as goal
 
 pub lookup_with-found-requires : goal.lookup_with-found-requires

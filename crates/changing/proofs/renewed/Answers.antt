@@ -5,7 +5,6 @@ use Rattle.reading.specs.Within.{SlotWithin}
 use native.Mathlib.Omega.{arith}
 use Rattle.rules.specs.Words.{place_of}
 use Rattle.changing.proofs.Changes.{renew_free, renew_full}
-use borrow.Author.Rules.{rules}
 use Rattle.changing.proofs.renewed.Goals as goal
 use Rattle.changing.proofs.renewed.Goals.{In-Free}
 

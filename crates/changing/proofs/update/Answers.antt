@@ -2,7 +2,6 @@
 -- Assumes nothing.
 use Rattle.rules.specs.Calls.{update}
 use Rattle.listing.proofs.Outcomes.{changed_shut, changed_open, change-long}
-use borrow.Author.Rules.{rules}
 use Rattle.changing.proofs.update.Goals as goal
 
 pub update_at-requires : goal.update_at-requires

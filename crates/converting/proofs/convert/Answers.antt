@@ -1,6 +1,5 @@
 -- `converting::convert` meets its contract.
 -- Assumes nothing.
-use borrow.Author.Rules.{rules}
 use Rattle.converting.proofs.Converting.{header_refused, converts}
 use Rattle.converting.proofs.convert.Goals as goal
 

@@ -2,8 +2,6 @@
 -- Assumes nothing.
 use borrow.Enum.Refused.{opened}
 use mathlib.Core.Path.{sym, ◌∙◌}
-use borrow.Author.Rules.{rules}
-use borrow.Author.Tests.{not-true, not-false}
 use Rattle.rules.specs.Soundness.{SoundTable}
 use Rattle.rules.proofs.Calls.Conversions.{Source}
 use Rattle.converting.proofs.Converting.{found-sound, found-unsound, unsound-refused, resizing-refused, source_of, length_refused, sound-converted}

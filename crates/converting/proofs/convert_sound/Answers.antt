@@ -2,7 +2,6 @@
 -- Assumes nothing.
 use mathlib.Core.Path.{refl}
 use native.Mathlib.Omega.{arith}
-use borrow.Author.Rules.{rules}
 use Rattle.rules.specs.Words.{words_for}
 use Rattle.rules.proofs.Calls.Conversions.{Source}
 use Rattle.converting.proofs.Converting.{source_of, fresh-good, fresh_takes, filled-long, all-filled, one-stuck}

@@ -1,6 +1,5 @@
 -- `converting::create_fresh` meets its contract.
 -- Assumes nothing.
-use borrow.Author.Rules.{rules}
 use Rattle.converting.proofs.Putting.{fresh-made}
 use Rattle.converting.proofs.create_fresh.Goals as goal
 

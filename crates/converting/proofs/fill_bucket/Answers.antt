@@ -1,14 +1,11 @@
 -- `converting::fill_bucket` meets its contract.
 -- Assumes nothing.
-use borrow.Enum.Refused.{opened}
-use Prim.Native.Nat.{◌+◌, ◌-◌}
-use mathlib.Core.Path.{◌≡◌, sym, ◌∙◌}
+use Prim.Native.Nat.{◌+◌}
+use mathlib.Core.Path.{sym, ◌∙◌}
 use mathlib.Core.List.{[], ◌∷◌, ◌++◌}
-use mathlib.Core.Logic.{⊎_elim}
 use native.Mathlib.Omega.{arith}
 use lib.ListN.{drop}
-use borrow.Author.Rules.{rules}
-use Rattle.rules.specs.Words.{slot_at, slots_in, token_of}
+use Rattle.rules.specs.Words.{slot_at, slots_in}
 use Rattle.rules.proofs.Basics.Walks.{slots_end}
 use Rattle.converting.specs.Fillings.{items_in}
 use Rattle.converting.proofs.Filling.{Left, left_whole, left_others, left_stuck, slot-first, slot_skipped, none_left, item_unsought, put_fills}
@@ -63,20 +60,19 @@ loop-s-smaller c = omega arith
 -- src/lib.rt:84:5
 pub loop-s-preserved : goal.loop-s-preserved
 unfolding slot_at
-loop-s-preserved c =
-    (
-      elim c.if-is_taken.branch [
-        then-is_taken+in-Going u ↦
-          (let l = c.loop-s in
-          let first = slot-first _ _ _ _ _ _ _ _ c.loop-s-test.true _ l.invariant.1 l.invariant.0 (sym c.is_taken.ensures ∙ u.if-is_taken.true) in
-          rw u.second-is (left_others _ _ _ _ _ _ _ first _ _ (put_fills _ _ _ _ _ u.key_at.ensures u.record_at.ensures _ _ u.put_item-put.ensures)
-          u.in-Going.in-Going-own.keys1))
-        | else-is_taken u ↦
-          rw u.second-is (slot_skipped _ _ _ _ _ _ _ _ c.loop-s-test.true _ c.loop-s.invariant.1 c.loop-s.invariant.0
-          (sym c.is_taken.ensures ∙ u.if-is_taken.false))
-      ],
-      c.loop-s.invariant.1,
-    )
+loop-s-preserved c = (
+  elim c.if-is_taken.branch [
+    | then-is_taken+in-Going u ↦
+        (let l = c.loop-s in
+        let first = slot-first _ _ _ _ _ _ _ _ c.loop-s-test.true _ l.invariant.1 l.invariant.0 (sym c.is_taken.ensures ∙ u.if-is_taken.true) in
+        rw u.second-is (left_others _ _ _ _ _ _ _ first _ _ (put_fills _ _ _ _ _ u.key_at.ensures u.record_at.ensures _ _ u.put_item-put.ensures)
+        u.in-Going.in-Going-own.keys1))
+    | else-is_taken u ↦
+        rw u.second-is (slot_skipped _ _ _ _ _ _ _ _ c.loop-s-test.true _ c.loop-s.invariant.1 c.loop-s.invariant.0
+        (sym c.is_taken.ensures ∙ u.if-is_taken.false))
+  ],
+  c.loop-s.invariant.1,
+)
 
 -- src/lib.rt:79:1
 pub returns : goal.returns

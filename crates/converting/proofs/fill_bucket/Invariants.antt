@@ -1,16 +1,11 @@
 -- `converting::fill_bucket` meets its contract.
 -- Assumes nothing.
-use Prim.Native.Nat.{◌+◌, ◌-◌}
-use mathlib.Core.Path.{◌≡◌, sym, ◌∙◌}
-use mathlib.Core.List.{[], ◌∷◌, ◌++◌}
-use mathlib.Core.Logic.{⊎_elim}
-use native.Mathlib.Omega.{arith}
+use Prim.Native.Nat.{◌-◌}
+use mathlib.Core.Path.{◌≡◌}
 use lib.ListN.{drop}
-use borrow.Author.Rules.{rules}
-use Rattle.rules.specs.Words.{slot_at, slots_in, token_of}
-use Rattle.rules.proofs.Basics.Walks.{slots_end}
+use Rattle.rules.specs.Words.{slots_in, token_of}
 use Rattle.converting.specs.Fillings.{items_in}
-use Rattle.converting.proofs.Filling.{Left, left_whole, left_others, left_stuck, slot-first, slot_skipped, none_left, item_unsought, put_fills}
+use Rattle.converting.proofs.Filling.{Left}
 use Rattle.converting.proofs.fill_bucket.Given as goal
 
 abbrev pub invariant-loop-s : goal.invariant-loop-s

@@ -1,16 +1,13 @@
 -- `converting::fill_level` meets its contract: the items of the buckets from the i-th on are left.
 -- Assumes nothing.
-use borrow.Enum.Refused.{opened}
 use Prim.Native.Nat.{◌+◌, ◌-◌}
 use mathlib.Core.Path.{◌≡◌}
 use mathlib.Core.List.{◌++◌}
 use native.Mathlib.Omega.{arith}
-use borrow.Author.Rules.{rules}
-use Rattle.rules.specs.Words.{slots_in, slots_of, place_at}
+use Rattle.rules.specs.Words.{slots_in, place_at}
 use Rattle.rules.proofs.Words.Headers.{next-bucket-fits}
 use Rattle.reading.specs.Within.{BucketWithin}
-use Rattle.converting.specs.Fillings.{items_in}
-use Rattle.converting.proofs.Filling.{Left, all_left, none_left, slots_along, along_next, along_end, places_on, level-whole, bucket-next, bucket-end}
+use Rattle.converting.proofs.Filling.{all_left, none_left, slots_along, along_next, along_end, places_on, level-whole, bucket-next, bucket-end}
 use Rattle.converting.proofs.Filling.{block_may, block_done, block_stuck}
 use Rattle.converting.proofs.fill_level.Goals as goal
 use Rattle.converting.proofs.fill_level.Goals.{In-loop-i}

@@ -1,16 +1,9 @@
 -- `converting::fill_level` meets its contract: the items of the buckets from the i-th on are left.
 -- Assumes nothing.
-use Prim.Native.Nat.{◌+◌, ◌-◌}
-use mathlib.Core.Path.{◌≡◌}
-use mathlib.Core.List.{◌++◌}
-use native.Mathlib.Omega.{arith}
-use borrow.Author.Rules.{rules}
-use Rattle.rules.specs.Words.{slots_in, slots_of, place_at}
-use Rattle.rules.proofs.Words.Headers.{next-bucket-fits}
-use Rattle.reading.specs.Within.{BucketWithin}
+use Prim.Native.Nat.{◌-◌}
+use Rattle.rules.specs.Words.{slots_in, slots_of}
 use Rattle.converting.specs.Fillings.{items_in}
-use Rattle.converting.proofs.Filling.{Left, all_left, none_left, slots_along, along_next, along_end, places_on, level-whole, bucket-next, bucket-end}
-use Rattle.converting.proofs.Filling.{block_may, block_done, block_stuck}
+use Rattle.converting.proofs.Filling.{Left, slots_along, places_on}
 use Rattle.converting.proofs.fill_level.Given as goal
 
 abbrev pub invariant-loop-i : goal.invariant-loop-i

@@ -1,18 +1,15 @@
 -- `converting::fill_table` meets its contract: the items of the levels from the n-th on are left.
 -- Assumes nothing.
-use borrow.Enum.Refused.{opened}
-use Prim.Native.Nat.{◌+◌, ◌-◌}
-use mathlib.Core.Path.{◌≡◌, refl, sym}
+use Prim.Native.Nat.{◌+◌}
+use mathlib.Core.Path.{◌≡◌}
 use mathlib.Core.List.{◌++◌}
 use native.Mathlib.Omega.{arith}
 use lib.ListN.{drop_of_length-le}
-use borrow.Author.Rules.{rules}
-use Rattle.rules.specs.Words.{levels_in_use, slots_of, slots_in_use}
+use Rattle.rules.specs.Words.{levels_in_use, slots_of}
 use Rattle.rules.proofs.Words.Headers.{header-state}
 use Rattle.rules.proofs.Words.Levels.{exponent-fits}
 use Rattle.rules.proofs.Basics.Walks.{stands_in}
-use Rattle.converting.specs.Fillings.{items_in}
-use Rattle.converting.proofs.Filling.{Left, all_left, none_left, slots_along, along_next, along_end, levels_whole, block_may, block_done, block_stuck}
+use Rattle.converting.proofs.Filling.{all_left, none_left, slots_along, along_next, along_end, levels_whole, block_may, block_done, block_stuck}
 use Rattle.converting.proofs.fill_table.Goals as goal
 use Rattle.converting.proofs.fill_table.Goals.{After-nth_level}
 
@@ -29,13 +26,12 @@ pub nth_level-requires : goal.nth_level-requires
 nth_level-requires c = (header-state _ _ c.requires.0, rw (← c.level_count-levels.ensures.0) c.loop-n-test.true)
 
 pub fill_level-filled-requires : goal.fill_level-filled-requires
-fill_level-filled-requires c =
-    (
-      c.requires.0,
-      exponent-fits c.args.h.c c.args.h.state c.requires.0.state c.nth_level.result
-          (stands_in (levels_in_use c.args.h.state) c.loop-n.n c.nth_level.ensures.0),
-      block_may _ _ _ _ _ _ _ _ _ (next (goal.at.fill_level-filled-requires c).After-nth_level) c.loop-n.invariant,
-    )
+fill_level-filled-requires c = (
+  c.requires.0,
+  exponent-fits c.args.h.c c.args.h.state c.requires.0.state c.nth_level.result
+      (stands_in (levels_in_use c.args.h.state) c.loop-n.n c.nth_level.ensures.0),
+  block_may _ _ _ _ _ _ _ _ _ (next (goal.at.fill_level-filled-requires c).After-nth_level) c.loop-n.invariant,
+)
 
 pub returns-in_default : goal.returns-in_default
 returns-in_default c = block_stuck _ _ _ _ _ _ _ _ _ (next (goal.at.returns-in_default c).After-nth_level) c.loop-n.invariant _ _ c.fill_level-filled.ensures c.in_default.in_default-own.keys2

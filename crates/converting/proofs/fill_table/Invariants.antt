@@ -1,17 +1,9 @@
 -- `converting::fill_table` meets its contract: the items of the levels from the n-th on are left.
 -- Assumes nothing.
-use Prim.Native.Nat.{◌+◌, ◌-◌}
-use mathlib.Core.Path.{◌≡◌, refl, sym}
-use mathlib.Core.List.{◌++◌}
-use native.Mathlib.Omega.{arith}
-use lib.ListN.{drop_of_length-le}
-use borrow.Author.Rules.{rules}
+use Prim.Native.Nat.{◌-◌}
 use Rattle.rules.specs.Words.{levels_in_use, slots_of, slots_in_use}
-use Rattle.rules.proofs.Words.Headers.{header-state}
-use Rattle.rules.proofs.Words.Levels.{exponent-fits}
-use Rattle.rules.proofs.Basics.Walks.{stands_in}
 use Rattle.converting.specs.Fillings.{items_in}
-use Rattle.converting.proofs.Filling.{Left, all_left, none_left, slots_along, along_next, along_end, levels_whole, block_may, block_done, block_stuck}
+use Rattle.converting.proofs.Filling.{Left, slots_along}
 use Rattle.converting.proofs.fill_table.Given as goal
 
 abbrev pub invariant-loop-n : goal.invariant-loop-n

@@ -4,7 +4,6 @@ use mathlib.Core.Path.{refl}
 use native.Mathlib.Omega.{arith}
 use Rattle.rules.proofs.Words.Headers.{table-small}
 use Rattle.converting.proofs.Putting.{put_moving}
-use borrow.Author.Rules.{rules}
 use Rattle.converting.proofs.put_by_move.Goals as goal
 
 pub list_placing-stores-requires : goal.list_placing-stores-requires

@@ -9,7 +9,6 @@ use Rattle.rules.specs.Stores.{put_stores}
 use Rattle.rules.proofs.Words.Forms.{tag_untagged}
 use Rattle.rules.proofs.Words.Tokens.{tag_small}
 use Rattle.listing.proofs.Runs.{shown_with}
-use borrow.Author.Rules.{rules}
 use Rattle.converting.proofs.put_free.Goals as goal
 use Rattle.converting.proofs.put_free.Goals.{After-key_word-at, After-token_word}
 

@@ -5,7 +5,6 @@ use Rattle.listing.specs.Listing.{Takes}
 use Rattle.rules.proofs.Words.Headers.{table-small}
 use Rattle.rules.proofs.Calls.Meanings.{placing-told_by}
 use Rattle.converting.proofs.Putting.{tag_hashed, put_nowhere, put_in_slot}
-use borrow.Author.Rules.{rules}
 use Rattle.converting.proofs.put_item.Goals as goal
 
 pub placing-p-requires : goal.placing-p-requires
@@ -18,13 +17,12 @@ put_free-requires c =
 
 pub put_by_move-requires : goal.put_by_move-requires
 unfolding Takes
-put_by_move-requires c =
-    (
-      c.requires,
-      sym c.in-Move.is ∙ placing-told_by c.placing-p.ensures.0,
-      (refl, rw c.in-Move.is at c.placing-p.ensures.1),
-      tag_hashed _ _ _ c.hashes-x.ensures,
-    )
+put_by_move-requires c = (
+  c.requires,
+  sym c.in-Move.is ∙ placing-told_by c.placing-p.ensures.0,
+  (refl, rw c.in-Move.is at c.placing-p.ensures.1),
+  tag_hashed _ _ _ c.hashes-x.ensures,
+)
 
 pub returns-in-Free : goal.returns-in-Free
 returns-in-Free c = put_in_slot _ _ _ _ c.requires _ (placing-told_by c.placing-p.ensures.0) _ c.in-Free.is _ c.put_free.ensures

@@ -3,7 +3,6 @@
 use Rattle.rules.specs.Calls.{back}
 use Rattle.rules.proofs.Words.Headers.{header-state}
 use Rattle.listing.proofs.Outcomes.{changed_shut, changed_open, change-long}
-use borrow.Author.Rules.{rules}
 use Rattle.growing.proofs.back.Goals as goal
 
 pub back_at-requires : goal.back_at-requires

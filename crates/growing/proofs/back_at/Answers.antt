@@ -3,7 +3,6 @@
 use mathlib.Core.Path.{sym, ◌∙◌}
 use Rattle.listing.proofs.Outcomes.{did_refuse, did_as}
 use Rattle.growing.proofs.Growth.{turned-fits, back-resting, back-listed}
-use borrow.Author.Rules.{rules}
 use Rattle.growing.proofs.back_at.Goals as goal
 
 pub returns-then-at_rest : goal.returns-then-at_rest

@@ -3,7 +3,6 @@
 use Rattle.rules.specs.Calls.{begin}
 use Rattle.rules.proofs.Words.Headers.{header-state}
 use Rattle.listing.proofs.Outcomes.{changed_shut, changed_open, change-long}
-use borrow.Author.Rules.{rules}
 use Rattle.growing.proofs.begin.Goals as goal
 
 pub begin_at-requires : goal.begin_at-requires

@@ -3,12 +3,10 @@
 use mathlib.Core.Path.{◌≡◌, sym, ◌∙◌}
 use mathlib.Core.Bool.{true}
 use native.Mathlib.Omega.{arith}
-use borrow.Author.Tests.{not-true, not-false}
 use Rattle.rules.specs.Words.{at_rest}
 use Rattle.rules.proofs.Words.States.{state-fits}
 use Rattle.listing.proofs.Outcomes.{did_refuse, did_as}
 use Rattle.growing.proofs.Growth.{begin-resizing, begin-full, begin-listed}
-use borrow.Author.Rules.{rules}
 use Rattle.growing.proofs.begin_at.Goals as goal
 use Rattle.growing.proofs.begin_at.Goals.{Else-not-at_rest}
 

@@ -2,7 +2,6 @@
 -- Assumes nothing.
 use Rattle.rules.specs.Calls.{end}
 use Rattle.listing.proofs.Outcomes.{changed_shut, changed_open, change-long}
-use borrow.Author.Rules.{rules}
 use Rattle.growing.proofs.end.Goals as goal
 
 pub end_at-requires : goal.end_at-requires

@@ -1,6 +1,5 @@
 -- `growing::end_at` meets its contract.
 -- Assumes nothing.
-use borrow.Enum.Refused.{opened}
 use mathlib.Core.Path.{◌≡◌, sym, ◌∙◌}
 use mathlib.Core.Bool.{false}
 use native.Mathlib.Omega.{arith}
@@ -8,7 +7,6 @@ use Rattle.rules.specs.Words.{at_rest}
 use Rattle.rules.proofs.Words.Headers.{sizes}
 use Rattle.listing.proofs.Outcomes.{did_refuse, did_as}
 use Rattle.growing.proofs.Growth.{is_empty, is_there, end-resting, end-taken, end-listed}
-use borrow.Author.Rules.{rules}
 use Rattle.growing.proofs.end_at.Goals as goal
 use Rattle.growing.proofs.end_at.Goals.{Else-at_rest}
 

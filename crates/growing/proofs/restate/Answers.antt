@@ -3,7 +3,6 @@
 use native.Mathlib.Omega.{arith}
 use Rattle.rules.specs.Stores.{state_stores}
 use Rattle.listing.proofs.Outcomes.{did_list}
-use borrow.Author.Rules.{rules}
 use Rattle.growing.proofs.restate.Goals as goal
 
 pub returns : goal.returns

@@ -3,7 +3,6 @@
 use Rattle.rules.specs.Calls.{shrink}
 use Rattle.rules.proofs.Words.Headers.{header-state}
 use Rattle.listing.proofs.Outcomes.{changed_shut, changed_open, change-long}
-use borrow.Author.Rules.{rules}
 use Rattle.growing.proofs.shrink.Goals as goal
 
 pub shrink_at-requires : goal.shrink_at-requires

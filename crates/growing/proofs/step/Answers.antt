@@ -1,7 +1,6 @@
 -- `growing::step` meets its contract: it is `step_from` with 0.
 -- Assumes nothing.
 use Rattle.growing.proofs.Stepping.{step-whole}
-use borrow.Author.Rules.{rules}
 use Rattle.growing.proofs.step.Goals as goal
 
 pub returns : goal.returns

@@ -1,6 +1,5 @@
 -- `growing::step_at` meets its contract.
 -- Assumes nothing.
-use borrow.Enum.Refused.{opened}
 use mathlib.Core.Path.{◌≡◌, sym, ◌∙◌}
 use mathlib.Core.Bool.{false}
 use mathlib.Core.List.{head?}
@@ -11,7 +10,6 @@ use Rattle.rules.proofs.Words.Headers.{header-state}
 use Rattle.growing.proofs.Searches.{first_in_level}
 use Rattle.growing.proofs.Growth.{is_empty, nothing}
 use Rattle.growing.proofs.Stepping.{item-some, step-resting, step-empty, did_on, did_step_refuse}
-use borrow.Author.Rules.{rules}
 use Rattle.growing.proofs.step_at.Goals as goal
 use Rattle.growing.proofs.step_at.Goals.{Else-at_rest, In-At}
 

@@ -3,7 +3,6 @@
 use Rattle.listing.proofs.Outcomes.{change-long}
 use Rattle.growing.proofs.Stepping.{step_shut, step_open}
 use Rattle.reading.proofs.Gated.{open_headed}
-use borrow.Author.Rules.{rules}
 use Rattle.growing.proofs.step_from.Goals as goal
 
 pub step_at-requires : goal.step_at-requires

@@ -1,8 +1,6 @@
 -- `growing::step_item` meets its contract.
 -- Assumes nothing.
-use borrow.Enum.Refused.{opened}
 use mathlib.Core.Path.{◌≡◌}
-use mathlib.Core.Logic.{⊎_elim}
 use mathlib.Core.Option.{some}
 use native.Mathlib.Omega.{arith}
 use Rattle.rules.specs.Words.{key_in}
@@ -14,7 +12,6 @@ use Rattle.listing.specs.Listing.{Takes}
 use Rattle.listing.proofs.Placings.{apart-free, apart_move}
 use Rattle.growing.proofs.Searches.{step_in_level}
 use Rattle.growing.proofs.Stepping.{step_nowhere, step-within, step-somewhere, did_step_refuse, did_step}
-use borrow.Author.Rules.{rules}
 use Rattle.growing.proofs.step_item.Goals as goal
 use Rattle.growing.proofs.step_item.Goals.{in-Free, in-Free-2}
 use Rattle.growing.proofs.step_item.Goals.{Joined-p}
@@ -25,7 +22,7 @@ taken : (c : Joined-p) →
 taken c =
     let w = step-within _ _ _ _ c.first_placed-found.ensures in
     elim c.match-p.branch [
-      in-Free u ↦ apart-free _ u.in-Free.p-1-is u.p-is u.y-is w
+      | in-Free u ↦ apart-free _ u.in-Free.p-1-is u.p-is u.y-is w
       | in-Free-2 u ↦ apart_move _ u.in-Free.p-in-Move-1-is u.p-is u.y-is w
     ]
 

@@ -1,7 +1,6 @@
 -- `listing::clear` meets its contract.
 -- Assumes nothing.
 use Rattle.rules.specs.Stores.{clear_stores}
-use borrow.Author.Rules.{rules}
 use Rattle.listing.proofs.clear.Goals as goal
 
 pub returns : goal.returns

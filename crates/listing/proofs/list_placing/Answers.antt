@@ -4,7 +4,6 @@ use borrow.Enum.Refused.{opened}
 use Rattle.reading.specs.Within.{SlotWithin}
 use native.Mathlib.Omega.{arith}
 use Rattle.listing.proofs.Placings.{takes_within, takes_free, takes_moved, free-run, moved-run}
-use borrow.Author.Rules.{rules}
 use Rattle.listing.proofs.list_placing.Goals as goal
 use Rattle.listing.proofs.list_placing.Goals.{Start}
 

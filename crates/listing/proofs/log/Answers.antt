@@ -1,7 +1,6 @@
 -- `listing::log` meets its contract.
 -- Assumes nothing.
 use Rattle.listing.proofs.Runs.{four}
-use borrow.Author.Rules.{rules}
 use Rattle.listing.proofs.log.Goals as goal
 
 pub returns : goal.returns

@@ -1,7 +1,6 @@
 -- `listing::moved` meets its contract.
 -- Assumes nothing.
 use Rattle.listing.proofs.Placings.{move_run}
-use borrow.Author.Rules.{rules}
 use Rattle.listing.proofs.moved.Goals as goal
 
 pub returns : goal.returns

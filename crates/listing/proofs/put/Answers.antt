@@ -7,7 +7,6 @@ use mathlib.Core.Path.{◌∙◌}
 use Rattle.rules.proofs.Words.Forms.{tag_untagged}
 use Rattle.rules.proofs.Words.Tokens.{tag_small}
 use Rattle.listing.proofs.Runs.{four, shown_with}
-use borrow.Author.Rules.{rules}
 use Rattle.listing.proofs.put.Goals as goal
 
 pub show-shown-requires : goal.show-shown-requires

@@ -4,7 +4,6 @@ use native.Mathlib.Omega.{arith}
 use Rattle.rules.specs.Words.{function_word, place_word, key_word, token_word}
 use Rattle.rules.specs.Stores.{redo_stores}
 use Rattle.listing.proofs.Runs.{three}
-use borrow.Author.Rules.{rules}
 use Rattle.listing.proofs.redo.Goals as goal
 
 pub overflow_add-key : goal.overflow_add-key

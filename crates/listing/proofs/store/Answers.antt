@@ -4,7 +4,6 @@ use mathlib.Core.Path.{refl}
 use native.Mathlib.Omega.{arith}
 use lib.ListN.{length-set}
 use Rattle.listing.proofs.Runs.{one_pair}
-use borrow.Author.Rules.{rules}
 use Rattle.listing.proofs.store.Goals as goal
 
 pub bounds-list-at-2 : goal.bounds-list-at-2

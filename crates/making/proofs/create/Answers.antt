@@ -6,10 +6,8 @@ use mathlib.Core.Bool.{true}
 use lib.ListN.{length, length-set}
 use Rattle.rules.specs.Choice.{all}
 use Rattle.rules.specs.Results.{create_tests}
-use borrow.Author.Tests.{not-true, not-false}
 use native.Mathlib.Omega.{arith}
 use Rattle.making.proofs.Creation.{refused, room as header-room, accepted}
-use borrow.Author.Rules.{rules}
 use Rattle.making.proofs.create.Goals as goal
 use Rattle.making.proofs.create.Goals.{After-slice_known-2-1, Else-not-creation_good}
 

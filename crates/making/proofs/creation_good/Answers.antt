@@ -2,9 +2,7 @@
 -- Assumes nothing.
 use mathlib.Core.Path.{sym, ◌∙◌}
 use native.Mathlib.Omega.{arith}
-use borrow.Author.Tests.{not-true, not-false}
 use Rattle.making.proofs.Creation.{other-form, low_c, high_c, low_k, high_k, other-size, even1, second}
-use borrow.Author.Rules.{rules}
 use Rattle.making.proofs.creation_good.Goals as goal
 
 pub returns-then-not-form_good : goal.returns-then-not-form_good

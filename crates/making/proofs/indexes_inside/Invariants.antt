@@ -1,11 +1,10 @@
 -- `making::indexes_inside` meets its contract: the answer for all pairs is the answer for those from i on.
 -- Assumes nothing.
 use Prim.Native.Nat.{◌-◌}
-use mathlib.Core.Path.{◌≡◌, sym, ap, ◌∙◌}
-use native.Mathlib.Omega.{arith}
+use mathlib.Core.Path.{◌≡◌}
 use Rattle.rules.specs.Stores.{pairs}
 use Rattle.making.specs.Indexes.{inside}
-use Rattle.making.proofs.Making.{rest, rest_all, rest_end, index_outside, index-inside}
+use Rattle.making.proofs.Making.{rest}
 use Rattle.making.proofs.indexes_inside.Given as goal
 
 abbrev pub invariant-loop-i : goal.invariant-loop-i

@@ -5,10 +5,8 @@ use mathlib.Core.Bool.{true}
 use lib.ListN.{length}
 use Rattle.rules.specs.Stores.{pairs}
 use Rattle.making.specs.Indexes.{inside}
-use borrow.Author.Tests.{not-true, not-false}
 use native.Mathlib.Omega.{arith}
 use Rattle.making.proofs.Making.{few-pairs, outside, all_made}
-use borrow.Author.Rules.{rules}
 use Rattle.making.proofs.make.Goals as goal
 use Rattle.making.proofs.make.Goals.{Else-not-indexes_inside}
 

@@ -1,12 +1,12 @@
 -- `making::store_all` meets its contract: making all pairs is making those from i on in the table so far.
 -- Assumes nothing.
-use Prim.Native.Nat.{◌+◌, ◌-◌, ◌*◌, ◌<◌}
+use Prim.Native.Nat.{◌+◌, ◌*◌, ◌<◌}
 use mathlib.Core.Path.{◌≡◌, refl, sym, ap, ◌∙◌}
 use mathlib.Core.Bool.{true}
 use native.Mathlib.Omega.{arith}
 use lib.ListN.{length, length-set}
 use Rattle.rules.specs.Words.{word}
-use Rattle.rules.specs.Stores.{pairs, made}
+use Rattle.rules.specs.Stores.{made}
 use Rattle.making.specs.Indexes.{inside}
 use Rattle.making.proofs.Making.{rest, rest_all, rest_end, indexes-inside, stored}
 use Rattle.making.proofs.store_all.Goals as goal

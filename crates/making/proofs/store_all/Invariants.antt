@@ -1,14 +1,12 @@
 -- `making::store_all` meets its contract: making all pairs is making those from i on in the table so far.
 -- Assumes nothing.
-use Prim.Native.Nat.{◌+◌, ◌-◌, ◌*◌, ◌<◌}
-use mathlib.Core.Path.{◌≡◌, refl, sym, ap, ◌∙◌}
+use Prim.Native.Nat.{◌-◌}
+use mathlib.Core.Path.{◌≡◌}
 use mathlib.Core.Bool.{true}
-use native.Mathlib.Omega.{arith}
-use lib.ListN.{length, length-set}
-use Rattle.rules.specs.Words.{word}
+use lib.ListN.{length}
 use Rattle.rules.specs.Stores.{pairs, made}
 use Rattle.making.specs.Indexes.{inside}
-use Rattle.making.proofs.Making.{rest, rest_all, rest_end, indexes-inside, stored}
+use Rattle.making.proofs.Making.{rest}
 use Rattle.making.proofs.store_all.Given as goal
 
 abbrev pub invariant-loop-i : goal.invariant-loop-i

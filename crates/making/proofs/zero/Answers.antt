@@ -1,11 +1,10 @@
 -- `making::zero` meets its contract. After i turns the first i words are 0, and the others are as they were.
 -- Assumes nothing.
-use Prim.Native.Nat.{◌-◌, ◌≤◌, zero-le}
-use mathlib.Core.Path.{◌≡◌, refl, ◌∙◌}
-use mathlib.Core.List.{◌++◌}
+use Prim.Native.Nat.{zero-le}
+use mathlib.Core.Path.{refl, ◌∙◌}
 use native.Mathlib.Omega.{arith}
 use borrow.Author.Fill.{fill_none, fill_more}
-use lib.ListN.{length, drop, replicate, length-set}
+use lib.ListN.{length-set}
 use Rattle.making.proofs.Creation.{zeroed}
 use Rattle.making.proofs.zero.Goals as goal
 

@@ -1,12 +1,9 @@
 -- `making::zero` meets its contract. After i turns the first i words are 0, and the others are as they were.
 -- Assumes nothing.
-use Prim.Native.Nat.{◌-◌, ◌≤◌, zero-le}
-use mathlib.Core.Path.{◌≡◌, refl, ◌∙◌}
+use Prim.Native.Nat.{◌-◌, ◌≤◌}
+use mathlib.Core.Path.{◌≡◌}
 use mathlib.Core.List.{◌++◌}
-use native.Mathlib.Omega.{arith}
-use borrow.Author.Fill.{fill_none, fill_more}
-use lib.ListN.{length, drop, replicate, length-set}
-use Rattle.making.proofs.Creation.{zeroed}
+use lib.ListN.{length, drop, replicate}
 use Rattle.making.proofs.zero.Given as goal
 
 abbrev pub invariant-loop-i : goal.invariant-loop-i

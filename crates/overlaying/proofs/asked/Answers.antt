@@ -2,7 +2,6 @@
 -- Assumes nothing.
 use Rattle.overlaying.proofs.Gated.{newer_shut, older_shut, both_open}
 use Rattle.overlaying.proofs.Asking.{asks, asks-behind}
-use borrow.Author.Rules.{rules}
 use Rattle.overlaying.proofs.asked.Goals as goal
 
 pub in_either-requires : goal.in_either-requires

@@ -2,7 +2,6 @@
 -- Assumes nothing.
 use mathlib.Core.Path.{sym, ◌∙◌}
 use Rattle.overlaying.proofs.Asking.{near, newer_by}
-use borrow.Author.Rules.{rules}
 use Rattle.overlaying.proofs.in_either.Goals as goal
 
 pub lookup_with-requires : goal.lookup_with-requires

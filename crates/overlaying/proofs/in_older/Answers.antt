@@ -2,7 +2,6 @@
 -- Assumes nothing.
 use mathlib.Core.Path.{sym, ◌∙◌}
 use Rattle.overlaying.proofs.Asking.{near, older_by}
-use borrow.Author.Rules.{rules}
 use Rattle.overlaying.proofs.in_older.Goals as goal
 
 pub lookup_with-requires : goal.lookup_with-requires

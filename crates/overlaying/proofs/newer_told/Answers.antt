@@ -1,7 +1,6 @@
 -- `overlaying::newer_told` meets its contract.
 -- Assumes nothing.
 use Rattle.overlaying.proofs.Asking.{newer-stands, newer-absent}
-use borrow.Author.Rules.{rules}
 use Rattle.overlaying.proofs.newer_told.Goals as goal
 
 pub key_word-requires : goal.key_word-requires

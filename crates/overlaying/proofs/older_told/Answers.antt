@@ -2,7 +2,6 @@
 -- Assumes nothing.
 use native.Mathlib.Omega.{arith}
 use Rattle.overlaying.proofs.Asking.{older-stands, older-absent}
-use borrow.Author.Rules.{rules}
 use Rattle.overlaying.proofs.older_told.Goals as goal
 
 pub key_word-requires : goal.key_word-requires

@@ -3,7 +3,6 @@
 use borrow.Enum.Refused.{opened}
 use mathlib.Core.Logic.{inr}
 use native.Mathlib.Omega.{arith}
-use borrow.Author.Rules.{rules}
 use Rattle.rules.proofs.Calls.Meanings.{placing-tells}
 use Rattle.placing.proofs.Goals.{room-asked}
 use Rattle.placing.proofs.Placings.{own-good, own_move, somewhere, not_free, by_top, by_bottom, by_move}

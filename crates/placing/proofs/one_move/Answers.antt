@@ -2,7 +2,6 @@
 -- Assumes nothing.
 use borrow.Enum.Refused.{opened}
 use Rattle.placing.proofs.Placings.{own-good, own_move, no_move}
-use borrow.Author.Rules.{rules}
 use Rattle.placing.proofs.one_move.Goals as goal
 
 pub moving-found-requires : goal.moving-found-requires

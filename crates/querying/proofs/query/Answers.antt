@@ -1,7 +1,6 @@
 -- `querying::query` meets its contract.
 -- Assumes nothing.
 use mathlib.Core.Path.{sym, ◌∙◌}
-use borrow.Author.Rules.{rules}
 use Rattle.querying.proofs.Answered.{refused, through}
 use Rattle.querying.proofs.query.Goals as goal
 

@@ -2,8 +2,6 @@
 -- Assumes nothing.
 use mathlib.Core.Path.{sym, ◌∙◌}
 use native.Mathlib.Omega.{arith}
-use borrow.Author.Tests.{not-true, not-false}
-use borrow.Author.Rules.{rules}
 use Rattle.rules.specs.Words.{flag_of}
 use Rattle.rules.proofs.Words.Headers.{header-fits}
 use Rattle.recovering.proofs.Deciding.{scan_within, tidied_by, find_untidy, find_unused, find_misflagged, find_still, find_flagged}

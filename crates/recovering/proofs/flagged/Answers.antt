@@ -1,7 +1,6 @@
 -- `recovering::flagged` meets its contract.
 -- Assumes nothing.
 use borrow.Enum.Refused.{opened}
-use borrow.Author.Rules.{rules}
 use Rattle.recovering.proofs.Deciding.{flagged_at, flagged_unclear}
 use Rattle.recovering.proofs.flagged.Goals as goal
 

@@ -2,7 +2,6 @@
 -- Assumes nothing.
 use Rattle.rules.specs.Calls.{recover}
 use Rattle.listing.proofs.Outcomes.{changed_shut, changed_open, recover-long}
-use borrow.Author.Rules.{rules}
 use Rattle.recovering.proofs.recover.Goals as goal
 
 pub recover_at-requires : goal.recover_at-requires

@@ -10,7 +10,6 @@ use Rattle.rules.proofs.Words.Headers.{table-small}
 use Rattle.reading.specs.Within.{SlotWithin}
 use Rattle.listing.proofs.Outcomes.{did_list, did_refuse, did_as}
 use Rattle.recovering.proofs.Recovery.{did_nothing, recover-sound, recover_neither, recover-doubled, recover-flagged}
-use borrow.Author.Rules.{rules}
 use Rattle.recovering.proofs.recover_at.Goals as goal
 use Rattle.recovering.proofs.recover_at.Goals.{In-Doubled, In-Flagged, Start}
 

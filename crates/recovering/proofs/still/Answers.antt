@@ -1,7 +1,6 @@
 -- `recovering::still` meets its contract.
 -- Assumes nothing.
 use mathlib.Core.Path.{sym, ◌∙◌}
-use borrow.Author.Rules.{rules}
 use Rattle.recovering.proofs.Deciding.{pair_within, still_equal, still_unequal}
 use Rattle.recovering.proofs.still.Goals as goal
 

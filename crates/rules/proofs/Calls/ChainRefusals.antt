@@ -2,7 +2,7 @@
 -- Assumes nothing.
 use Prim.Native.Nat.{ℕ, ◌+◌, ◌*◌, ◌^◌, ◌≤◌, ◌<◌}
 use mathlib.Core.Path.{◌≡◌, refl}
-use mathlib.Core.Bool.{Bool, true, false, cond}
+use mathlib.Core.Bool.{true, false, cond}
 use mathlib.Core.List.{List, [], ◌∷◌}
 use mathlib.Core.Logic.{◌⊎◌, inl, inr}
 use native.Mathlib.Decide.{dec_le}
@@ -11,7 +11,7 @@ use lib.ListN.{length}
 use borrow.Author.Tests.{leb-true, leb-false}
 use Rattle.rules.specs.Words.{Table, header_of}
 use Rattle.rules.specs.Places.{lookup}
-use Rattle.rules.specs.Calls.{checked, query_tests, Outcome, refused}
+use Rattle.rules.specs.Calls.{query_tests, Outcome, refused}
 use Rattle.rules.specs.Results.{query_at}
 use Rattle.rules.specs.Chains.{key_of, position_good, records_long, position_tests, chain_tests, Walk, found, missing, walk, query_of, chain_of, chain_result}
 use Rattle.rules.specs.Demands.{Held}

@@ -1,11 +1,10 @@
 -- convert, request h): when it refuses, what it leaves in the second table, and that a converted table has the source's map.
 -- Assumes nothing.
-use Prim.Native.Nat.{ℕ, ◌-◌, ◌/◌, ◌%◌, ◌≤◌}
+use Prim.Native.Nat.{ℕ, ◌-◌, ◌/◌, ◌≤◌}
 use mathlib.Core.Path.{◌≡◌, refl, sym, ap, ◌∙◌}
-use mathlib.Core.Bool.{Bool, true, false, cond}
+use mathlib.Core.Bool.{Bool, true, false}
 use mathlib.Core.List.{List, [], ◌∷◌, ◌++◌, foldl, foldl-append}
 use mathlib.Core.List.Memᴰ.{head as here}
-use mathlib.Core.List.Memᴰ.{tail as there}
 use mathlib.Core.List.{Memᴰ as In}
 use mathlib.Core.Logic.Iff
 use mathlib.Core.Logic.{◌⊎◌, inl, inr, ⊎_elim}
@@ -16,16 +15,15 @@ use lib.Dec.{eqb}
 use borrow.Author.Tests.{eq-eqb, ne_eqb}
 use Rattle.rules.specs.Choice.{all}
 use Rattle.rules.specs.Forms.{GoodForm}
-use Rattle.rules.specs.Words.{Table, word, words_for, header_tests, state_of, header_of, at_rest, GoodState, GoodHeader, flag_of, key_in, record_in}
+use Rattle.rules.specs.Words.{Table, word, words_for, state_of, header_of, at_rest, GoodState, GoodHeader, flag_of, key_in, record_in}
 use Rattle.rules.specs.Soundness.{taken_slots, sound_tests, TakenSlot, SoundTable, PlainMap, HasMap, Before}
 use Rattle.rules.specs.Answers.{conversion_means, number_of}
-use Rattle.rules.specs.Calls.{header_good, checked, refused, listed}
-use Rattle.rules.specs.Results.{create_tests, created, create_result}
+use Rattle.rules.specs.Calls.{header_good, checked}
+use Rattle.rules.specs.Results.{create_result}
 use Rattle.rules.specs.NoPlace.{NoPlaceFor}
-use Rattle.rules.specs.Histories.{after_all}
-use Rattle.rules.specs.Demands.{AtRest, HeaderWords, GoodCreation, CreatedWords, Given, bad_header}
+use Rattle.rules.specs.Demands.{AtRest, HeaderWords, GoodCreation, CreatedWords, Given}
 use Rattle.rules.specs.Conversions.{convert_tests, other_form, fresh_for, Filling, filled, stuck, with_item, filling, filled_to, convert_result}
-use Rattle.rules.specs.ConversionSentences.{fresh_in, ItemsInOrder, inserts, AllAccepted, Built, StuckAt, convert_reasons, conversion_outcome, LeavesBy}
+use Rattle.rules.specs.ConversionSentences.{fresh_in, ItemsInOrder, Built, StuckAt, convert_reasons, conversion_outcome, LeavesBy}
 use Rattle.rules.specs.ConversionSentences.{other_header, SameMaps, ConvertRefusals, ConvertLeaves, FlagIsTwelve, ConvertKeepsTheMap, ThereAndBack}
 use Rattle.rules.specs.ConversionSentences.{OldWordsPlayNoPart}
 use Rattle.rules.specs.declared.Header.{Header}
@@ -36,14 +34,14 @@ use Rattle.rules.specs.declared.Refusal.TheVariants.{BadHeader, NoPlace, Already
 use Rattle.rules.specs.declared.Conversion.{Conversion}
 use Rattle.rules.specs.declared.Conversion.TheVariants.{Converted, Stuck, Rejected}
 use Rattle.rules.specs.declared.Verdict.{Verdict}
-use Rattle.rules.specs.declared.Verdict.TheVariants.{Done, Denied}
+use Rattle.rules.specs.declared.Verdict.TheVariants.{Done}
 use Rattle.rules.proofs.Basics.Lists.{not_some, ascending-tells, ascending-told, ascending-inside, ascending-one, ascending-parts}
 use Rattle.rules.proofs.Basics.Tests.{Tells, tells_eq}
 use Rattle.rules.proofs.Words.HeaderWords.{header-words}
 use Rattle.rules.proofs.Words.Headers.{header_passes}
 use Rattle.rules.proofs.Tables.Twins.{before_once, before-apart, taken_in_lem, in_taken, taken_ascend}
 use Rattle.rules.proofs.Tables.Sound.{soundness_is_tested, header-tells}
-use Rattle.rules.proofs.Calls.Checked.{checked_as, checked-either}
+use Rattle.rules.proofs.Calls.Checked.{checked_as}
 use Rattle.rules.proofs.Calls.Refusals.{ByFirst, unless_then}
 use Rattle.rules.proofs.Calls.Creating.{good_creation, created_is_empty, created-words}
 use Rattle.rules.proofs.Calls.Filling.{Apart, Took, Filled, Unplaced, FillsTo, fill_all, item-taken, stuck-stays, later-absent}

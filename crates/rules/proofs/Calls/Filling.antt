@@ -15,18 +15,16 @@ use lib.Dec.{eqb}
 use borrow.Author.Tests.{eqb-true, eq-eqb, ne_eqb}
 use Rattle.rules.specs.Words.{Table, header_of, key_in, record_in}
 use Rattle.rules.specs.Stores.{Store, made}
-use Rattle.rules.specs.Soundness.{PlainMap, HasMap}
-use Rattle.rules.specs.Calls.{Outcome, refused, listed, Call, insert, outcome}
+use Rattle.rules.specs.Soundness.{PlainMap}
+use Rattle.rules.specs.Calls.{Outcome, listed, Call, insert, outcome}
 use Rattle.rules.specs.Results.{change_result}
 use Rattle.rules.specs.NoPlace.{NoPlaceFor}
 use Rattle.rules.specs.Histories.{whole, after, after_all, Accepted}
-use Rattle.rules.specs.Demands.{Given, Gives, InsertBy, map_with, with_state}
+use Rattle.rules.specs.Demands.{Given, InsertBy, map_with, with_state}
 use Rattle.rules.specs.Conversions.{Filling, filled, stuck, inserted_in, with_item}
 use Rattle.rules.specs.ConversionSentences.{inserts, AllAccepted}
-use Rattle.rules.specs.declared.Header.{Header}
 use Rattle.rules.specs.declared.Slot.{Slot}
 use Rattle.rules.specs.declared.Record.{Record}
-use Rattle.rules.specs.declared.Refusal.TheVariants.{NoPlace}
 use Rattle.rules.proofs.Basics.Lists.{Ascending, not_some}
 use Rattle.rules.proofs.Calls.Passing.{passes}
 use Rattle.rules.proofs.Calls.Inserting.{insert_answers}

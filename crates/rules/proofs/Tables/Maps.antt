@@ -5,7 +5,7 @@ use mathlib.Core.Path.{◌≡◌, refl, sym, ap, ◌∙◌}
 use mathlib.Core.Option.{Option, none, some}
 use lib.Dec.{eqb}
 use borrow.Author.Tests.{eqb-true, eqb-false}
-use Rattle.rules.specs.Choice.{given, first_of}
+use Rattle.rules.specs.Choice.{given}
 use Rattle.rules.specs.Words.{Table, key_in, record_in}
 use Rattle.rules.specs.Soundness.{taken_slots, TakenSlot, SoundTable, PlainMap, HasMap, map_of}
 use Rattle.rules.specs.Demands.{MapExists}

@@ -5,7 +5,6 @@ use mathlib.Core.Path.{◌≡◌, ap, ◌∙◌}
 use native.Mathlib.Omega.{arith}
 use Rattle.rules.specs.Words.{size_of, interim_of}
 use Rattle.rules.specs.Calls.{interim_bucket}
-use borrow.Author.Rules.{rules}
 use Rattle.growing.proofs.interim.bucket_in_level.Goals as goal
 use Rattle.growing.proofs.interim.bucket_in_level.Goals.{After-power}
 

@@ -1,14 +1,13 @@
 -- `growing::interim::first_item` meets its contract.
 -- Assumes nothing.
-use borrow.Author.Rules.{rules}
 use Prim.Native.Nat.{◌+◌, ◌-◌}
-use mathlib.Core.Path.{◌≡◌, refl, sym, ap, ◌∙◌}
+use mathlib.Core.Path.{refl, sym, ap, ◌∙◌}
 use native.Mathlib.Omega.{arith}
 use Rattle.rules.specs.Words.{slot_at, place_at}
 use Rattle.rules.proofs.Words.Headers.{header-state}
 use Rattle.reading.specs.Within.{BucketWithin}
 use Rattle.growing.specs.Interim.{item_of}
-use Rattle.growing.proofs.Searches.{few-buckets, bucket-within, found_from, found_hit, found_pass, found-over, item_at, items_from_lem}
+use Rattle.growing.proofs.Searches.{few-buckets, bucket-within, found_hit, found_pass, found-over, items_from_lem}
 use Rattle.growing.proofs.Searches.{item-here, item_low, item-none}
 use Rattle.growing.proofs.interim.first_item.Goals as goal
 use Rattle.growing.proofs.interim.first_item.Goals.{In-loop-i}
@@ -44,8 +43,7 @@ returns-then-any_taken c =
     let w = c.token-word.ensures in
     let v = c.any_taken.ensures in
     let some = c.if-any_taken.true in
-    let z = c.lowest_taken.ensures in
-    (
+    let z = c.lowest_taken.ensures in (
       sym (ap item_of (items_from_lem _ _ _ c.requires.1 ∙ c.loop-i.invariant
           ∙ found_hit _ _ _ _ c.interim-level.ensures.0 c.power-m.ensures.0 c.loop-i-test.true
           (item-here _ _ _ w v c.interim-level.ensures.0 some z))),
@@ -64,9 +62,8 @@ loop-i-preserved c =
     (item-none _ _ _ c.token-word.ensures c.any_taken.ensures c.if-any_taken.false)
 
 pub returns : goal.returns
-returns c =
-    (
-      sym (ap item_of (items_from_lem _ _ _ c.requires.1 ∙ c.loop-i.invariant
-          ∙ found-over _ _ _ _ c.interim-level.ensures.0 c.power-m.ensures.0 c.loop-i-test.false)),
-      tt,
-    )
+returns c = (
+  sym (ap item_of (items_from_lem _ _ _ c.requires.1 ∙ c.loop-i.invariant
+      ∙ found-over _ _ _ _ c.interim-level.ensures.0 c.power-m.ensures.0 c.loop-i-test.false)),
+  tt,
+)

@@ -1,15 +1,8 @@
 -- `growing::interim::first_item` meets its contract.
 -- Assumes nothing.
-use borrow.Author.Rules.{rules}
-use Prim.Native.Nat.{◌+◌, ◌-◌}
-use mathlib.Core.Path.{◌≡◌, refl, sym, ap, ◌∙◌}
-use native.Mathlib.Omega.{arith}
-use Rattle.rules.specs.Words.{slot_at, place_at}
-use Rattle.rules.proofs.Words.Headers.{header-state}
-use Rattle.reading.specs.Within.{BucketWithin}
-use Rattle.growing.specs.Interim.{item_of}
-use Rattle.growing.proofs.Searches.{few-buckets, bucket-within, found_from, found_hit, found_pass, found-over, item_at, items_from_lem}
-use Rattle.growing.proofs.Searches.{item-here, item_low, item-none}
+use Prim.Native.Nat.{◌-◌}
+use mathlib.Core.Path.{◌≡◌}
+use Rattle.growing.proofs.Searches.{found_from, item_at}
 use Rattle.growing.proofs.interim.first_item.Given as goal
 
 abbrev pub invariant-loop-i : goal.invariant-loop-i

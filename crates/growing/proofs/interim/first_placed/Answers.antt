@@ -1,17 +1,13 @@
 -- `growing::interim::first_placed` meets its contract: the item that the step takes is the first that has a place from bucket i on.
 -- Assumes nothing.
 use borrow.Enum.Refused.{opened}
-use borrow.Author.Rules.{rules}
 use Prim.Native.Nat.{◌+◌, ◌-◌}
-use mathlib.Core.Path.{◌≡◌, refl, ◌∙◌}
-use mathlib.Core.Logic.{⊎_elim}
+use mathlib.Core.Path.{refl, ◌∙◌}
 use native.Mathlib.Omega.{arith}
 use Rattle.rules.specs.Words.{place_at}
-use Rattle.rules.specs.Calls.{step_item}
 use Rattle.rules.proofs.Words.Headers.{header-state}
 use Rattle.reading.specs.Within.{BucketWithin}
-use Rattle.growing.specs.Interim.{placeable}
-use Rattle.growing.proofs.Searches.{few-buckets, bucket-within, is_nowhere, is_somewhere, none-placed, found_from, found-over, bucket-stuck}
+use Rattle.growing.proofs.Searches.{bucket-within, is_nowhere, is_somewhere, none-placed, found-over, bucket-stuck}
 use Rattle.growing.proofs.Searches.{bucket-placed, bucket-empty, item-none, placeable-all}
 use Rattle.growing.proofs.interim.first_placed.Goals as goal
 use Rattle.growing.proofs.interim.first_placed.Goals.{then-any_taken+in-Nowhere, else-any_taken}
@@ -55,9 +51,9 @@ loop-i-preserved c =
     let l = c.interim-level.ensures.0 in
     let m = c.power-m.ensures.0 in
     c.loop-i.invariant ∙ elim c.if-any_taken.branch [
-      then-any_taken+in-Nowhere u ↦
-        bucket-stuck _ _ _ _ l m c.loop-i-test.true _ refl u.placed_in-found.result u.placed_in-found.ensures
-        (is_nowhere u.placed_in-found.result.placing u.in-Nowhere.in-Nowhere-own.keys1)
+      | then-any_taken+in-Nowhere u ↦
+          bucket-stuck _ _ _ _ l m c.loop-i-test.true _ refl u.placed_in-found.result u.placed_in-found.ensures
+          (is_nowhere u.placed_in-found.result.placing u.in-Nowhere.in-Nowhere-own.keys1)
       | else-any_taken u ↦ bucket-empty _ _ _ _ l m c.loop-i-test.true (item-none _ _ _ c.token.ensures c.any_taken.ensures u.if-any_taken.false)
     ]
 

@@ -1,16 +1,13 @@
 -- `growing::interim::placed_in` meets its contract: the first that has a place of all slots is the first of those from s on.
 -- Assumes nothing.
 use borrow.Enum.Refused.{opened}
-use borrow.Author.Rules.{rules}
-use Prim.Native.Nat.{◌-◌}
-use mathlib.Core.Path.{◌≡◌, refl, ◌∙◌}
-use mathlib.Core.Logic.{⊎_elim}
+use mathlib.Core.Path.{refl, ◌∙◌}
 use native.Mathlib.Omega.{arith}
-use Rattle.rules.specs.Words.{slot_at, slots_in}
+use Rattle.rules.specs.Words.{slot_at}
 use Rattle.rules.proofs.Basics.Walks.{slots_end}
-use Rattle.rules.proofs.Basics.Along.{along, along_all, along_over}
+use Rattle.rules.proofs.Basics.Along.{along_all, along_over}
 use Rattle.rules.proofs.Calls.Meanings.{placing-told_by}
-use Rattle.growing.specs.Interim.{placeable, placeable_in}
+use Rattle.growing.specs.Interim.{placeable_in}
 use Rattle.growing.proofs.Searches.{is_nowhere, is_somewhere, none-placed, slot-free, slot-stuck, slot_placed}
 use Rattle.growing.proofs.interim.placed_in.Goals as goal
 use Rattle.growing.proofs.interim.placed_in.Goals.{then-is_taken+in-Nowhere, else-is_taken}
@@ -40,9 +37,9 @@ unfolding slot_at
 loop-s-preserved c =
     let i = c.is_taken.ensures in
     c.loop-s.invariant ∙ elim c.if-is_taken.branch [
-      then-is_taken+in-Nowhere u ↦
-        slot-stuck _ _ _ _ c.loop-s-test.true c.token-word.ensures i u.if-is_taken.true u.key_at-key.ensures u.interim_placing-found.result
-        (placing-told_by u.interim_placing-found.ensures.0) (is_nowhere u.interim_placing-found.result u.in-Nowhere.in-Nowhere-own.keys1)
+      | then-is_taken+in-Nowhere u ↦
+          slot-stuck _ _ _ _ c.loop-s-test.true c.token-word.ensures i u.if-is_taken.true u.key_at-key.ensures u.interim_placing-found.result
+          (placing-told_by u.interim_placing-found.ensures.0) (is_nowhere u.interim_placing-found.result u.in-Nowhere.in-Nowhere-own.keys1)
       | else-is_taken u ↦ slot-free _ _ _ _ c.loop-s-test.true c.token-word.ensures i u.if-is_taken.false
     ]
 

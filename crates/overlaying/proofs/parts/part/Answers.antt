@@ -4,7 +4,6 @@ use Rattle.rules.specs.Overlays.{newer, older}
 use Rattle.reading.proofs.Gated.{is_shut}
 use Rattle.overlaying.proofs.Gated.{newer_shut, older_shut, both_open}
 use Rattle.overlaying.proofs.Memory.{part_shut, part_open}
-use borrow.Author.Rules.{rules}
 use Rattle.overlaying.proofs.parts.part.Goals as goal
 
 pub part_in_either-requires : goal.part_in_either-requires

@@ -2,7 +2,6 @@
 -- Assumes nothing.
 use mathlib.Core.Path.{refl}
 use Rattle.overlaying.proofs.Memory.{cut}
-use borrow.Author.Rules.{rules}
 use Rattle.overlaying.proofs.parts.words_from.Goals as goal
 
 pub returns : goal.returns

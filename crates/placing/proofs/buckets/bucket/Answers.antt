@@ -1,7 +1,6 @@
 -- `placing::buckets::bucket` meets its contract: four records, slot by slot.
 -- Assumes nothing.
 use Rattle.placing.proofs.Choosing.{records}
-use borrow.Author.Rules.{rules}
 use Rattle.placing.proofs.buckets.bucket.Goals as goal
 
 pub returns : goal.returns

@@ -1,7 +1,6 @@
 -- `placing::buckets::item` meets its contract.
 -- Assumes nothing.
 use Rattle.placing.specs.Buckets.{item_in}
-use borrow.Author.Rules.{rules}
 use Rattle.placing.proofs.buckets.item.Goals as goal
 
 pub returns : goal.returns

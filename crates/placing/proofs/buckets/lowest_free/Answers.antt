@@ -3,7 +3,6 @@
 use mathlib.Core.Path.{◌∙◌}
 use native.Mathlib.Omega.{arith}
 use Rattle.placing.proofs.Choosing.{first_record}
-use borrow.Author.Rules.{rules}
 use Rattle.placing.proofs.buckets.lowest_free.Goals as goal
 
 pub returns : goal.returns

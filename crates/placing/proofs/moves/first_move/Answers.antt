@@ -1,7 +1,6 @@
 -- `placing::moves::first_move` meets its contract: the first of the three parts that moves an item.
 -- Assumes nothing.
 use borrow.Enum.Refused.{opened}
-use borrow.Author.Rules.{rules}
 use Rattle.rules.proofs.Words.Headers.{header-state}
 use Rattle.placing.specs.Within.{LevelWithin}
 use Rattle.placing.proofs.Goals.{top_within, bottom-within}
@@ -37,8 +36,7 @@ moves_of_level-in_bottom-requires c = (lower (goal.at.moves_of_level-in_bottom-r
 pub returns-in_default-in_bottom : goal.returns-in_default-in_bottom
 returns-in_default-in_bottom c =
     let m = c.moves_of_level-in_bottom in
-    let l = c.moves_of_level-in_top in
-    (
+    let l = c.moves_of_level-in_top in (
       second-part _ _ _ c.top-upper.ensures.0 c.bottom-lower.ensures.0 l.result l.ensures.0 (nowhere l.result c.in-Nowhere.in-Nowhere-own.keys1)
           m.result m.ensures.0 (somewhere m.result (opened c.in_default-in_bottom.in_default-in_bottom-own.keys2)),
       m.ensures.1,
@@ -51,8 +49,7 @@ pub returns : goal.returns
 returns c =
     let r = c.moves_of_level in
     let m = c.moves_of_level-in_bottom in
-    let l = c.moves_of_level-in_top in
-    (
+    let l = c.moves_of_level-in_top in (
       third_part _ _ _ c.top-upper.ensures.0 c.bottom-lower.ensures.0 l.result l.ensures.0 (nowhere l.result c.in-Nowhere.in-Nowhere-own.keys1)
           m.result m.ensures.0 r.result (nowhere m.result c.in-Nowhere-in_bottom.in-Nowhere-in_bottom-own.keys1) r.ensures.0,
       r.ensures.1,

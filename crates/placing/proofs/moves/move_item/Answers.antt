@@ -4,7 +4,6 @@ use mathlib.Core.Path.{◌∙◌}
 use native.Mathlib.Omega.{arith}
 use Rattle.placing.proofs.Goals.{goals-within}
 use Rattle.placing.proofs.Moving.{item-goals}
-use borrow.Author.Rules.{rules}
 use Rattle.placing.proofs.moves.move_item.Goals as goal
 
 pub move_to-requires : goal.move_to-requires

@@ -1,16 +1,13 @@
 -- `placing::moves::move_to` meets its contract: the first free slot along all goals is the first along those from i on.
 -- Assumes nothing.
 use borrow.Enum.Refused.{opened}
-use mathlib.Core.Path.{◌≡◌, ◌∙◌}
-use Prim.Native.Nat.{◌-◌, ◌≤◌}
-use borrow.Author.Rules.{rules}
+use mathlib.Core.Path.{◌∙◌}
+use Prim.Native.Nat.{◌≤◌}
 use native.Mathlib.Omega.{arith}
-use lib.ListN.{length, take, get_or}
-use Rattle.rules.specs.Choice.{first_of}
-use Rattle.rules.specs.Placing.{free_slot}
+use lib.ListN.{length, get_or}
 use Rattle.rules.proofs.Basics.Walks.{among_first}
 use Rattle.reading.specs.Within.{BucketWithin}
-use Rattle.rules.proofs.Basics.Along.{along, along_all, first_pass, first_hit, first-over}
+use Rattle.rules.proofs.Basics.Along.{along_all, first_pass, first_hit, first-over}
 use Rattle.placing.proofs.Goals.{past}
 use Rattle.placing.proofs.Placings.{not_free, is_free}
 use Rattle.placing.proofs.Moving.{item-moves, item-stays}

@@ -2,13 +2,11 @@
 -- Assumes nothing.
 use borrow.Enum.Refused.{opened}
 use mathlib.Core.Path.{◌≡◌, sym, ◌∙◌}
-use borrow.Author.Rules.{rules}
-use Prim.Native.Nat.{◌-◌}
 use native.Mathlib.Omega.{arith}
-use Rattle.rules.specs.Words.{slot_at, slots_in}
+use Rattle.rules.specs.Words.{slot_at}
 use Rattle.rules.proofs.Basics.Walks.{slots_next, slots_end}
-use Rattle.placing.specs.Search.{optional, item_move, bucket_move}
-use Rattle.rules.proofs.Basics.Along.{along, along_pass, along_hit, along_over}
+use Rattle.placing.specs.Search.{optional, item_move}
+use Rattle.rules.proofs.Basics.Along.{along_pass, along_hit, along_over}
 use Rattle.placing.proofs.Placings.{nowhere, somewhere}
 use Rattle.placing.proofs.Moving.{item_of, bucket-all}
 use Rattle.placing.proofs.moves.moves_of_bucket.Goals as goal

@@ -1,7 +1,6 @@
 -- `placing::moves::moves_of_level` meets its contract.
 -- Assumes nothing.
 use mathlib.Core.Path.{ap, ◌∙◌}
-use borrow.Author.Rules.{rules}
 use Rattle.placing.specs.Search.{places_move}
 use Rattle.placing.proofs.Goals.{level_places}
 use Rattle.placing.proofs.moves.moves_of_level.Goals as goal

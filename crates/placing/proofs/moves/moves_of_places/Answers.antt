@@ -2,14 +2,13 @@
 -- Assumes nothing.
 use borrow.Enum.Refused.{opened}
 use mathlib.Core.Path.{◌≡◌, sym, ◌∙◌}
-use borrow.Author.Rules.{rules}
-use Prim.Native.Nat.{◌-◌, ◌≤◌}
+use Prim.Native.Nat.{◌≤◌}
 use native.Mathlib.Omega.{arith}
-use lib.ListN.{length, take, get_or}
+use lib.ListN.{length, get_or}
 use Rattle.rules.proofs.Basics.Walks.{among_first}
 use Rattle.reading.specs.Within.{BucketWithin}
-use Rattle.placing.specs.Search.{optional, place_move, places_move}
-use Rattle.rules.proofs.Basics.Along.{along, first_pass, first_hit, first-over}
+use Rattle.placing.specs.Search.{optional, place_move}
+use Rattle.rules.proofs.Basics.Along.{first_pass, first_hit, first-over}
 use Rattle.placing.proofs.Goals.{past}
 use Rattle.placing.proofs.Placings.{nowhere, somewhere}
 use Rattle.placing.proofs.Moving.{place_move_lem, places_all}

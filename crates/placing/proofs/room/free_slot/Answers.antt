@@ -2,7 +2,6 @@
 -- Assumes nothing.
 use native.Mathlib.Omega.{arith}
 use Rattle.placing.proofs.Choosing.{place-full, place-free}
-use borrow.Author.Rules.{rules}
 use Rattle.placing.proofs.room.free_slot.Goals as goal
 
 pub returns-then-s-eq4 : goal.returns-then-s-eq4

@@ -2,7 +2,6 @@
 -- Assumes nothing.
 use mathlib.Core.Path.{ap, ◌∙◌}
 use mathlib.Core.Option.{map}
-use borrow.Author.Rules.{rules}
 use Rattle.rules.specs.declared.Placing.TheVariants.{Free}
 use Rattle.placing.proofs.Choosing.{room_chosen, both_full}
 use Rattle.placing.proofs.room.room.Goals as goal

@@ -1,22 +1,17 @@
 -- `querying::lookup::find` meets its contract.
 -- Assumes nothing.
-use Prim.Native.Nat.{ℕ, ◌-◌, ◌*◌, ◌≤◌, ◌<◌}
-use mathlib.Core.Path.{◌≡◌, refl, sym, ◌∙◌}
-use mathlib.Core.Logic.{⊎_elim}
+use Prim.Native.Nat.{◌-◌, ◌*◌, ◌<◌}
+use mathlib.Core.Path.{refl, sym, ◌∙◌}
 use native.Mathlib.Omega.{arith}
-use borrow.Author.Rules.{rules}
 use lib.Bits.{bit_and}
 use lib.ListN.{length}
 use Rattle.rules.specs.Words.{levels_in_use, slot_at}
-use Rattle.rules.specs.Places.{probes, hit_in, seek}
-use Rattle.rules.specs.declared.Lookup.TheVariants.{Absent}
 use Rattle.rules.proofs.Words.Headers.{header-state}
 use Rattle.rules.proofs.Words.Tokens.{tag_small}
 use Rattle.reading.specs.Within.{BucketWithin}
 use Rattle.reading.proofs.Marks.{rest_less}
-use Rattle.querying.specs.Turns.{nth_place}
-use Rattle.querying.proofs.Seeking.{some_left_over, Left, left_all, left_over, lowest_low, left_free, left_other, left_hit}
-use Rattle.querying.proofs.Turning.{in_turns, turns-all, turns-over, turn_skip, turn_pass, turn_hit, last-next, turn_within}
+use Rattle.querying.proofs.Seeking.{some_left_over, left_all, left_over, lowest_low, left_free, left_other, left_hit}
+use Rattle.querying.proofs.Turning.{turns-all, turns-over, turn_skip, turn_pass, turn_hit, last-next, turn_within}
 use Rattle.querying.proofs.lookup.find.Goals as goal
 use Rattle.querying.proofs.lookup.find.Goals.{then-key_at-key+else-is_taken, else-key_at-key, then-is_fresh+else-loop-left-test, else-is_fresh}
 use Rattle.querying.proofs.lookup.find.Goals.{After-lowest_mark, After-nth_place-p, In-search}
@@ -77,8 +72,8 @@ loop-left-preserved c =
         bit_and v.1.0 (v.1.0 - 1),
         rw c.without_lowest-left.ensures
             (elim c.if-key_at-key.branch [
-              then-key_at-key+else-is_taken w ↦
-                left_free _ _ _ _ v.1.1 more w.token.ensures (rw at at (sym w.is_taken.ensures ∙ w.if-is_taken.false))
+              | then-key_at-key+else-is_taken w ↦
+                  left_free _ _ _ _ v.1.1 more w.token.ensures (rw at at (sym w.is_taken.ensures ∙ w.if-is_taken.false))
               | else-key_at-key w ↦ left_other _ _ _ _ v.1.1 more (λ k. w.if-key_at-key.false (c.key_at.ensures ∙ rw at k))
             ]),
       ),
@@ -97,20 +92,20 @@ search-preserved c =
     let q = c.nth_place-p.ensures in
     let e = sym c.is_fresh.ensures in
     elim c.if-is_fresh.branch [
-      then-is_fresh+else-loop-left-test w ↦
-        rw (w.answer-is, w.looked-is) (
-          w.loop-left.invariant.0,
-          omega (arith, v.1),
-          last-next _ _ _ q,
-          v.3 ∙ turn_pass _ _ _ _ _ _ _ _ l v.2 q (e ∙ w.if-is_fresh.true) (left_over _ _ _ _ w.loop-left.invariant.1.1 w.loop-left-test.false),
-        )
+      | then-is_fresh+else-loop-left-test w ↦
+          rw (w.answer-is, w.looked-is) (
+            w.loop-left.invariant.0,
+            omega (arith, v.1),
+            last-next _ _ _ q,
+            v.3 ∙ turn_pass _ _ _ _ _ _ _ _ l v.2 q (e ∙ w.if-is_fresh.true) (left_over _ _ _ _ w.loop-left.invariant.1.1 w.loop-left-test.false),
+          )
       | else-is_fresh w ↦
-        rw (w.answer-is, w.looked-is) (
-          v.0,
-          omega (arith, v.1),
-          last-next _ _ _ q,
-          v.3 ∙ turn_skip _ _ _ _ _ _ _ _ l v.2 q (e ∙ w.if-is_fresh.false),
-        )
+          rw (w.answer-is, w.looked-is) (
+            v.0,
+            omega (arith, v.1),
+            last-next _ _ _ q,
+            v.3 ∙ turn_skip _ _ _ _ _ _ _ _ l v.2 q (e ∙ w.if-is_fresh.false),
+          )
     ]
 
 pub returns-after-search : goal.returns-after-search

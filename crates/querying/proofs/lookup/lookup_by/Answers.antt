@@ -1,7 +1,6 @@
 -- `querying::lookup::lookup_by` meets its contract.
 -- Assumes nothing.
 use mathlib.Core.Path.{sym, ◌∙◌}
-use borrow.Author.Rules.{rules}
 use Rattle.querying.proofs.lookup.lookup_by.Goals as goal
 
 pub lookup_with-requires : goal.lookup_with-requires

@@ -2,7 +2,6 @@
 -- Assumes nothing.
 use mathlib.Core.Path.{sym, ◌∙◌}
 use Rattle.rules.proofs.Words.Forms.{mixed-tagged, mixed_untagged}
-use borrow.Author.Rules.{rules}
 use Rattle.reading.proofs.forms.mixed.Goals as goal
 
 pub returns-then-has_tags : goal.returns-then-has_tags

@@ -1,7 +1,6 @@
 -- `reading::forms::tag_from` meets its contract.
 -- Assumes nothing.
 use mathlib.Core.Path.{sym, ◌∙◌}
-use borrow.Author.Rules.{rules}
 use Rattle.reading.proofs.forms.tag_from.Goals as goal
 
 pub returns-then-has_tags : goal.returns-then-has_tags

@@ -2,7 +2,6 @@
 -- Assumes nothing.
 use Rattle.rules.specs.Calls.{changing_tests, recover_tests}
 use Rattle.reading.proofs.Gated.{also_more}
-use borrow.Author.Rules.{rules}
 use Rattle.reading.proofs.gate.change_gate.Goals as goal
 
 pub returns : goal.returns

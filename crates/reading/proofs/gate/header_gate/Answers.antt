@@ -1,11 +1,9 @@
 -- `reading::gate::header_gate` meets its contract.
 -- Assumes nothing.
 use mathlib.Core.Path.{sym, ◌∙◌}
-use borrow.Author.Tests.{not-true, not-false}
 use Rattle.rules.specs.Calls.{header_good}
 use Rattle.reading.proofs.HeaderTests.{too_short}
 use Rattle.reading.proofs.Gated.{header_bad, header-good}
-use borrow.Author.Rules.{rules}
 use Rattle.reading.proofs.gate.header_gate.Goals as goal
 
 pub returns-then-t-lt-HEADER_WORDS : goal.returns-then-t-lt-HEADER_WORDS

@@ -3,7 +3,6 @@
 use Rattle.rules.specs.Calls.{query_tests}
 use Rattle.reading.specs.Gates.{header_test}
 use Rattle.reading.proofs.Gated.{also_more}
-use borrow.Author.Rules.{rules}
 use Rattle.reading.proofs.gate.query_gate.Goals as goal
 
 pub returns : goal.returns

@@ -4,7 +4,6 @@ use borrow.Author.Tests.{le-leb, lt-leb}
 use Rattle.rules.specs.Calls.{list_long, recover_tests}
 use Rattle.reading.specs.Gates.{header_test}
 use Rattle.reading.proofs.Gated.{also_more, also_shut, also_failed, also_passed}
-use borrow.Author.Rules.{rules}
 use Rattle.reading.proofs.gate.recover_gate.Goals as goal
 
 pub returns-then-n-lt20 : goal.returns-then-n-lt20

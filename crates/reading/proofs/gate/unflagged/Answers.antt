@@ -5,7 +5,6 @@ use borrow.Author.Tests.{eq-eqb, ne_eqb}
 use Rattle.rules.specs.Words.{flag_of}
 use Rattle.rules.specs.Calls.{flag_clear}
 use Rattle.reading.proofs.Gated.{also_shut, also_failed, also_passed, long_enough}
-use borrow.Author.Rules.{rules}
 use Rattle.reading.proofs.gate.unflagged.Goals as goal
 
 pub bounds-t-5 : goal.bounds-t-5

@@ -1,7 +1,6 @@
 -- `reading::header::decode` meets its contract.
 -- Assumes nothing.
 use Rattle.rules.specs.Words.{header_of}
-use borrow.Author.Rules.{rules}
 use Rattle.reading.proofs.header.decode.Goals as goal
 
 pub returns : goal.returns

@@ -2,8 +2,6 @@
 -- Assumes nothing.
 use mathlib.Core.Path.{sym, ◌∙◌}
 use Rattle.reading.proofs.HeaderTests.{low, high, wrong_length, wrong_form, even1, even2, by_state}
-use borrow.Author.Rules.{rules}
-use borrow.Author.Tests.{not-true, not-false}
 use Rattle.reading.proofs.header.header_good.Goals as goal
 
 pub returns-then-h-lt1 : goal.returns-then-h-lt1

@@ -4,7 +4,6 @@ use Prim.Native.Nat.{◌+◌, ◌^◌, ◌≤◌}
 use native.Mathlib.Omega.{arith}
 use lib.Pow.{pow_mono}
 use Rattle.rules.specs.Words.{words_for}
-use borrow.Author.Rules.{rules}
 use Rattle.reading.proofs.header.words_for.Goals as goal
 use Rattle.reading.proofs.header.words_for.Goals.{After-power}
 

@@ -3,7 +3,6 @@
 use mathlib.Core.Path.{◌≡◌, refl, sym, ◌∙◌}
 use mathlib.Core.Bool.{true, false}
 use native.Mathlib.Omega.{arith}
-use borrow.Author.Rules.{rules}
 use Rattle.rules.specs.Words.{shrinking, interim_of}
 use Rattle.rules.proofs.Words.States.{state-fits, interim-fits, interim_least}
 use Rattle.reading.proofs.levels.interim.Goals as goal

@@ -1,7 +1,6 @@
 -- `reading::levels::level_count` meets its contract.
 -- Assumes nothing.
 use native.Mathlib.Omega.{arith}
-use borrow.Author.Rules.{rules}
 use Rattle.rules.proofs.Words.Levels.{levels_counted}
 use Rattle.reading.proofs.levels.level_count.Goals as goal
 

@@ -3,7 +3,6 @@
 use Prim.Native.Nat.{◌-◌, ◌^◌, ◌≤◌}
 use native.Mathlib.Omega.{arith}
 use lib.Pow.{pow_mono, shr_le}
-use borrow.Author.Rules.{rules}
 use Rattle.rules.specs.Words.{top_of, levels_in_use}
 use Rattle.rules.proofs.Basics.Walks.{stands_at_lem}
 use Rattle.rules.proofs.Words.States.{state-fits}

@@ -3,7 +3,6 @@
 use Rattle.words.specs.Product.{hash_of}
 use Rattle.rules.specs.Forms.{tag_of}
 use Rattle.rules.specs.Places.{hashes_of}
-use borrow.Author.Rules.{rules}
 use Rattle.reading.proofs.places.hashes.Goals as goal
 
 pub returns : goal.returns

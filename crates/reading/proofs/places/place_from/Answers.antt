@@ -2,7 +2,6 @@
 -- Assumes nothing.
 use native.Mathlib.Omega.{arith}
 use lib.Bits.{and_le_r}
-use borrow.Author.Rules.{rules}
 use Rattle.reading.proofs.places.place_from.Goals as goal
 
 pub overflow_add-result : goal.overflow_add-result

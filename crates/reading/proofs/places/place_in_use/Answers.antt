@@ -1,6 +1,5 @@
 -- `reading::places::place_in_use` meets its contract.
 -- Assumes nothing.
-use borrow.Author.Rules.{rules}
 use Rattle.rules.proofs.Words.Levels.{nth_named}
 use Rattle.reading.specs.Levels.{nth_level}
 use Rattle.reading.proofs.Placed.{placed}

@@ -3,7 +3,6 @@
 use Rattle.rules.specs.Forms.{tag_of}
 use Rattle.rules.proofs.Words.Tokens.{tag_small}
 use mathlib.Core.Path.{◌≡◌}
-use borrow.Author.Rules.{rules}
 use Rattle.reading.proofs.places.tag.Goals as goal
 
 pub returns : goal.returns

@@ -2,7 +2,6 @@
 -- Assumes nothing.
 use native.Mathlib.Omega.{arith}
 use Rattle.rules.specs.Words.{token_word, key_word}
-use borrow.Author.Rules.{rules}
 use Rattle.reading.proofs.slots.key_word.Goals as goal
 
 pub overflow_add-result-2 : goal.overflow_add-result-2

@@ -1,6 +1,5 @@
 -- `reading::slots::spot` meets its contract.
 -- Assumes nothing.
-use borrow.Author.Rules.{rules}
 use Rattle.rules.specs.Words.{spot_of}
 use Rattle.reading.proofs.slots.spot.Goals as goal
 

@@ -2,7 +2,6 @@
 -- Assumes nothing.
 use mathlib.Core.Path.{refl}
 use Rattle.rules.specs.Words.{token_word}
-use borrow.Author.Rules.{rules}
 use Rattle.reading.proofs.slots.token_word.Goals as goal
 
 pub returns : goal.returns

@@ -1,6 +1,5 @@
 -- `reading::tokens::any_taken` meets its contract.
 -- Assumes nothing.
-use borrow.Author.Rules.{rules}
 use Rattle.reading.proofs.TokenWords.{some-taken}
 use Rattle.reading.proofs.tokens.any_taken.Goals as goal
 

@@ -1,6 +1,5 @@
 -- `reading::tokens::both_full` meets its contract.
 -- Assumes nothing.
-use borrow.Author.Rules.{rules}
 use Rattle.reading.proofs.TokenWords.{none_free}
 use Rattle.reading.proofs.tokens.both_full.Goals as goal
 

@@ -1,6 +1,5 @@
 -- `reading::tokens::entry` meets its contract.
 -- Assumes nothing.
-use borrow.Author.Rules.{rules}
 use Rattle.reading.proofs.tokens.entry.Goals as goal
 
 pub returns : goal.returns

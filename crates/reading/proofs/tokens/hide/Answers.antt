@@ -2,10 +2,8 @@
 -- Assumes nothing.
 use native.Mathlib.Omega.{arith}
 use mathlib.Core.Path.{sym, ◌∙◌}
-use borrow.Author.Tests.{not-true, not-false}
 use lib.Bits.{and_le_l}
 use Rattle.reading.proofs.TokenWords.{shifted, hide_untagged, hide-tagged}
-use borrow.Author.Rules.{rules}
 use Rattle.reading.proofs.tokens.hide.Goals as goal
 
 pub overflow_sub-result : goal.overflow_sub-result

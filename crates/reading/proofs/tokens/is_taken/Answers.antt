@@ -1,7 +1,6 @@
 -- `reading::tokens::is_taken` meets its contract.
 -- Assumes nothing.
 use Rattle.rules.specs.Words.{is_taken}
-use borrow.Author.Rules.{rules}
 use Rattle.reading.proofs.tokens.is_taken.Goals as goal
 
 pub returns : goal.returns

@@ -5,7 +5,6 @@ use mathlib.Core.Bool.{not}
 use Prim.Native.Nat.{ℕ}
 use Rattle.rules.specs.Words.{token_number, is_taken, lowest, lowest_free}
 use Rattle.rules.proofs.Basics.Lowest.{lowest_low}
-use borrow.Author.Rules.{rules}
 use Rattle.reading.proofs.TokenWords.{told}
 use Rattle.reading.proofs.tokens.lowest_free.Goals as goal
 

@@ -2,7 +2,6 @@
 -- Assumes nothing.
 use mathlib.Core.Path.{refl}
 use Rattle.rules.specs.Words.{token_number, is_taken, lowest, lowest_taken}
-use borrow.Author.Rules.{rules}
 use Rattle.reading.proofs.TokenWords.{told}
 use Rattle.reading.proofs.tokens.lowest_taken.Goals as goal
 

@@ -3,7 +3,6 @@
 use mathlib.Core.Path.{sym, ◌∙◌}
 use native.Mathlib.Omega.{arith}
 use Rattle.reading.proofs.TokenWords.{added_is, added_small, meant-taken, meant-free}
-use borrow.Author.Rules.{rules}
 use Rattle.reading.proofs.tokens.mark_meant.Goals as goal
 
 pub overflow_add-result-then-is_taken : goal.overflow_add-result-then-is_taken

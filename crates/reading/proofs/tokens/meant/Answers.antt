@@ -1,10 +1,8 @@
 -- `reading::tokens::meant` meets its contract: in form 1 the keys play no part.
 -- Assumes nothing.
 use mathlib.Core.Path.{sym, ◌∙◌}
-use borrow.Author.Tests.{not-true}
 use Rattle.rules.specs.Words.{meant}
 use Rattle.rules.proofs.Words.Tokens.{meant_untagged}
-use borrow.Author.Rules.{rules}
 use Rattle.reading.proofs.tokens.meant.Goals as goal
 
 pub returns-then-not-has_tags : goal.returns-then-not-has_tags

@@ -2,10 +2,8 @@
 -- Assumes nothing.
 use native.Mathlib.Omega.{arith}
 use mathlib.Core.Path.{sym, ◌∙◌}
-use borrow.Author.Tests.{not-true}
 use Rattle.rules.proofs.Words.Tokens.{shown-fits}
 use Rattle.reading.proofs.TokenWords.{show_untagged, added_is, added_small}
-use borrow.Author.Rules.{rules}
 use Rattle.reading.proofs.tokens.show.Goals as goal
 
 pub returns-then-not-has_tags : goal.returns-then-not-has_tags

@@ -1,8 +1,6 @@
 -- `reading::tokens::slots_to_read` meets its contract.
 -- Assumes nothing.
-use borrow.Author.Tests.{not-true, not-false}
 use Rattle.reading.proofs.Marks.{all-readable, fitting-readable, sum_fits, marks_most, marks_fit}
-use borrow.Author.Rules.{rules}
 use Rattle.reading.proofs.tokens.slots_to_read.Goals as goal
 
 pub returns-then-not-tags : goal.returns-then-not-tags

@@ -4,7 +4,6 @@ use mathlib.Core.Path.{refl}
 use lib.ListN.{length}
 use Rattle.rules.specs.Choice.{select}
 use Rattle.rules.specs.Words.{slots, token_number, is_taken, taken_of}
-use borrow.Author.Rules.{rules}
 use Rattle.reading.proofs.TokenWords.{told}
 use Rattle.reading.proofs.tokens.taken_count.Goals as goal
 

@@ -2,7 +2,6 @@
 -- Assumes nothing.
 use mathlib.Core.Path.{refl}
 use Rattle.reading.specs.Tokens.{rest_of}
-use borrow.Author.Rules.{rules}
 use Rattle.reading.proofs.tokens.without_lowest.Goals as goal
 
 pub returns : goal.returns

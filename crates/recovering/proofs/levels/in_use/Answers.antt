@@ -1,14 +1,10 @@
 -- `recovering::levels::in_use` meets its contract: the tests of all levels are those from the n-th on.
 -- Assumes nothing.
-use Prim.Native.Nat.{◌-◌}
-use mathlib.Core.Path.{◌≡◌, sym, ◌∙◌}
+use mathlib.Core.Path.{sym, ◌∙◌}
 use native.Mathlib.Omega.{arith}
-use borrow.Author.Rules.{rules}
 use lib.ListN.{drop_of_length-le}
-use Rattle.rules.specs.Choice.{any}
-use Rattle.rules.specs.Words.{levels_in_use, exponent_in_use}
-use Rattle.rules.proofs.Basics.Loops.{tests_from, tests_end, any_next}
-use Rattle.recovering.proofs.Unused.{uses, use_whole, use_same, use_other}
+use Rattle.rules.proofs.Basics.Loops.{tests_end, any_next}
+use Rattle.recovering.proofs.Unused.{use_whole, use_same, use_other}
 use Rattle.recovering.proofs.levels.in_use.Goals as goal
 
 pub loop-n-init : goal.loop-n-init

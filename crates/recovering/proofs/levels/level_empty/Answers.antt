@@ -1,17 +1,13 @@
 -- `recovering::levels::level_empty` meets its contract.
 -- Assumes nothing.
-use Prim.Native.Nat.{◌+◌, ◌-◌, ◌^◌}
-use mathlib.Core.Path.{◌≡◌, sym, ◌∙◌}
-use mathlib.Core.List.{map}
+use Prim.Native.Nat.{◌+◌, ◌-◌}
+use mathlib.Core.Path.{sym, ◌∙◌}
 use native.Mathlib.Omega.{arith}
 use borrow.Author.Tests.{eq-eqb, ne_eqb}
-use Rattle.rules.specs.Choice.{all, from}
-use Rattle.rules.specs.Words.{buckets_of}
 use Rattle.rules.proofs.Words.Headers.{sizes, next-bucket-fits}
 use Rattle.rules.proofs.Basics.Walks.{from_next, from_end}
-use Rattle.rules.proofs.Basics.Loops.{tests_from, tests_end, all-next}
+use Rattle.rules.proofs.Basics.Loops.{tests_end, all-next}
 use Rattle.reading.specs.Within.{BucketWithin}
-use Rattle.recovering.specs.Found.{zero_token}
 use Rattle.recovering.proofs.Unused.{zero_test, level-whole}
 use Rattle.recovering.proofs.levels.level_empty.Goals as goal
 use Rattle.recovering.proofs.levels.level_empty.Goals.{In-loop-i}

@@ -1,16 +1,11 @@
 -- `recovering::levels::tokens_tidy` meets its contract.
 -- Assumes nothing.
-use Prim.Native.Nat.{◌-◌}
-use mathlib.Core.Path.{◌≡◌, sym, ◌∙◌}
-use mathlib.Core.List.{map}
+use mathlib.Core.Path.{sym, ◌∙◌}
 use native.Mathlib.Omega.{arith}
 use borrow.Author.Tests.{eq-eqb, ne_eqb}
-use Rattle.rules.specs.Choice.{all, from}
-use Rattle.rules.specs.Words.{all_buckets}
 use Rattle.rules.proofs.Words.Headers.{sizes, all-buckets_fit}
 use Rattle.rules.proofs.Basics.Walks.{from_next, from_end}
-use Rattle.rules.proofs.Basics.Loops.{tests_from, tests_end, all-next}
-use Rattle.recovering.specs.Found.{tidy_token}
+use Rattle.rules.proofs.Basics.Loops.{tests_end, all-next}
 use Rattle.recovering.proofs.Unused.{tidy_test, table-whole}
 use Rattle.recovering.proofs.levels.tokens_tidy.Goals as goal
 

@@ -1,18 +1,11 @@
 -- `recovering::levels::unused_empty` meets its contract.
 -- Assumes nothing.
-use Prim.Native.Nat.{◌+◌, ◌-◌}
-use mathlib.Core.Path.{◌≡◌, sym, ◌∙◌}
-use mathlib.Core.List.{map}
-use mathlib.Core.Logic.{⊎_elim}
+use mathlib.Core.Path.{sym, ◌∙◌}
 use native.Mathlib.Omega.{arith}
-use borrow.Author.Tests.{not-true, not-false}
-use Rattle.rules.specs.Choice.{all, from}
-use Rattle.rules.specs.Words.{unused_buckets}
 use Rattle.rules.proofs.Words.Headers.{header-state, sizes}
 use Rattle.rules.proofs.Basics.Walks.{from_next, from_end}
-use Rattle.rules.proofs.Basics.Loops.{tests_from, tests_end, all-next}
-use Rattle.recovering.specs.Found.{zero_token}
-use Rattle.recovering.proofs.Unused.{level_fine, unused-whole, fine_used, fine_empty}
+use Rattle.rules.proofs.Basics.Loops.{tests_end, all-next}
+use Rattle.recovering.proofs.Unused.{unused-whole, fine_used, fine_empty}
 use Rattle.recovering.proofs.levels.unused_empty.Goals as goal
 use Rattle.recovering.proofs.levels.unused_empty.Goals.{then-not-in_use+else-not-level_empty, else-not-in_use}
 
@@ -47,8 +40,8 @@ loop-e-preserved c =
     c.loop-e.invariant
     ∙ all-next _ _ _ (from_next _ _ _ c.loop-e-test.true)
     (elim c.if-not-in_use.branch [
-      then-not-in_use+else-not-level_empty w ↦
-        fine_empty _ _ _ (e ∙ w.if-not-in_use.true) ∙ sym w.level_empty.ensures ∙ w.if-not-level_empty.false
+      | then-not-in_use+else-not-level_empty w ↦
+          fine_empty _ _ _ (e ∙ w.if-not-in_use.true) ∙ sym w.level_empty.ensures ∙ w.if-not-level_empty.false
       | else-not-in_use w ↦ fine_used _ _ _ (e ∙ w.if-not-in_use.false)
     ])
 

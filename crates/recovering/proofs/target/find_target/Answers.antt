@@ -1,10 +1,7 @@
 -- `recovering::target::find_target` meets its contract.
 -- Assumes nothing.
-use borrow.Enum.Refused.{opened}
 use mathlib.Core.Path.{sym, ap, ◌∙◌}
 use native.Mathlib.Omega.{arith}
-use borrow.Author.Tests.{not-true, not-false}
-use borrow.Author.Rules.{rules}
 use Rattle.rules.specs.Words.{target_of}
 use Rattle.rules.proofs.Words.Headers.{header-state, header-fits}
 use Rattle.recovering.specs.Found.{home_means}

@@ -1,14 +1,10 @@
 -- `recovering::target::home_of` meets its contract: the first level of all that has the bucket is the first from the n-th on.
 -- Assumes nothing.
-use Prim.Native.Nat.{◌-◌}
-use mathlib.Core.Path.{◌≡◌, sym, ◌∙◌}
+use mathlib.Core.Path.{sym, ◌∙◌}
 use native.Mathlib.Omega.{arith}
-use borrow.Author.Rules.{rules}
 use lib.ListN.{drop_of_length-le}
-use Rattle.rules.specs.Words.{levels_in_use}
-use Rattle.rules.proofs.Basics.Along.{along, along_pass, along_hit, along_over}
-use Rattle.recovering.specs.Found.{home_of}
-use Rattle.recovering.proofs.Word6.{tried, levels_all, level_hit, level_pass}
+use Rattle.rules.proofs.Basics.Along.{along_pass, along_hit, along_over}
+use Rattle.recovering.proofs.Word6.{levels_all, level_hit, level_pass}
 use Rattle.recovering.proofs.target.home_of.Goals as goal
 
 pub loop-n-init : goal.loop-n-init

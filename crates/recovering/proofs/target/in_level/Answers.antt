@@ -2,7 +2,6 @@
 -- Assumes nothing.
 use native.Mathlib.Omega.{arith}
 use lib.Pow.{pow_mono}
-use borrow.Author.Rules.{rules}
 use Rattle.recovering.proofs.Word6.{below_level, above-level}
 use Rattle.recovering.proofs.target.in_level.Goals as goal
 

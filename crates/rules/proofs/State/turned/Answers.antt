@@ -1,6 +1,5 @@
 -- `rules::State::turned` meets its contract.
 -- Assumes nothing.
-use borrow.Author.Rules.{rules}
 use Rattle.rules.specs.Stores.{turned_of}
 use Rattle.rules.proofs.Words.States.{state-fits}
 use Rattle.rules.proofs.State.turned.Goals as goal

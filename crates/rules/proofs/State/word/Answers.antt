@@ -1,7 +1,6 @@
 -- `rules::State::word` meets its contract.
 -- Assumes nothing.
 use mathlib.Core.Path.{refl}
-use borrow.Author.Rules.{rules}
 use Rattle.rules.specs.Words.{state_word}
 use Rattle.rules.proofs.State.word.Goals as goal
 

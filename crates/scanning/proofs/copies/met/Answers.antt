@@ -1,6 +1,5 @@
 -- `scanning::copies::met` meets its contract.
 -- Assumes nothing.
-use borrow.Author.Rules.{rules}
 use Rattle.scanning.proofs.copies.met.Goals as goal
 
 pub returns-in-Clear : goal.returns-in-Clear

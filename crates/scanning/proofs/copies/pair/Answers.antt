@@ -1,7 +1,6 @@
 -- `scanning::copies::pair` meets its contract.
 -- Assumes nothing.
 use mathlib.Core.Path.{sym, ◌∙◌}
-use borrow.Author.Rules.{rules}
 use Rattle.scanning.proofs.Meeting.{pair_first, pair_last}
 use Rattle.scanning.proofs.copies.pair.Goals as goal
 

@@ -1,8 +1,6 @@
 -- `scanning::items::copied` meets its contract.
 -- Assumes nothing.
 use mathlib.Core.Path.{sym, ◌∙◌}
-use borrow.Author.Tests.{not-true, not-false}
-use borrow.Author.Rules.{rules}
 use Rattle.scanning.proofs.items.copied.Goals as goal
 
 pub returns-then-not-stands : goal.returns-then-not-stands

@@ -1,7 +1,6 @@
 -- `scanning::items::item` meets its contract.
 -- Assumes nothing.
 use mathlib.Core.Path.{sym, ◌∙◌}
-use borrow.Author.Rules.{rules}
 use Rattle.rules.proofs.Words.Headers.{header-state}
 use Rattle.scanning.proofs.Meeting.{item-absent, item_itself, item_copied}
 use Rattle.scanning.proofs.items.item.Goals as goal

@@ -1,15 +1,10 @@
 -- `scanning::items::scan_bucket` meets its contract.
 -- Assumes nothing.
-use Prim.Native.Nat.{◌-◌}
-use mathlib.Core.Path.{◌≡◌, sym, ◌∙◌}
-use mathlib.Core.List.{foldl}
-use mathlib.Core.Logic.{⊎_elim}
+use mathlib.Core.Path.{sym, ◌∙◌}
 use native.Mathlib.Omega.{arith}
-use borrow.Author.Rules.{rules}
-use Rattle.rules.specs.Words.{slots_in, slot_at, taken}
+use Rattle.rules.specs.Words.{slot_at}
 use Rattle.rules.proofs.Basics.Walks.{slots_next, slots_end}
-use Rattle.rules.proofs.Basics.Loops.{fold_from, fold_whole, fold_next, fold_end}
-use Rattle.scanning.specs.Scans.{slot_met}
+use Rattle.rules.proofs.Basics.Loops.{fold_whole, fold_next, fold_end}
 use Rattle.scanning.proofs.Meeting.{slot-taken, slot-free}
 use Rattle.scanning.proofs.items.scan_bucket.Goals as goal
 use Rattle.scanning.proofs.items.scan_bucket.Goals.{then-is_taken, else-is_taken}
@@ -38,7 +33,7 @@ loop-s-preserved c =
     c.loop-s.invariant
     ∙ fold_next _ _ _ (slots_next _ _ c.loop-s-test.true)
     (elim c.if-is_taken.branch [
-      then-is_taken u ↦ slot-taken _ _ p _ _ w (e ∙ u.if-is_taken.true) ∙ sym (u.all-is ∙ u.item-all.ensures)
+      | then-is_taken u ↦ slot-taken _ _ p _ _ w (e ∙ u.if-is_taken.true) ∙ sym (u.all-is ∙ u.item-all.ensures)
       | else-is_taken u ↦ slot-free _ _ p _ _ w (e ∙ u.if-is_taken.false) ∙ sym u.all-is
     ])
 

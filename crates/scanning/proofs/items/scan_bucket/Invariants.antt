@@ -1,16 +1,11 @@
 -- `scanning::items::scan_bucket` meets its contract.
 -- Assumes nothing.
 use Prim.Native.Nat.{◌-◌}
-use mathlib.Core.Path.{◌≡◌, sym, ◌∙◌}
+use mathlib.Core.Path.{◌≡◌}
 use mathlib.Core.List.{foldl}
-use mathlib.Core.Logic.{⊎_elim}
-use native.Mathlib.Omega.{arith}
-use borrow.Author.Rules.{rules}
-use Rattle.rules.specs.Words.{slots_in, slot_at, taken}
-use Rattle.rules.proofs.Basics.Walks.{slots_next, slots_end}
-use Rattle.rules.proofs.Basics.Loops.{fold_from, fold_whole, fold_next, fold_end}
+use Rattle.rules.specs.Words.{slots_in}
+use Rattle.rules.proofs.Basics.Loops.{fold_from}
 use Rattle.scanning.specs.Scans.{slot_met}
-use Rattle.scanning.proofs.Meeting.{slot-taken, slot-free}
 use Rattle.scanning.proofs.items.scan_bucket.Given as goal
 
 abbrev pub invariant-loop-s : goal.invariant-loop-s

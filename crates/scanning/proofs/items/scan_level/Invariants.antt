@@ -1,17 +1,13 @@
 -- `scanning::items::scan_level` meets its contract.
 -- Assumes nothing.
-use Prim.Native.Nat.{◌+◌, ◌-◌}
-use mathlib.Core.Path.{◌≡◌, refl, sym, ◌∙◌}
+use Prim.Native.Nat.{◌-◌}
+use mathlib.Core.Path.{◌≡◌}
 use mathlib.Core.List.{foldl}
-use native.Mathlib.Omega.{arith}
 use Rattle.rules.specs.Choice.{from}
 use Rattle.rules.specs.Words.{slots_of}
-use Rattle.rules.proofs.Words.Headers.{next-bucket-fits}
-use Rattle.rules.proofs.Basics.Walks.{from_next, from_end}
-use Rattle.rules.proofs.Basics.Loops.{fold_from, fold_next, fold_end}
-use Rattle.reading.specs.Within.{BucketWithin}
+use Rattle.rules.proofs.Basics.Loops.{fold_from}
 use Rattle.scanning.specs.Scans.{slot_met}
-use Rattle.scanning.proofs.Meeting.{level_met, level-whole, bucket_met}
+use Rattle.scanning.proofs.Meeting.{level_met}
 use Rattle.scanning.proofs.items.scan_level.Given as goal
 
 abbrev pub invariant-loop-i : goal.invariant-loop-i

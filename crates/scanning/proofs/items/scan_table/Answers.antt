@@ -1,16 +1,13 @@
 -- `scanning::items::scan_table` meets its contract: the fold over all levels goes on from the n-th.
 -- Assumes nothing.
-use Prim.Native.Nat.{◌-◌}
-use mathlib.Core.Path.{◌≡◌, sym, ◌∙◌}
+use mathlib.Core.Path.{sym, ◌∙◌}
 use native.Mathlib.Omega.{arith}
-use borrow.Author.Rules.{rules}
 use lib.ListN.{drop_of_length-le}
-use Rattle.rules.specs.Words.{levels_in_use, slots_of}
+use Rattle.rules.specs.Words.{levels_in_use}
 use Rattle.rules.proofs.Words.Headers.{header-state}
 use Rattle.rules.proofs.Words.Levels.{exponent-fits}
 use Rattle.rules.proofs.Basics.Walks.{stands_in}
-use Rattle.rules.proofs.Basics.Loops.{fold_from, fold_next, fold_end, within}
-use Rattle.scanning.specs.Scans.{slot_met, scan_of}
+use Rattle.rules.proofs.Basics.Loops.{fold_next, fold_end}
 use Rattle.scanning.proofs.Meeting.{levels_whole}
 use Rattle.scanning.proofs.items.scan_table.Goals as goal
 
@@ -21,12 +18,11 @@ pub nth_level-requires : goal.nth_level-requires
 nth_level-requires c = (header-state _ _ c.requires, rw (← c.level_count-levels.ensures.0) c.loop-n-test.true)
 
 pub scan_level-all-requires : goal.scan_level-all-requires
-scan_level-all-requires c =
-    (
-      c.requires,
-      exponent-fits c.args.h.c c.args.h.state c.requires.state c.nth_level.result
-          (stands_in (levels_in_use c.args.h.state) c.loop-n.n c.nth_level.ensures.0),
-    )
+scan_level-all-requires c = (
+  c.requires,
+  exponent-fits c.args.h.c c.args.h.state c.requires.state c.nth_level.result
+      (stands_in (levels_in_use c.args.h.state) c.loop-n.n c.nth_level.ensures.0),
+)
 
 pub overflow_step-n : goal.overflow_step-n
 overflow_step-n c = omega arith

@@ -1,17 +1,10 @@
 -- `scanning::items::scan_table` meets its contract: the fold over all levels goes on from the n-th.
 -- Assumes nothing.
 use Prim.Native.Nat.{◌-◌}
-use mathlib.Core.Path.{◌≡◌, sym, ◌∙◌}
-use native.Mathlib.Omega.{arith}
-use borrow.Author.Rules.{rules}
-use lib.ListN.{drop_of_length-le}
+use mathlib.Core.Path.{◌≡◌}
 use Rattle.rules.specs.Words.{levels_in_use, slots_of}
-use Rattle.rules.proofs.Words.Headers.{header-state}
-use Rattle.rules.proofs.Words.Levels.{exponent-fits}
-use Rattle.rules.proofs.Basics.Walks.{stands_in}
-use Rattle.rules.proofs.Basics.Loops.{fold_from, fold_next, fold_end, within}
+use Rattle.rules.proofs.Basics.Loops.{fold_from, within}
 use Rattle.scanning.specs.Scans.{slot_met, scan_of}
-use Rattle.scanning.proofs.Meeting.{levels_whole}
 use Rattle.scanning.proofs.items.scan_table.Given as goal
 
 abbrev pub invariant-loop-n : goal.invariant-loop-n

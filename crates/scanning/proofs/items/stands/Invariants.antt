@@ -1,16 +1,13 @@
 -- `scanning::items::stands` meets its contract: the tests of all levels are those from the n-th on.
 -- Assumes nothing.
 use Prim.Native.Nat.{◌-◌}
-use mathlib.Core.Path.{◌≡◌, sym, ◌∙◌}
+use mathlib.Core.Path.{◌≡◌}
 use mathlib.Core.List.{map}
-use native.Mathlib.Omega.{arith}
-use borrow.Author.Rules.{rules}
-use lib.ListN.{drop_of_length-le}
 use Rattle.rules.specs.Choice.{any}
 use Rattle.rules.specs.Words.{levels_in_use, place_of}
 use Rattle.rules.specs.Places.{same_place, probes}
-use Rattle.rules.proofs.Basics.Loops.{tests_from, tests_end, any_next}
-use Rattle.scanning.proofs.Meeting.{at_place, at_any}
+use Rattle.rules.proofs.Basics.Loops.{tests_from}
+use Rattle.scanning.proofs.Meeting.{at_place}
 use Rattle.scanning.proofs.items.stands.Given as goal
 
 abbrev pub invariant-loop-n : goal.invariant-loop-n

@@ -1,6 +1,5 @@
 -- `scanning::items::stands_in` meets its contract.
 -- Assumes nothing.
-use borrow.Author.Rules.{rules}
 use Rattle.scanning.proofs.Meeting.{at_place, at_first, at_second}
 use Rattle.scanning.proofs.items.stands_in.Goals as goal
 

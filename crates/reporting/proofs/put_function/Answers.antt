@@ -1,0 +1,50 @@
+-- `reporting::put_function` meets its contract.
+-- Assumes nothing.
+use Rattle.saying.proofs.Puts.{put-fits, put-lent, put_again}
+use Rattle.reporting.proofs.Putting.{function-put}
+use native.Mathlib.Omega.{arith}
+use borrow.Author.Rules.{rules}
+use Rattle.reporting.proofs.put_function.Goals as goal
+
+pub slice_bounds-text-end : goal.slice_bounds-text-end
+slice_bounds-text-end c = put-fits c.copy_text-n.ensures.0
+
+pub slice_bounds-copy-end : goal.slice_bounds-copy-end
+slice_bounds-copy-end c = put-lent c.copy_text-n.ensures.0
+
+pub copy-requires : goal.copy-requires
+copy-requires c =
+    let at-tell2 = (goal.at.copy-requires c).After-copy_text-arg-5-1 in
+    let at-copy-text2 = at-tell2.before.before in
+    let at-tell = at-copy-text2.before.before.before in
+    let at-copy-text = at-tell.before.before in
+    let start = at-copy-text.before.before.before.before in
+    (
+      omega (arith, put-lent c.copy_text-n.ensures.0),
+      omega (
+        arith,
+        start.requires,
+        c.copy_text-n.ensures.1,
+        at-tell2.tell2.ensures.1,
+        at-copy-text2.copy-text2.ensures.1,
+        at-tell.tell.ensures.1,
+        at-copy-text.copy-text.ensures.1,
+      ),
+    )
+
+pub returns : goal.returns
+returns c =
+    let whole = function-put _ _
+    c.copy_text-named.ensures.0 c.tell-told.ensures.0 c.copy_text-equal.ensures.0
+    c.tell-counted.ensures.0 c.copy_text-n.ensures.0 in (
+      put_again whole c.copy.ensures.0,
+      omega (
+        arith,
+        c.copy.ensures.1,
+        c.copy_text-n.ensures.1,
+        c.tell-counted.ensures.1,
+        c.copy_text-equal.ensures.1,
+        c.tell-told.ensures.1,
+        c.copy_text-named.ensures.1,
+      ),
+    )

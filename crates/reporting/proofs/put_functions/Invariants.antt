@@ -1,0 +1,17 @@
+-- `reporting::put_functions` meets its contract.
+-- Assumes nothing.
+use Rattle.reporting.proofs.Putting.{Lines, lines_none, lines_more, lines-all}
+use borrow.Author.Rules.{rules}
+use lib.ListN.{length}
+use native.Mathlib.Omega.{arith}
+use mathlib.Core.Path.{◌≡◌, refl}
+use Prim.Native.Nat.{◌-◌, ◌≤◌}
+use Rattle.reporting.proofs.put_functions.Given as goal
+
+abbrev pub invariant-loop-i : goal.invariant-loop-i
+invariant-loop-i l =
+    (l.i ≤ l.used) × (length l.out ≡ length l.initial.out)
+    × Lines l.functions l.samples l.start l.initial.out l.i l.at l.out
+
+abbrev pub decreases-loop-i : goal.decreases-loop-i
+decreases-loop-i l = l.used - l.i

@@ -1,0 +1,15 @@
+-- `script::read_some` meets its contract.
+-- Assumes nothing.
+use Rattle.script.proofs.Parts.{read_known, read_failed, read_taken}
+use mathlib.Core.Path.{sym, ◌∙◌}
+use borrow.Author.Rules.{rules}
+use Rattle.script.proofs.read_some.Goals as goal
+
+pub returns-then-known : goal.returns-then-known
+returns-then-known c = read_known _ _ (sym c.known.ensures ∙ c.if-known.true)
+
+pub returns-in_default : goal.returns-in_default
+returns-in_default c = read_failed _ _ (sym c.known.ensures ∙ c.if-known.false)
+
+pub returns : goal.returns
+returns c = read_taken «n.count.result @ In-Ok» _ «n.count.ensures.0.0 @ In-Ok» (sym c.known.ensures ∙ c.if-known.false) c.take_read.ensures

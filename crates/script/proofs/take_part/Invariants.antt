@@ -1,0 +1,19 @@
+-- `script::take_part` meets its contract: the first `taken` bytes of the part are taken.
+-- Assumes nothing.
+use Prim.Native.Nat.{◌-◌, ◌≤◌}
+use mathlib.Core.Path.{◌≡◌, refl, sym, ◌∙◌}
+use native.Mathlib.Omega.{arith}
+use lib.ListN.{length, take, length-drop}
+use lib.Seq.{length-take-le}
+use borrow.Author.Rules.{rules}
+use Rattle.running.specs.Runs.{after_bytes}
+use Rattle.script.proofs.Parts.{true_false, part-begun, rest-lent, part_more, some-taken, part-stopped, part_unwritten}
+use Rattle.script.proofs.take_part.Given as goal
+
+abbrev pub invariant-loop-taken : goal.invariant-loop-taken
+invariant-loop-taken l =
+    (length l.room ≡ length l.initial.room) × (length l.out ≡ length l.initial.out) × (l.taken ≤ length l.part)
+    × (record { l.run = l.run; l.room = l.room; l.line = l.line } ≡ after_bytes (record { l.run = l.initial.run; l.room = l.initial.room; l.line = l.initial.line }) (take l.taken l.part))
+
+abbrev pub decreases-loop-taken : goal.decreases-loop-taken
+decreases-loop-taken l = length l.part - l.taken

@@ -1,0 +1,17 @@
+-- `script::take_some` meets its contract: before byte `taken`, the text of those before it is at the front of the buffer.
+-- Assumes nothing.
+use Prim.Native.Nat.{◌-◌}
+use mathlib.Core.Path.{◌≡◌, refl, sym, ◌∙◌}
+use native.Mathlib.Omega.{arith}
+use lib.ListN.{length}
+use borrow.Author.Rules.{rules}
+use Rattle.script.proofs.Parts.{goes_on_lem, Taking, taking_none, taking_next, took}
+use Rattle.script.proofs.take_some.Given as goal
+
+abbrev pub invariant-loop-taken : goal.invariant-loop-taken
+invariant-loop-taken l =
+    (length l.room ≡ length l.initial.room) × (length l.out ≡ length l.initial.out)
+    × Taking (record { l.run = l.initial.run; l.room = l.initial.room; l.line = l.initial.line }) l.text (record { l.run = l.run; l.room = l.room; l.line = l.line }) l.taken l.waiting l.out
+
+abbrev pub decreases-loop-taken : goal.decreases-loop-taken
+decreases-loop-taken l = length l.text - l.taken
