@@ -14,21 +14,16 @@ slice_bounds-copy-end c = put-lent c.copy_text-n.ensures.0
 
 pub copy-requires : goal.copy-requires
 copy-requires c =
-    let at-tell2 = (goal.at.copy-requires c).After-copy_text-arg-5-1 in
-    let at-copy-text2 = at-tell2.before.before in
-    let at-tell = at-copy-text2.before.before.before in
-    let at-copy-text = at-tell.before.before in
-    let start = at-copy-text.before.before.before.before in
     (
       omega (arith, put-lent c.copy_text-n.ensures.0),
       omega (
         arith,
-        start.requires,
+        c.requires,
         c.copy_text-n.ensures.1,
-        at-tell2.tell2.ensures.1,
-        at-copy-text2.copy-text2.ensures.1,
-        at-tell.tell.ensures.1,
-        at-copy-text.copy-text.ensures.1,
+        c.tell-counted.ensures.1,
+        c.copy_text-equal.ensures.1,
+        c.tell-told.ensures.1,
+        c.copy_text-named.ensures.1,
       ),
     )
 

@@ -18,10 +18,7 @@ pub bounds-samples-i : goal.bounds-samples-i
 bounds-samples-i c = omega (arith, c.requires.1)
 
 pub put_function-at-requires : goal.put_function-at-requires
-put_function-at-requires c =
-    let at-loop = (goal.at.put_function-at-requires c).At-loop-i in
-    let start = at-loop.before.before.before.before in
-    omega (arith, at-loop.loop.invariant.1, at-loop.loop.invariant.2.few, start.requires.2)
+put_function-at-requires c = omega (arith, c.loop-i.invariant.1, c.loop-i.invariant.2.few, c.requires.2)
 
 pub overflow_step-i : goal.overflow_step-i
 overflow_step-i c = omega arith
@@ -31,13 +28,11 @@ loop-i-smaller c = omega arith
 
 pub loop-i-preserved : goal.loop-i-preserved
 loop-i-preserved c =
-    let at-put-function = (goal.at.loop-i-preserved c).After-put_function-at in
-    let start = at-put-function.before.before.before.before.before.before.before.before.before in
-    let l = at-put-function.before.before.before.before.before in let p = start.requires in (
+    let p = c.requires in (
       omega arith,
       search rules,
-      lines_more _ _ _ _ l.loop.i (omega (arith, p.0))
-          (omega (arith, p.1)) l.loop.invariant.2 at-put-function.put_function.ensures.0 at-put-function.put_function.ensures.1,
+      lines_more _ _ _ _ c.loop-i.i (omega (arith, p.0))
+          (omega (arith, p.1)) c.loop-i.invariant.2 c.put_function-at.ensures.0 c.put_function-at.ensures.1,
     )
 
 pub shape_of-out : goal.shape_of-out

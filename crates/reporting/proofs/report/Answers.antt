@@ -15,24 +15,16 @@ returns-in-Samples c = reported _ _ c.in-Samples.is c.put_counts-in-Samples.ensu
 
 pub returns-in-Unmade : goal.returns-in-Unmade
 returns-in-Unmade c =
-    let at-put-line = (goal.at.returns-in-Unmade c).After-put_line in
-    let at-number = at-put-line.before.before in
-    let at_stage = at-number.before.before.before in
-    reported _ _ at_stage.stage.given.1
-    (line-put "made" at-number.number.result (number_of at_stage.stage.given.0.0) at-number.number.ensures at-put-line.put-line.ensures.0)
+    reported _ _ c.in-Unmade.is
+    (line-put "made" c.number.result (number_of c.in-Unmade.refusal) c.number.ensures c.put_line.ensures.0)
 
 pub returns-in-Unrecovered : goal.returns-in-Unrecovered
 returns-in-Unrecovered c =
-    let at-put-line2 = (goal.at.returns-in-Unrecovered c).After-put_line-in-Unrecovered in
-    let at-number2 = at-put-line2.before.before in
-    let at-stage2 = at-number2.before.before.before in
-    reported _ _ at-stage2.stage2.given.1
-    (line-put "answer" at-number2.number2.result (number_of at-stage2.stage2.given.0.0) at-number2.number2.ensures
-    at-put-line2.put-line2.ensures.0)
+    reported _ _ c.in-Unrecovered.is
+    (line-put "answer" c.number-in-Unrecovered.result (number_of c.in-Unrecovered.refusal) c.number-in-Unrecovered.ensures
+    c.put_line-in-Unrecovered.ensures.0)
 
 pub returns-in-Bad : goal.returns-in-Bad
 returns-in-Bad c =
-    let at-put-line3 = (goal.at.returns-in-Bad c).After-put_line-in-Bad in
-    let at-stage3 = at-put-line3.before.before.before.before in
-    reported _ _ at-stage3.stage3.given.1
-    (line-put "bad" at-stage3.stage3.given.0.0 at-stage3.stage3.given.0.0 refl at-put-line3.put-line3.ensures.0)
+    reported _ _ c.in-Bad.is
+    (line-put "bad" c.in-Bad.line c.in-Bad.line refl c.put_line-in-Bad.ensures.0)

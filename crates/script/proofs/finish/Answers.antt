@@ -4,10 +4,12 @@ use mathlib.Core.Path.{sym}
 use lib.Seq.{length-take-le}
 use borrow.Author.Rules.{rules}
 use Rattle.script.proofs.Parts.{end-put}
+use Rattle.std.proofs.Common.{arith}
 use Rattle.script.proofs.finish.Goals as goal
 
 pub slice_bounds-write_all-end-2 : goal.slice_bounds-write_all-end-2
-slice_bounds-write_all-end-2 c = sym (length-take-le _ _ (slice-reshare-prefix-write-all (goal.at.slice_bounds-write_all-end-2 c).After-out-1))
+slice_bounds-write_all-end-2 c =
+    let s = c.say_at-waiting in sym (length-take-le _ _ (omega (arith, s.ensures.room, s.ensures.next, s.auto.out)))
 
 pub returns : goal.returns
 returns c = end-put c.args.run c.end.ensures c.say_at-waiting.ensures

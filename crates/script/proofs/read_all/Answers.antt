@@ -18,7 +18,7 @@ loop-parts-init c = (refl, refl, refl, omega arith, behind-none _ _ c.ready-run.
 pub returns-in_default : goal.returns-in_default
 returns-in_default c =
     ran (room_is_enough 8 _ c.requires.0) c.loop-parts.invariant.4
-    «d.read_Some.ensures @ After-read_some-turn» (not_going _ (opened c.in_default.in_default-own.keys2))
+    c.read_some-turn.ensures (not_going _ (opened c.in_default.in_default-own.keys2))
 
 pub loop-parts-preserved : goal.loop-parts-preserved
 loop-parts-preserved c =
@@ -27,7 +27,7 @@ loop-parts-preserved c =
       search rules,
       search rules,
       omega (arith, c.loop-parts-test.true),
-      behind-next c.loop-parts.invariant.4 «d.read_Some.ensures @ After-read_some-turn» c.in-Going.is,
+      behind-next c.loop-parts.invariant.4 c.read_some-turn.ensures c.in-Going.is,
     )
 
 pub returns : goal.returns

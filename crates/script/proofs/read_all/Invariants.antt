@@ -14,7 +14,7 @@ use Rattle.script.proofs.read_all.Given as goal
 abbrev pub invariant-loop-parts : goal.invariant-loop-parts
 invariant-loop-parts l =
     (length l.room ≡ length l.initial.room) × (length l.input ≡ length l.initial.input) × (length l.out ≡ length l.initial.out) × (l.parts < 2 ^ 64)
-    × Behind after_bytes (begun l.initial.room l.initial.line) l.parts (record { l.run = l.run; l.room = l.room; l.line = l.line })
+    × Behind after_bytes (begun l.initial.room l.initial.line) l.parts (record { run = l.run; room = l.room; line = l.line })
 
 abbrev pub decreases-loop-parts : goal.decreases-loop-parts
 decreases-loop-parts l = 2 ^ 64 - l.parts

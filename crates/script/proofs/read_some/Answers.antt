@@ -12,4 +12,4 @@ pub returns-in_default : goal.returns-in_default
 returns-in_default c = read_failed _ _ (sym c.known.ensures ∙ c.if-known.false)
 
 pub returns : goal.returns
-returns c = read_taken «n.count.result @ In-Ok» _ «n.count.ensures.0.0 @ In-Ok» (sym c.known.ensures ∙ c.if-known.false) c.take_read.ensures
+returns c = read_taken c.in-Ok.n _ c.in-Ok.ensures.bound.0 (sym c.known.ensures ∙ c.if-known.false) c.take_read.ensures

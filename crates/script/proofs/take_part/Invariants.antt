@@ -13,7 +13,7 @@ use Rattle.script.proofs.take_part.Given as goal
 abbrev pub invariant-loop-taken : goal.invariant-loop-taken
 invariant-loop-taken l =
     (length l.room ≡ length l.initial.room) × (length l.out ≡ length l.initial.out) × (l.taken ≤ length l.part)
-    × (record { l.run = l.run; l.room = l.room; l.line = l.line } ≡ after_bytes (record { l.run = l.initial.run; l.room = l.initial.room; l.line = l.initial.line }) (take l.taken l.part))
+    × (record { run = l.run; room = l.room; line = l.line } ≡ after_bytes (record { run = l.initial.run; room = l.initial.room; line = l.initial.line }) (take l.taken l.part))
 
 abbrev pub decreases-loop-taken : goal.decreases-loop-taken
 decreases-loop-taken l = length l.part - l.taken

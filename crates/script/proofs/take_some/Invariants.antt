@@ -11,7 +11,7 @@ use Rattle.script.proofs.take_some.Given as goal
 abbrev pub invariant-loop-taken : goal.invariant-loop-taken
 invariant-loop-taken l =
     (length l.room ≡ length l.initial.room) × (length l.out ≡ length l.initial.out)
-    × Taking (record { l.run = l.initial.run; l.room = l.initial.room; l.line = l.initial.line }) l.text (record { l.run = l.run; l.room = l.room; l.line = l.line }) l.taken l.waiting l.out
+    × Taking (record { run = l.initial.run; room = l.initial.room; line = l.initial.line }) l.text (record { run = l.run; room = l.room; line = l.line }) l.taken l.waiting l.out
 
 abbrev pub decreases-loop-taken : goal.decreases-loop-taken
 decreases-loop-taken l = length l.text - l.taken
