@@ -1,0 +1,30 @@
+-- `convert::read_all` meets its contract.
+-- Assumes nothing.
+use borrow.Enum.Refused.{opened}
+use Prim.Native.Nat.{◌-◌, ◌^◌, ◌<◌}
+use mathlib.Core.Path.{◌≡◌, refl}
+use native.Mathlib.Omega.{arith}
+use lib.ListN.{length}
+use borrow.Author.Rules.{rules}
+use Rattle.replaying.proofs.Enough.{room_is_enough}
+use Rattle.running.specs.Runs.{Behind}
+use Rattle.running.proofs.Inputs.{not_going, behind-none, behind-next, ran, ran_on}
+use Rattle.convert.specs.Parts.{standing, begun, is_known, after_bytes}
+use Rattle.convert.proofs.Parts.{takes}
+use Rattle.convert.proofs.read_all.Goals as goal
+
+pub loop-parts-init : goal.loop-parts-init
+loop-parts-init c = (refl, refl, omega arith, rw c.ready.ensures (behind-none takes is_known _))
+
+pub returns-in_default : goal.returns-in_default
+returns-in_default c =
+    let stops = not_going «at_read.read_Some.result.outcome @ After-read_some-turn» (opened c.in_default.in_default-own.keys2) in
+    (ran takes is_known c.loop-parts.invariant.3 «at_read.read_Some.ensures @ After-read_some-turn» stops, room_is_enough 7 _ (omega (arith, c.requires)))
+
+pub loop-parts-preserved : goal.loop-parts-preserved
+loop-parts-preserved c =
+    let next = behind-next takes is_known c.loop-parts.invariant.3 «at_read.read_Some.ensures @ After-read_some-turn» c.in-Going.is in
+    (search rules, search rules, omega (arith, c.loop-parts-test.true), next)
+
+pub returns : goal.returns
+returns c = (ran_on takes is_known c.loop-parts.invariant.3 (omega (arith, c.loop-parts-test.false, c.loop-parts.invariant.2)), room_is_enough 7 _ (omega (arith, c.requires)))

@@ -1,0 +1,23 @@
+-- `convert::read_some` meets its contract.
+-- Assumes nothing.
+use mathlib.Core.Path.{sym, ◌∙◌}
+use Rattle.running.proofs.Inputs.{read_known, read_failed, read-ended, read_taken}
+use Rattle.convert.specs.Parts.{is_known}
+use Rattle.convert.proofs.Parts.{takes}
+use borrow.Author.Rules.{rules}
+use Rattle.convert.proofs.read_some.Goals as goal
+
+pub returns-then-known : goal.returns-then-known
+returns-then-known c = read_known takes is_known (sym c.known.ensures ∙ c.if-known.true)
+
+pub returns-in_default : goal.returns-in_default
+returns-in_default c = read_failed takes is_known (sym c.known.ensures ∙ c.if-known.false)
+
+pub returns-then-n-eq0 : goal.returns-then-n-eq0
+returns-then-n-eq0 c = read-ended takes is_known (sym c.known.ensures ∙ c.if-known.false)
+
+pub returns : goal.returns
+returns c =
+    let n = «at_count.count @ In-Ok-2» in
+    read_taken takes is_known (sym c.known.ensures ∙ c.if-known.false) n.result «at_some.if3.false @ In-Ok» n.ensures.0.0
+    c.take_part-next.ensures

@@ -1,0 +1,25 @@
+-- `ledger::read_some` meets its contract.
+-- Assumes nothing.
+use Rattle.running.proofs.Inputs.{read_known, read_failed, read-ended, read_taken}
+use Rattle.ledger.specs.Parts.{known_in}
+use Rattle.ledger.proofs.Parts.{takes}
+use mathlib.Core.Path.{sym, ◌∙◌}
+use borrow.Author.Rules.{rules}
+use Rattle.ledger.proofs.read_some.Goals as goal
+
+pub returns-then-known : goal.returns-then-known
+returns-then-known c = (read_known takes known_in (sym c.known.ensures ∙ c.if-known.true), c.requires)
+
+pub returns-in_default : goal.returns-in_default
+returns-in_default c = (read_failed takes known_in (sym c.known.ensures ∙ c.if-known.false), c.requires)
+
+pub returns-then-n-eq0 : goal.returns-then-n-eq0
+returns-then-n-eq0 c = (read-ended takes known_in (sym c.known.ensures ∙ c.if-known.false), c.requires)
+
+pub returns : goal.returns
+returns c =
+    let d = c.take_part-next.ensures in (
+      read_taken takes known_in (sym c.known.ensures ∙ c.if-known.false)
+          «at_count.count.result @ In-Ok-2» «at-if3.if3.false @ In-Ok» «at_count.count.ensures.0.0 @ In-Ok-2» d.post,
+      d.orderly,
+    )
