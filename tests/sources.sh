@@ -26,11 +26,15 @@ sum_of_sources() {
 }
 
 note_built() { # NAME SUM-OF-SOURCES
-    echo "$2 $(cksum <"$(built_program "$1")")" >"$kept/built-$1"
+    echo "$2 $(sum_of_program "$1")" >"$kept/built-$1"
+}
+
+sum_of_program() { # NAME
+    cksum <"$here/crates/$1/out/$1"
 }
 
 is_fresh() { # NAME
-    [ -x "$(built_program "$1")" ] && [ -f "$kept/built-$1" ] && [ "$(cat "$kept/built-$1")" = "$(sum_of_sources) $(cksum <"$(built_program "$1")")" ]
+    [ -x "$here/crates/$1/out/$1" ] && [ -f "$kept/built-$1" ] && [ "$(cat "$kept/built-$1")" = "$(sum_of_sources) $(sum_of_program "$1")" ]
 }
 
 # proves and builds a program where it is not fresh, which takes minutes. It answers the input of its crate, which is not looked at here
