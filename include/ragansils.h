@@ -1,7 +1,7 @@
 /*
  * Ragansils: a position table in lent 64-bit words. Code address and inlining depth lead to a function and a place.
  *
- * The seventeen functions of the static library `collector` (`rt staticlib collector` writes target/staticlib/libcollector.a), for C99
+ * The seventeen functions of the static library `collector` (`rt lib` in crates/collector writes out/libcollector.a there), for C99
  * and C++ on x86-64. Each is proved to end, to stay within its buffers and to answer as below on every input, however damaged the words
  * that it is lent; what each leaves in every buffer is part of that proof. On a sound table query, chain, insert, update and delete
  * answer as a plain map does, growing and shrinking keep the map, and a converted table has the same one. Two sound tables that are asked as

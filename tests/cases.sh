@@ -103,7 +103,7 @@ try_failures() { # FILE
     run_within "$limit" "$program" <"$1" >/dev/full 2>"$work/said"
     told 'a full device'
     # another program may not see it: Rust opens what is closed
-    case $program in target/bin/*) ;; *) return ;; esac
+    case $program in crates/*/out/*) ;; *) return ;; esac
     run_within "$limit" "$program" <"$1" >&- 2>"$work/said"
     told 'no standard output'
 }

@@ -9,6 +9,7 @@ fail() {
 
 here=$PWD
 . tests/processor.sh
+. tests/sources.sh
 
 # looks for a header of C or C++, and installs it
 need_header() { # HEADER PACKAGES WHAT-IT-IS-FOR
@@ -34,16 +35,22 @@ refusal_numbers() {
     sed -n 's/^ *Refusal::\([A-Za-z]*\) => \([0-9]*\),$/\1 \2/p' crates/numbering/src/lib.rt
 }
 
+library=crates/collector/out/libcollector.a
+
 # finds what runs a program that is linked with the library; proves and builds the library where it is missing or older than its
 # sources, which takes minutes; and lets cargo find it and keep its files in target/
 proved_library() {
     need_runner
-    library=target/staticlib/libcollector.a
-    if [ ! -f "$library" ] || [ -n "$(find crates crates.txt -newer "$library" -type f | head -n 1)" ]; then
-        quietly rt staticlib collector
+    if [ ! -f "$library" ] || [ -n "$(find crates crates.txt -path 'crates/*/out' -prune -o -newer "$library" -type f -print | head -n 1)" ]; then
+        quietly build_library .
     fi
-    export CARGO_TARGET_DIR="$PWD/target/cargo" RAGANSILS_LIB="$PWD/target/staticlib"
+    export CARGO_TARGET_DIR="$PWD/target/cargo" RAGANSILS_LIB="$PWD/crates/collector/out"
 }
+
+# proves and builds the library of a folder with such a repository, or of a part of one
+build_library() ( # FOLDER
+    cd "$1/crates/collector" && rt lib
+)
 
 # where cargo puts a program; it keeps those for another processor apart
 cargo_program() { # NAME [PROFILE]

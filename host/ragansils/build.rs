@@ -1,4 +1,4 @@
-//! Links the proved static library: libcollector.a, from where `rt staticlib collector` writes it
+//! Links the proved static library: libcollector.a, from where `rt lib` in crates/collector writes it
 //! or from the folder that RAGANSILS_LIB names.
 
 use std::path::{Path, PathBuf};
@@ -15,7 +15,7 @@ fn main() {
         .ancestors()
         .nth(2)
         .expect("this crate stands in host/ragansils");
-    let folder = std::env::var_os("RAGANSILS_LIB").map_or(top.join("target/staticlib"), PathBuf::from);
+    let folder = std::env::var_os("RAGANSILS_LIB").map_or(top.join("crates/collector/out"), PathBuf::from);
     let library = folder.join("libcollector.a");
     // A relative path would be looked up from this crate's folder, which is seldom meant.
     if !library.is_absolute() {
@@ -35,7 +35,7 @@ fn main() {
 
 fn missing(library: &Path) -> String {
     format!(
-        "the proved library is missing. There is no {}. Run 'rt staticlib collector' in the top folder of Ragansils, which proves and \
+        "the proved library is missing. There is no {}. Run 'rt lib' in crates/collector of Ragansils, which proves and \
          writes it in some minutes; or let RAGANSILS_LIB name the folder of a libcollector.a",
         library.display()
     )
