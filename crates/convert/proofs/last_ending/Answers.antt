@@ -11,4 +11,4 @@ pub returns-in_default : goal.returns-in_default
 returns-in_default c = still_ended _ (opened c.in_default.in_default-own.keys2) _
 
 pub returns : goal.returns
-returns c = rw c.in-Open.is («c.Ended-by.ensures @ After-ended_by» ∙ ap ended_by c.end.ensures)
+returns c = rw c.in-Open.is (c.ended_by.ensures ∙ ap ended_by c.end.ensures)

@@ -11,5 +11,5 @@ returns-in_default c = put_front (rw (way_alone c.convert-there.ensures (opened 
 
 pub returns : goal.returns
 returns c =
-    let both = ways_both c.convert-there.ensures c.enum_told-1.given.1 in
+    let both = ways_both c.convert-there.ensures c.in-Converted.is in
     put_front (rw both (then c.put_way-next.ensures.0 c.put_back.ensures))

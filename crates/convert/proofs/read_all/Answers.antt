@@ -18,12 +18,12 @@ loop-parts-init c = (refl, refl, omega arith, rw c.ready.ensures (behind-none ta
 
 pub returns-in_default : goal.returns-in_default
 returns-in_default c =
-    let stops = not_going «at_read.read_Some.result.outcome @ After-read_some-turn» (opened c.in_default.in_default-own.keys2) in
-    (ran takes is_known c.loop-parts.invariant.3 «at_read.read_Some.ensures @ After-read_some-turn» stops, room_is_enough 7 _ (omega (arith, c.requires)))
+    let stops = not_going c.read_some-turn.result.outcome (opened c.in_default.in_default-own.keys2) in
+    (ran takes is_known c.loop-parts.invariant.3 c.read_some-turn.ensures stops, room_is_enough 7 _ (omega (arith, c.requires)))
 
 pub loop-parts-preserved : goal.loop-parts-preserved
 loop-parts-preserved c =
-    let next = behind-next takes is_known c.loop-parts.invariant.3 «at_read.read_Some.ensures @ After-read_some-turn» c.in-Going.is in
+    let next = behind-next takes is_known c.loop-parts.invariant.3 c.read_some-turn.ensures c.in-Going.is in
     (search rules, search rules, omega (arith, c.loop-parts-test.true), next)
 
 pub returns : goal.returns

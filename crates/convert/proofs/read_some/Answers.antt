@@ -18,6 +18,5 @@ returns-then-n-eq0 c = read-ended takes is_known (sym c.known.ensures ∙ c.if-k
 
 pub returns : goal.returns
 returns c =
-    let n = «at_count.count @ In-Ok-2» in
-    read_taken takes is_known (sym c.known.ensures ∙ c.if-known.false) n.result «at_some.if3.false @ In-Ok» n.ensures.0.0
+    read_taken takes is_known (sym c.known.ensures ∙ c.if-known.false) c.in-Ok.n c.if-n-eq0.false c.in-Ok.ensures.bound.0
     c.take_part-next.ensures

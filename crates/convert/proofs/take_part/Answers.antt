@@ -18,7 +18,7 @@ returns-then-known c = passed_known c.loop-i.invariant.2 (sym c.known.ensures �
 pub loop-i-preserved : goal.loop-i-preserved
 loop-i-preserved c =
     let goes = sym c.known.ensures ∙ c.if-known.false in
-    (refl, search rules, passed_more c.loop-i.invariant.2 (omega arith) goes c.take_byte-taken.ensures «c.Ended-by.ensures @ After-ended_by»)
+    (refl, search rules, passed_more c.loop-i.invariant.2 (omega arith) goes c.take_byte-taken.ensures c.ended_by.ensures)
 
 pub returns : goal.returns
 returns c = passed_all c.loop-i.invariant.2 (omega (arith, c.loop-i-test.false, c.loop-i.invariant.0))

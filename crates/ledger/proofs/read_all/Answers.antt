@@ -34,8 +34,8 @@ read_some-turn-requires c = c.loop-parts.invariant.5
 pub returns-in_default : goal.returns-in_default
 returns-in_default c =
     (
-      ran takes known_in c.loop-parts.invariant.6 «d.read_Some.ensures.0 @ After-read_some-turn» (not_going «d.read_Some.result.outcome @ After-read_some-turn» (opened c.in_default.in_default-own.keys2)),
-      «d.read_Some.ensures.1 @ After-read_some-turn»,
+      ran takes known_in c.loop-parts.invariant.6 c.read_some-turn.ensures.0 (not_going c.read_some-turn.result.outcome (opened c.in_default.in_default-own.keys2)),
+      c.read_some-turn.ensures.1,
       room_is_enough 8 _ c.requires.0,
     )
 
@@ -50,8 +50,8 @@ loop-parts-preserved c =
     arith,
     c.loop-parts-test.true,
   ),
-  «c.before.before.before.before.before.before.before.before.before.before.before.read_Some.ensures.1 @ After-read_some-turn»,
-  behind-next takes known_in c.loop-parts.invariant.6 «at-read-some.read_Some.ensures.0 @ After-read_some-turn» c.in-Going.is,
+  c.read_some-turn.ensures.1,
+  behind-next takes known_in c.loop-parts.invariant.6 c.read_some-turn.ensures.0 c.in-Going.is,
 )
 
 pub returns : goal.returns

@@ -20,6 +20,6 @@ pub returns : goal.returns
 returns c =
     let d = c.take_part-next.ensures in (
       read_taken takes known_in (sym c.known.ensures ∙ c.if-known.false)
-          «at_count.count.result @ In-Ok-2» «at-if3.if3.false @ In-Ok» «at_count.count.ensures.0.0 @ In-Ok-2» d.post,
+          c.in-Ok.n c.if-n-eq0.false c.in-Ok.ensures.bound.0 d.post,
       d.orderly,
     )
