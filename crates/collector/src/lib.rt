@@ -4,10 +4,10 @@
 
 ghost use Rattle.std.specs.Prelude.{◌≡◌, [], ◌∷◌};
 ghost use Rattle.rules.specs.Answers.{change_means};
-ghost use Rattle.rules.specs.Calls.{insert as insertCall, update as updateCall, delete as deleteCall, begin as beginCall};
-ghost use Rattle.rules.specs.Calls.{shrink as shrinkCall, back as backCall};
-ghost use Rattle.rules.specs.Calls.{end as endCall, recover as recoverCall};
-ghost use Rattle.rules.specs.Calls.{step as stepCall};
+ghost use Rattle.rules.specs.Calls.{insert as insert_call, update as update_call, delete as delete_call, begin as begin_call};
+ghost use Rattle.rules.specs.Calls.{shrink as shrink_call, back as back_call};
+ghost use Rattle.rules.specs.Calls.{end as end_call, recover as recover_call};
+ghost use Rattle.rules.specs.Calls.{step as step_call};
 ghost use Rattle.querying.specs.Promises.{QueriedBy};
 ghost use Rattle.chaining.specs.Promises.{ChainedBy};
 ghost use Rattle.making.specs.Promises.{CreatedBy, MadeBy};
@@ -108,7 +108,7 @@ pub extern "C" fn ragansils_insert(
     list: &mut [u64],
     stores: &mut u64,
 ) -> u64
-    ensures { Reported (insertCall key (record { function = function; place = place })) table.now list.old result
+    ensures { Reported (insert_call key (record { function = function; place = place })) table.now list.old result
         stores.new table.now list.new }
 {
     report(insert(table, list, key, Record { function, place }), stores)
@@ -123,7 +123,7 @@ pub extern "C" fn ragansils_update(
     list: &mut [u64],
     stores: &mut u64,
 ) -> u64
-    ensures { Reported (updateCall key (record { function = function; place = place })) table.now list.old result
+    ensures { Reported (update_call key (record { function = function; place = place })) table.now list.old result
         stores.new table.now list.new }
 {
     report(update(table, list, key, Record { function, place }), stores)
@@ -136,28 +136,28 @@ pub extern "C" fn ragansils_delete(
     list: &mut [u64],
     stores: &mut u64,
 ) -> u64
-    ensures { Reported (deleteCall key) table.now list.old result stores.new table.now list.new }
+    ensures { Reported (delete_call key) table.now list.old result stores.new table.now list.new }
 {
     report(delete(table, list, key), stores)
 }
 
 #[unsafe(no_mangle)]
 pub extern "C" fn ragansils_begin(table: &[u64], list: &mut [u64], stores: &mut u64) -> u64
-    ensures { Reported beginCall table.now list.old result stores.new table.now list.new }
+    ensures { Reported begin_call table.now list.old result stores.new table.now list.new }
 {
     report(begin(table, list), stores)
 }
 
 #[unsafe(no_mangle)]
 pub extern "C" fn ragansils_shrink(table: &[u64], list: &mut [u64], stores: &mut u64) -> u64
-    ensures { Reported shrinkCall table.now list.old result stores.new table.now list.new }
+    ensures { Reported shrink_call table.now list.old result stores.new table.now list.new }
 {
     report(shrink(table, list), stores)
 }
 
 #[unsafe(no_mangle)]
 pub extern "C" fn ragansils_back(table: &[u64], list: &mut [u64], stores: &mut u64) -> u64
-    ensures { Reported backCall table.now list.old result stores.new table.now list.new }
+    ensures { Reported back_call table.now list.old result stores.new table.now list.new }
 {
     report(back(table, list), stores)
 }
@@ -184,7 +184,7 @@ fn report_step(table: &[u64], list: &mut [u64], from: u64, answer: &mut [u64; 2]
 
 #[unsafe(no_mangle)]
 pub extern "C" fn ragansils_step(table: &[u64], list: &mut [u64], stores: &mut u64) -> u64
-    ensures { Reported stepCall table.now list.old result stores.new table.now list.new }
+    ensures { Reported step_call table.now list.old result stores.new table.now list.new }
 {
     let mut answer: [u64; 2] = [0, 0];
     let told = report_step(table, list, 0, &mut answer);
@@ -206,14 +206,14 @@ pub extern "C" fn ragansils_step_from(
 
 #[unsafe(no_mangle)]
 pub extern "C" fn ragansils_end(table: &[u64], list: &mut [u64], stores: &mut u64) -> u64
-    ensures { Reported endCall table.now list.old result stores.new table.now list.new }
+    ensures { Reported end_call table.now list.old result stores.new table.now list.new }
 {
     report(end(table, list), stores)
 }
 
 #[unsafe(no_mangle)]
 pub extern "C" fn ragansils_recover(table: &[u64], list: &mut [u64], stores: &mut u64) -> u64
-    ensures { Reported recoverCall table.now list.old result stores.new table.now list.new }
+    ensures { Reported recover_call table.now list.old result stores.new table.now list.new }
 {
     report(recover(table, list), stores)
 }

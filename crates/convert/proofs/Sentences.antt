@@ -28,7 +28,7 @@ use Rattle.rules.specs.declared.Conversion.{Conversion}
 use Rattle.rules.specs.declared.Conversion.TheVariants.{Converted, Stuck, Rejected}
 use Rattle.rules.proofs.Calls.Conversions.{old_words_play_no_part, convert_keeps_the_map}
 use Rattle.lines.specs.Lines.{line_of, name_text, bytes}
-use Rattle.lines.specs.Texts.{digits_in, decimal_text, line_text as scriptText}
+use Rattle.lines.specs.Texts.{digits_in, decimal_text, line_text as script_text}
 use Rattle.lines.specs.declared.Line.{Line}
 use Rattle.lines.specs.declared.Line.TheVariants.{Number}
 use Rattle.lines.specs.declared.Name.{Name}
@@ -38,13 +38,13 @@ use Rattle.following.specs.Scripts.{reading_of, ending_of}
 use Rattle.following.specs.declared.Ending.{Ending}
 use Rattle.following.specs.declared.Ending.TheVariants.{Whole, Bad as Torn, Over}
 use Rattle.following.specs.declared.Cut.{Cut}
-use Rattle.following.specs.declared.Cut.TheVariants.{None as noCut, After as cutAfter}
-use Rattle.following.specs.declared.Due.TheVariants.{Number as a_number, Event as anEvent}
+use Rattle.following.specs.declared.Cut.TheVariants.{None as no_cut, After as cut_after}
+use Rattle.following.specs.declared.Due.TheVariants.{Number as a_number, Event as an_event}
 use Rattle.following.specs.declared.Script.{Script}
 use Rattle.following.specs.declared.Asked.{Asked}
-use Rattle.following.specs.declared.Asked.TheVariants.{Nothing as askNothing, Table as askTable, Event as askEvent, Bad as askEnd}
+use Rattle.following.specs.declared.Asked.TheVariants.{Nothing as ask_nothing, Table as ask_table, Event as ask_event, Bad as ask_end}
 use Rattle.replaying.specs.Events.{lent, call_of, queried, either, change_answer, answer_to}
-use Rattle.replaying.specs.Replays.{begun, Turned, created as createdTurn, too_large, table_of, asked_of, turn_of, finished, finish_of}
+use Rattle.replaying.specs.Replays.{begun, Turned, created as created_turn, too_large, table_of, asked_of, turn_of, finished, finish_of}
 use Rattle.replaying.specs.Sentences.{GoesOn}
 use Rattle.replaying.specs.declared.Answer.{Answer}
 use Rattle.replaying.specs.declared.Answer.TheVariants.{Nothing, Created, Changed, Kept, Found, Events, Bad}
@@ -124,7 +124,7 @@ only_13 false t u e k = cc
 
 module _ (room : List ℕ) (p : Replay) (next : Script) (e : Refusal) where
   made_13 : (c : ℕ) (v : Verdict) (t : Table) → (v ≡ Denied e → e ≡ BadCreation)
-      → (createdTurn p next room c (v, t)).answer ≡ Created (Denied e) → e ≡ BadCreation
+      → (created_turn p next room c (v, t)).answer ≡ Created (Denied e) → e ≡ BadCreation
   made_13 c Done t f k = cc
   made_13 c (Denied d) t f k = f cc
 
@@ -135,20 +135,20 @@ module _ (room : List ℕ) (p : Replay) (next : Script) (e : Refusal) where
       go : (o : Option ℕ) (c : Cut) → either o (λ key. Found (query_result t key)) (change_answer c (change_result t lent (call_of q)).0)
           ≡ Created (Denied e) → e ≡ BadCreation
       go (some key) c k = cc
-      go absent noCut k = cc
-      go absent (cutAfter n at) k = cc
+      go absent no_cut k = cc
+      go absent (cut_after n at) k = cc
 
   asked_13 : (a : Asked) → (asked_of room p next a).answer ≡ Created (Denied e) → e ≡ BadCreation
   unfolding create_result
-  asked_13 askNothing k = cc
-  asked_13 (askEnd n) k = cc
-  asked_13 (askEvent q under) k = event_13 q under (table_of p room) k
-  asked_13 (askTable c k mul1 mul2) a = go (leb c 8) a
+  asked_13 ask_nothing k = cc
+  asked_13 (ask_end n) k = cc
+  asked_13 (ask_event q under) k = event_13 q under (table_of p room) k
+  asked_13 (ask_table c k mul1 mul2) a = go (leb c 8) a
     where
       fit : Table
       fit = take (words_for c) room
 
-      go : (small : Bool) → (cond small (createdTurn p next room c (create_result fit 1 c k mul1 mul2)) (too_large p next room)).answer
+      go : (small : Bool) → (cond small (created_turn p next room c (create_result fit 1 c k mul1 mul2)) (too_large p next room)).answer
           ≡ Created (Denied e) → e ≡ BadCreation
       go true k = made_13 c _ _ (only_13 (all (create_tests (length fit) 1 c _ mul1 mul2)) fit _ e) k
       go false k = cc
@@ -236,7 +236,7 @@ plain_text (x ∷ xs) e = go (eqb x 10) refl e (plain_text xs)
     go true k e f = absurd (true_false e)
     go false k e f = (eqb-false x 10 k, f e)
 
-number_plain : (name : Name) (v : ℕ) → newlines (bytes (name_text name)) ≡ false → NoNewline (scriptText (Number name v))
+number_plain : (name : Name) (v : ℕ) → newlines (bytes (name_text name)) ≡ false → NoNewline (script_text (Number name v))
 unfolding decimal_text
 number_plain name v e = plain_append (bytes (name_text name)) (digits_in (suc v) v) (plain_text (bytes (name_text name)) e) (digits_plain (suc v) v)
 
@@ -249,16 +249,16 @@ module _ (room : List ℕ) (c k mul1 mul2 : ℕ) where
   before : Replay
   before =
       record {
-        script = record { due = a_number Mul2; event = Begin; first = c; second = k; third = mul1; cut = noCut; lines = 3 };
+        script = record { due = a_number Mul2; event = Begin; first = c; second = k; third = mul1; cut = no_cut; lines = 3 };
         words = 0;
         events = 0;
       }
 
   behind : Script
-  behind = record { due = anEvent; event = Begin; first = 0; second = 0; third = 0; cut = noCut; lines = 4 }
+  behind = record { due = an_event; event = Begin; first = 0; second = 0; third = 0; cut = no_cut; lines = 4 }
 
   table : Turned
-  table = asked_of room before behind (askTable c k mul1 mul2)
+  table = asked_of room before behind (ask_table c k mul1 mul2)
 
   header-told : Numbers c k mul1 mul2 → (later : List ℕ)
       → report_to room (with_ends (header_lines c k mul1 mul2) later)
@@ -288,7 +288,7 @@ module _ (room : List ℕ) (c k mul1 mul2 : ℕ) where
 
       turn : Bool → Bool → Turned
       turn small good =
-          cond small (createdTurn before behind room c (cond good (Done, created 1 c k mul1 mul2) (Denied BadCreation, fit))) (too_large before behind room)
+          cond small (created_turn before behind room c (cond good (Done, created 1 c k mul1 mul2) (Denied BadCreation, fit))) (too_large before behind room)
 
       go : (small good : Bool) → (turn small good).answer ≡ Created Done
           → with_answer (turn small good).answer (told (turn small good).room (turn small good).replay [] false)

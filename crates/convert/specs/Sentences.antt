@@ -11,7 +11,7 @@ use Rattle.rules.specs.declared.Refusal.{Refusal}
 use Rattle.rules.specs.declared.Verdict.TheVariants.{Denied}
 use Rattle.rules.specs.declared.Conversion.TheVariants.{Converted}
 use Rattle.lines.specs.Lines.{line_of}
-use Rattle.lines.specs.Texts.{line_text as scriptText}
+use Rattle.lines.specs.Texts.{line_text as script_text}
 use Rattle.lines.specs.declared.Line.TheVariants.{Number}
 use Rattle.lines.specs.declared.Name.TheVariants.{Cap, Top, Mul1, Mul2}
 use Rattle.replaying.specs.Replays.{begun, table_of, turn_of, finish_of}
@@ -70,7 +70,7 @@ NothingElseTold = (room input : List ℕ) → ((n : ℕ) × (output_to room inpu
 -- the four lines of a header
 abbrev pub header_lines : ℕ → ℕ → ℕ → ℕ → List (List ℕ)
 header_lines c k mul1 mul2 =
-    scriptText (Number Cap c) ∷ scriptText (Number Top k) ∷ scriptText (Number Mul1 mul1) ∷ scriptText (Number Mul2 mul2) ∷ []
+    script_text (Number Cap c) ∷ script_text (Number Top k) ∷ script_text (Number Mul1 mul1) ∷ script_text (Number Mul2 mul2) ∷ []
 
 -- its numbers are good ones
 abbrev pub Numbers : ℕ → ℕ → ℕ → ℕ → Type 0

@@ -15,12 +15,12 @@ use Rattle.lines.specs.declared.Line.TheVariants.{Number, Event, Cut, Bad as Bad
 use Rattle.following.specs.Scripts.{next_line, waits, asks, stops_at, numbers_in, number_read, name_number, event_begun}
 use Rattle.following.specs.Scripts.{may_be_cut, event_read, cut_read, no_event_line, expected, reading_of}
 use Rattle.following.specs.declared.Due.{Due}
-use Rattle.following.specs.declared.Due.TheVariants.{Number as a_number, Event as anEvent, Nothing as no_more}
+use Rattle.following.specs.declared.Due.TheVariants.{Number as a_number, Event as an_event, Nothing as no_more}
 use Rattle.following.specs.declared.Cut.{Cut as CutLine}
-use Rattle.following.specs.declared.Cut.TheVariants.{None as noCut, After as cutAfter}
+use Rattle.following.specs.declared.Cut.TheVariants.{None as no_cut, After as cut_after}
 use Rattle.following.specs.declared.Script.{Script}
 use Rattle.following.specs.declared.Asked.{Asked}
-use Rattle.following.specs.declared.Asked.TheVariants.{Nothing as askNothing, Table as askTable, Event as askEvent, Bad as askEnd}
+use Rattle.following.specs.declared.Asked.TheVariants.{Nothing as ask_nothing, Table as ask_table, Event as ask_event, Bad as ask_end}
 use Rattle.following.specs.declared.Reading.{Reading}
 use Rattle.replaying.specs.Replays.{created, too_large, asked_of, turn_of}
 use Rattle.replaying.specs.Sentences.{GoesOn}
@@ -31,12 +31,12 @@ use Rattle.crediting.specs.Sentences.{Read, nothing, line, LinesCounted}
 
 pub record Counts (s : Script) (r : Reading) : Type 0 where
   pub lines : r.script.lines ≡ next_line s
-  pub over : r.script.due ≡ no_more → (n : ℕ) × (r.asked ≡ askEnd n)
+  pub over : r.script.due ≡ no_more → (n : ℕ) × (r.asked ≡ ask_end n)
 
 numbers_due : {A : Type 0} {name : Name} → a_number name ≡ no_more → A
 numbers_due e = let z : ◌≡◌ {A = ℕ} 0 1 = cc in absurd (omega arith)
 
-events_due : {A : Type 0} → anEvent ≡ no_more → A
+events_due : {A : Type 0} → an_event ≡ no_more → A
 events_due e = let z : ◌≡◌ {A = ℕ} 0 1 = cc in absurd (omega arith)
 
 module _ (s : Script) where
@@ -67,22 +67,22 @@ module _ (s : Script) where
   begun-counts q = by (eqb (numbers_in q) 0) (asking _) (record { lines = refl; over = λ e. numbers_due e })
 
   event_counts : (c : CutLine) (q : ScriptCall) → Counts s (event_read s c q)
-  event_counts noCut q = begun-counts q
-  event_counts (cutAfter n l) q = by (may_be_cut q) (begun-counts q) (stopping l)
+  event_counts no_cut q = begun-counts q
+  event_counts (cut_after n l) q = by (may_be_cut q) (begun-counts q) (stopping l)
 
   cut-counts : (c : CutLine) → Counts s (cut_read s c)
-  cut-counts noCut = waiting After 0 0 0
-  cut-counts (cutAfter n l) = stopping l
+  cut-counts no_cut = waiting After 0 0 0
+  cut-counts (cut_after n l) = stopping l
 
   expected-counts : (d : Due) → (d ≡ no_more → ⊥) → (l : Line) → Counts s (expected s d l)
   expected-counts (a_number due) k (Number n v) = by (eqb (name_number due) (name_number n)) (number_counts due v) (stopping (next_line s))
   expected-counts (a_number due) k (Event q) = stopping (next_line s)
   expected-counts (a_number due) k Cut = stopping (next_line s)
   expected-counts (a_number due) k BadLine = stopping (next_line s)
-  expected-counts anEvent k (Number n v) = stopping (no_event_line s s.cut)
-  expected-counts anEvent k (Event q) = event_counts s.cut q
-  expected-counts anEvent k Cut = cut-counts s.cut
-  expected-counts anEvent k BadLine = stopping (no_event_line s s.cut)
+  expected-counts an_event k (Number n v) = stopping (no_event_line s s.cut)
+  expected-counts an_event k (Event q) = event_counts s.cut q
+  expected-counts an_event k Cut = cut-counts s.cut
+  expected-counts an_event k BadLine = stopping (no_event_line s s.cut)
   expected-counts no_more k l = absurd (k refl)
 
   reading_counts : (s.due ≡ no_more → ⊥) → (l : Line) → Counts s (reading_of s l)
@@ -102,13 +102,13 @@ module _ (room : List ℕ) (p : Replay) (next : Script) where
   table_goes false c r g = absurd (g.made BadCreation refl)
 
   script_goes : (a : Asked) → GoesOn (asked_of room p next a).answer → (asked_of room p next a).replay.script ≡ next
-  script_goes askNothing g = refl
-  script_goes (askEnd n) g = absurd (g.good n refl)
-  script_goes (askTable c k mul1 mul2) g = table_goes (leb c 8) c (create_result (take (words_for c) room) 1 c k mul1 mul2) g
-  script_goes (askEvent q under) g = refl
+  script_goes ask_nothing g = refl
+  script_goes (ask_end n) g = absurd (g.good n refl)
+  script_goes (ask_table c k mul1 mul2) g = table_goes (leb c 8) c (create_result (take (words_for c) room) 1 c k mul1 mul2) g
+  script_goes (ask_event q under) g = refl
 
-  never-over : (a : Asked) → GoesOn (asked_of room p next a).answer → (n : ℕ) → a ≡ askEnd n → ⊥
-  never-over a g n e = let h : GoesOn (asked_of room p next (askEnd n)).answer = rw e at g in h.good n refl
+  never-over : (a : Asked) → GoesOn (asked_of room p next a).answer → (n : ℕ) → a ≡ ask_end n → ⊥
+  never-over a g n e = let h : GoesOn (asked_of room p next (ask_end n)).answer = rw e at g in h.good n refl
 
 module _ (room : List ℕ) (p : Replay) (l : List ℕ) (unended : p.script.due ≡ no_more → ⊥) (g : GoesOn (turn_of room p (line_of l)).answer) where
   r : Reading

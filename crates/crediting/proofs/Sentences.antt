@@ -33,9 +33,9 @@ use Rattle.lines.proofs.Samples.{sample_texts_say}
 use Rattle.following.specs.Scripts.{ending_of}
 use Rattle.following.specs.Sentences.{EventDue}
 use Rattle.following.specs.declared.Due.{Due}
-use Rattle.following.specs.declared.Due.TheVariants.{Number as a_number, Event as anEvent, Nothing as no_more}
+use Rattle.following.specs.declared.Due.TheVariants.{Number as a_number, Event as an_event, Nothing as no_more}
 use Rattle.following.specs.declared.Cut.{Cut}
-use Rattle.following.specs.declared.Cut.TheVariants.{None as noCut, After as cutAfter}
+use Rattle.following.specs.declared.Cut.TheVariants.{None as no_cut, After as cut_after}
 use Rattle.following.specs.declared.Script.{Script}
 use Rattle.replaying.specs.Events.{lent, answer_to, table_after}
 use Rattle.replaying.specs.Replays.{begun, table_of, turn_of, finish_of}
@@ -63,9 +63,9 @@ use Rattle.crediting.proofs.Whole.{false_true, either_way}
 due-means : (s : Script) → event_due s ≡ true → EventDue s
 due-means s e = let both = go s.due s.cut e in record { due = both.0; cut = both.1 }
   where
-    go : (d : Due) (c : Cut) → event_at d c ≡ true → (d ≡ anEvent) × (c ≡ noCut)
-    go anEvent noCut k = (refl, refl)
-    go anEvent (cutAfter n l) k = false_true k
+    go : (d : Due) (c : Cut) → event_at d c ≡ true → (d ≡ an_event) × (c ≡ no_cut)
+    go an_event no_cut k = (refl, refl)
+    go an_event (cut_after n l) k = false_true k
     go (a_number name) c k = false_true k
     go no_more c k = false_true k
 
@@ -376,7 +376,7 @@ module _ (x : Figures) where
   samples-counted t n ls torn e = record { the_map = map_of u; looked = looked_in u; keys = keys_in ls; figures = figures_are; few = keys_few ls }
     where
       u : Table
-      u = table_after t Recover noCut
+      u = table_after t Recover no_cut
 
       y : Figures
       y = figures_of (map_of u) (looked_in u) (keys_in ls)
@@ -385,7 +385,7 @@ module _ (x : Figures) where
       same k = cc
 
       a : Answer
-      a = answer_to t Recover noCut
+      a = answer_to t Recover no_cut
 
       bad : Report
       bad = bad_line (line_behind n (length (keys_in ls)))

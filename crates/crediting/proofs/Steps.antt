@@ -17,8 +17,8 @@ use Rattle.lines.specs.Lines.{line_of}
 use Rattle.lines.specs.declared.Line.{Line}
 use Rattle.lines.specs.Samples.{sample_of}
 use Rattle.lines.specs.declared.Sample.{Sample}
-use Rattle.following.specs.declared.Cut.TheVariants.{None as noCut}
-use Rattle.following.specs.declared.Asked.TheVariants.{Event as askEvent}
+use Rattle.following.specs.declared.Cut.TheVariants.{None as no_cut}
+use Rattle.following.specs.declared.Asked.TheVariants.{Event as ask_event}
 use Rattle.replaying.specs.Replays.{asked_of, turn_of, TurnIs}
 use Rattle.replaying.specs.declared.Answer.{Answer}
 use Rattle.replaying.specs.declared.Answer.TheVariants.{Bad as BadAnswer}
@@ -72,7 +72,7 @@ sample_taken l room f s key {lent} e answer q d =
 -- ---- recovery
 
 pub room_recovered : (l : Ledger) (room : List ℕ) (turn : Turn) {left : List ℕ}
-    → TurnIs (asked_of room l.replay l.replay.script (askEvent Recover noCut)) turn left
+    → TurnIs (asked_of room l.replay l.replay.script (ask_event Recover no_cut)) turn left
     → {stage : Stage} → stage ≡ stage_recovered turn.answer
     → Turned recovered_book l room (record { replay = turn.replay; stage = stage; counts = l.counts }) left
 unfolding recovered_book

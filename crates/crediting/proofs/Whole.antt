@@ -21,7 +21,7 @@ use Rattle.lines.specs.Samples.{sample_of}
 use Rattle.lines.specs.declared.Sample.{Sample}
 use Rattle.lines.specs.declared.Sample.TheVariants.{Key, Bad as BadSample, Other}
 use Rattle.following.specs.Scripts.{ending_of}
-use Rattle.following.specs.declared.Cut.TheVariants.{None as noCut}
+use Rattle.following.specs.declared.Cut.TheVariants.{None as no_cut}
 use Rattle.following.specs.declared.Ending.{Ending}
 use Rattle.following.specs.declared.Ending.TheVariants.{Whole, Bad as Torn, Over}
 use Rattle.replaying.specs.Events.{lent, answer_to, table_after}
@@ -165,7 +165,7 @@ module _ (p : Replay) (room : List ℕ) where
   before = table_of p room
 
   recovered : Table
-  recovered = table_after before Recover noCut
+  recovered = table_after before Recover no_cut
 
   script_book : Book
   script_book = record { replay = p; room = room; stage = Script; figures = no_figures }
@@ -178,11 +178,11 @@ module _ (p : Replay) (room : List ℕ) where
   kept = kept-room p.words room _ (ap length (after-whole (table_of p room) lent recover) ∙ simp made-long)
 
   recovered_book_lem : recovered_book script_book
-      ≡ record { replay = counted p p.script; room = words; stage = stage_recovered (answer_to before Recover noCut); figures = no_figures }
+      ≡ record { replay = counted p p.script; room = words; stage = stage_recovered (answer_to before Recover no_cut); figures = no_figures }
   unfolding recovered_book script_book words recovered before
   recovered_book_lem = refl
 
-  recovers : (n : ℕ) → answer_to before Recover noCut ≡ Changed (Listed n) → SoundTable recovered
+  recovers : (n : ℕ) → answer_to before Recover no_cut ≡ Changed (Listed n) → SoundTable recovered
   unfolding recovered before answer_to table_after
   recovers n e = recovery_restores (table_of p room) lent (accepted (change_result (table_of p room) lent recover).0 e)
     where
@@ -216,7 +216,7 @@ module _ (p : Replay) (room : List ℕ) where
   told : Change
   told = (change_result before lent recover).0
 
-  answered : answer_to before Recover noCut ≡ Changed told
+  answered : answer_to before Recover no_cut ≡ Changed told
   unfolding told answer_to
   answered = refl
 

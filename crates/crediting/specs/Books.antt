@@ -12,8 +12,8 @@ use Rattle.lines.specs.Lines.{line_of}
 use Rattle.lines.specs.Samples.{sample_of}
 use Rattle.lines.specs.declared.Sample.{Sample}
 use Rattle.lines.specs.declared.Sample.TheVariants.{Key, Bad as BadSample, Other}
-use Rattle.following.specs.declared.Cut.TheVariants.{None as noCut}
-use Rattle.following.specs.declared.Asked.TheVariants.{Event as askEvent}
+use Rattle.following.specs.declared.Cut.TheVariants.{None as no_cut}
+use Rattle.following.specs.declared.Asked.TheVariants.{Event as ask_event}
 use Rattle.replaying.specs.Replays.{begun, table_of, asked_of, turn_of, finish_of}
 use Rattle.replaying.specs.declared.Answer.{Answer}
 use Rattle.replaying.specs.declared.Answer.TheVariants.{Nothing, Created, Changed, Kept, Found, Events, Bad as BadAnswer}
@@ -81,7 +81,7 @@ stage_recovered (BadAnswer n) = Samples
 
 unfoldable pub recovered_book : Book → Book
 recovered_book b =
-    let t = asked_of b.room b.replay b.replay.script (askEvent Recover noCut) in
+    let t = asked_of b.room b.replay b.replay.script (ask_event Recover no_cut) in
     record { replay = t.replay; room = t.room; stage = stage_recovered t.answer; figures = b.figures }
 
 abbrev pub when_recovered : Stage → ℕ → Book → Book

@@ -18,9 +18,9 @@ use Rattle.lines.specs.Samples.{sample_of}
 use Rattle.lines.specs.declared.Sample.{Sample}
 use Rattle.lines.specs.declared.Sample.TheVariants.{Key, Bad as BadSample, Other}
 use Rattle.following.specs.declared.Due.{Due}
-use Rattle.following.specs.declared.Due.TheVariants.{Number as a_number, Event as anEvent, Nothing as no_more}
+use Rattle.following.specs.declared.Due.TheVariants.{Number as a_number, Event as an_event, Nothing as no_more}
 use Rattle.following.specs.declared.Cut.{Cut}
-use Rattle.following.specs.declared.Cut.TheVariants.{None as noCut, After as cutAfter}
+use Rattle.following.specs.declared.Cut.TheVariants.{None as no_cut, After as cut_after}
 use Rattle.following.specs.declared.Script.{Script}
 use Rattle.replaying.specs.Events.{answer_to, table_after}
 use Rattle.replaying.specs.Replays.{begun, table_of, turn_of, finish_of}
@@ -120,18 +120,18 @@ no_sample_yet (key ∷ keys) = false
 unfoldable pub samples_report : Table → ℕ → List (List ℕ) → Bool → Report
 samples_report t lines ls torn =
     let keys = keys_in ls in
-    let u = table_after t Recover noCut in
+    let u = table_after t Recover no_cut in
     let bad = bad_line (line_behind lines (length keys)) in
     let whole = counts (figures_of (map_of u) (λ (key : ℕ). count_of (query_result u key)) keys) in
-    cond (all_good ls torn) (once_recovered (answer_to t Recover noCut) whole)
-    (cond (no_sample_yet keys) bad (once_recovered (answer_to t Recover noCut) bad))
+    cond (all_good ls torn) (once_recovered (answer_to t Recover no_cut) whole)
+    (cond (no_sample_yet keys) bad (once_recovered (answer_to t Recover no_cut) bad))
 
 -- ---- the script before them
 
 -- "The sample lines begin at the first line that starts with `sample=` where an event line could stand"; "Behind a cut line it may not stand"
 abbrev pub event_at : Due → Cut → Bool
-event_at anEvent noCut = true
-event_at anEvent (cutAfter n line) = false
+event_at an_event no_cut = true
+event_at an_event (cut_after n line) = false
 event_at (a_number name) under = false
 event_at no_more under = false
 

@@ -5,7 +5,7 @@ ghost use Rattle.std.specs.Prelude.{◌≡◌, ℕ, List};
 ghost use Rattle.tallying.specs.Credits.{Orderly};
 ghost use Rattle.replaying.specs.Replays.{finish_of};
 ghost use Rattle.crediting.specs.Ledgers.{event_due};
-ghost use Rattle.crediting.specs.Books.{missed_one, figures_with, figures_in, book_of, spoilt, sampled as sampledBook, recovered_book, stage_recovered};
+ghost use Rattle.crediting.specs.Books.{missed_one, figures_with, figures_in, book_of, spoilt, sampled as sampled_book, recovered_book, stage_recovered};
 ghost use Rattle.crediting.specs.Books.{first_sampled, stage_after, script_line, sample_where, script_read, sample_read, with_line, script_end, at_end};
 ghost use Rattle.crediting.specs.Books.{known_at, CountsAre, LedgerIs, Turned, empty_book};
 
@@ -100,7 +100,7 @@ fn counted(c: Counts, answer: Query, functions: &mut [u64], samples: &mut [u64])
 // A sample of a key, by the table as it stands.
 fn sampled(l: Ledger, room: &[u64], functions: &mut [u64], samples: &mut [u64], key: u64) -> Ledger
     requires { Orderly l.counts.tally.used functions.old samples.old }
-    ensures { LedgerIs (sampledBook key (book_of l room.now functions.old samples.old)) result room.now
+    ensures { LedgerIs (sampled_book key (book_of l room.now functions.old samples.old)) result room.now
         functions.new samples.new }
 {
     let replay = l.replay;

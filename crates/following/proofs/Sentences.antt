@@ -9,12 +9,12 @@ use Rattle.lines.specs.declared.Name.TheVariants.{Cap, Top, Mul1, Mul2, Key, Fn,
 use Rattle.lines.specs.declared.Line.{Line}
 use Rattle.lines.specs.declared.Line.TheVariants.{Number, Event, Cut, Bad}
 use Rattle.following.specs.declared.Due.{Due}
-use Rattle.following.specs.declared.Due.TheVariants.{Number as a_number, Event as anEvent, Nothing as no_more}
+use Rattle.following.specs.declared.Due.TheVariants.{Number as a_number, Event as an_event, Nothing as no_more}
 use Rattle.following.specs.declared.Cut.{Cut as CutLine}
-use Rattle.following.specs.declared.Cut.TheVariants.{None as noCut, After as cutAfter}
+use Rattle.following.specs.declared.Cut.TheVariants.{None as no_cut, After as cut_after}
 use Rattle.following.specs.declared.Script.{Script}
 use Rattle.following.specs.declared.Asked.{Asked}
-use Rattle.following.specs.declared.Asked.TheVariants.{Nothing as askNothing, Table as askTable, Event as askEvent, Bad as askEnd}
+use Rattle.following.specs.declared.Asked.TheVariants.{Nothing as ask_nothing, Table as ask_table, Event as ask_event, Bad as ask_end}
 use Rattle.following.specs.declared.Reading.{Reading}
 use Rattle.following.specs.declared.Ending.TheVariants.{Bad as Torn}
 use Rattle.following.specs.Scripts.{start, next_line, onward, waits, stops_at, stops, numbers_in, number_read, name_number, event_begun, may_be_cut}
@@ -56,10 +56,10 @@ stray s due (Number n v) h = go (eqb (name_number due) (name_number n)) refl
 -- ---- lines after lines
 
 asking_more : (a : Asked) (xs ys : List Asked) → asking a xs ++ ys ≡ asking a (xs ++ ys)
-asking_more askNothing xs ys = refl
-asking_more (askTable c k mul1 mul2) xs ys = refl
-asking_more (askEvent q under) xs ys = refl
-asking_more (askEnd line) xs ys = refl
+asking_more ask_nothing xs ys = refl
+asking_more (ask_table c k mul1 mul2) xs ys = refl
+asking_more (ask_event q under) xs ys = refl
+asking_more (ask_end line) xs ys = refl
 
 read_more : (s : Script) (xs ys : List Line) → read_all s (xs ++ ys) ≡ ((read_all (read_all s xs).0 ys).0, (read_all s xs).1 ++ (read_all (read_all s xs).0 ys).1)
 read_more s [] ys = refl
@@ -78,7 +78,7 @@ pub record Waits (s : Script) (lines : List Line) (name : Name) (number : ℕ) :
 
 -- a line that makes a script stop is bad after the lines before it
 bad_after : (s : Script) (lines : List Line) (l : Line) (number : ℕ) → (read_all s lines).1 ≡ []
-    → (reading_of (read_all s lines).0 l).asked ≡ askEnd number
+    → (reading_of (read_all s lines).0 l).asked ≡ ask_end number
     → (reading_of (read_all s lines).0 l).script.due ≡ no_more
     → BadAfter s lines l number
 bad_after s lines l number none bad over =
@@ -97,7 +97,7 @@ module _ {s : Script} {lines : List Line} {name : Name} {number : ℕ} (w : Wait
   unfolding here
   waits_bad l h =
       bad_after s lines l number w.nothing (ap (λ (r : Reading). r.asked) (number_stray l h)
-      ∙ ap askEnd w.next) (ap (λ (r : Reading). r.script.due) (number_stray l h))
+      ∙ ap ask_end w.next) (ap (λ (r : Reading). r.script.due) (number_stray l h))
 
   waits-ends : EndsBad s lines number
   unfolding ending_of
@@ -139,7 +139,7 @@ begins-free : (s : Script) → EventDue s → (q : ScriptCall) → Begins s q
 unfolding reading_of
 begins-free s d q = rw (d.due, d.cut)
 
-begins-cut : (s : Script) (n line : ℕ) → s.due ≡ anEvent → s.cut ≡ cutAfter n line → (q : ScriptCall) → may_be_cut q ≡ true → Begins s q
+begins-cut : (s : Script) (n line : ℕ) → s.due ≡ an_event → s.cut ≡ cut_after n line → (q : ScriptCall) → may_be_cut q ≡ true → Begins s q
 unfolding reading_of
 begins-cut s n line d c q may = rw (d, c, may)
 
@@ -153,7 +153,7 @@ op_line : (s : Script) (o : Line) (r : Reading) → reading_of s o ≡ r → (li
 op_line s o r b lines = ap (λ (r : Reading). ((read_all r.script lines).0, asking r.asked (read_all r.script lines).1)) b
 
 -- one that asks for nothing yet
-module _ (s : Script) (o : Line) (t : Script) (b : reading_of s o ≡ record { script = t; asked = askNothing }) where
+module _ (s : Script) (o : Line) (t : Script) (b : reading_of s o ≡ record { script = t; asked = ask_nothing }) where
   first-line : (lines : List Line) → read_all s (o ∷ lines) ≡ read_all t lines
   first-line lines = op_line s o _ b lines
 
@@ -164,7 +164,7 @@ module _ (s : Script) (o : Line) (t : Script) (b : reading_of s o ≡ record { s
 
 -- an event with a key, and one with a record besides
 key_due : Script → ScriptCall → Script
-key_due s q = (onward s (a_number Key) q 0 0 0 s.cut askNothing).script
+key_due s q = (onward s (a_number Key) q 0 0 0 s.cut ask_nothing).script
 
 module _ (s : Script) (q : ScriptCall) (b : Begins s q) (keyed : eqb (numbers_in q) 0 ≡ false) where
   op_waits : {lines : List Line} {name : Name} {number : ℕ} → Waits (key_due s q) lines name number → Waits s (Event q ∷ lines) name number
@@ -230,10 +230,10 @@ asks_by s q b lines alone next count =
       count = ap (λ x. x.0.lines) whole ∙ count;
     }
 
-due-here : (s : Script) → s.due ≡ anEvent → s.cut ≡ noCut → EventDue s
+due-here : (s : Script) → s.due ≡ an_event → s.cut ≡ no_cut → EventDue s
 due-here s a b = record { due = a; cut = b }
 
-call_asks : (s : Script) (q : ScriptCall) → Begins s (blank q) → Asks s (call_lines q) (askEvent q s.cut)
+call_asks : (s : Script) (q : ScriptCall) → Begins s (blank q) → Asks s (call_lines q) (ask_event q s.cut)
 unfolding reading_of
 call_asks s (Query k) b = asks_by s (Query 0) b _ refl (due-here _ refl refl) (omega arith)
 call_asks s (Insert k r) b = asks_by s (blank (Insert k r)) b _ refl (due-here _ refl refl) (omega arith)
@@ -261,7 +261,7 @@ cut_may End c = (refl, refl)
 cut_may Recover c = (refl, refl)
 
 under_cut : Script → ℕ → Script
-under_cut s n = record { due = anEvent; event = s.event; first = 0; second = 0; third = 0; cut = cutAfter n (line_from s 1); lines = line_from s 2 }
+under_cut s n = record { due = an_event; event = s.event; first = 0; second = 0; third = 0; cut = cut_after n (line_from s 1); lines = line_from s 2 }
 
 cut-read : (s : Script) → EventDue s → (n : ℕ) → read_all s (cut_lines n) ≡ (under_cut s n, [])
 unfolding reading_of under_cut
@@ -286,7 +286,7 @@ module _ (s : Script) (d : EventDue s) (n : ℕ) where
       let same = onto s (under_cut s n) (cut_lines n) (cut-read s d n) lines in
       record { nothing = ap (λ x. x.1) same ∙ w.nothing; due = ap (λ x. x.0.due) same ∙ w.due; next = ap (λ x. next_line x.0) same ∙ w.next }
 
-  cut-asks : (q : ScriptCall) → Changing q → Asks s (cut_lines n ++ call_lines q) (askEvent q (cutAfter n (line_from s 1)))
+  cut-asks : (q : ScriptCall) → Changing q → Asks s (cut_lines n ++ call_lines q) (ask_event q (cut_after n (line_from s 1)))
   unfolding under_cut
   cut-asks q changing =
       let same = onto s (under_cut s n) (cut_lines n) (cut-read s d n) (call_lines q) in
@@ -323,7 +323,7 @@ module _ (s : Script) (d : EventDue s) (n : ℕ) where
   unfolding ending_of under_cut
   cut-ends torn = ap (λ (x : Script × List Asked). ending_of x.0 torn) (cut-read s d n) ∙ go torn
     where
-      go : (b : Bool) → ended_at (under_cut s n) anEvent b ≡ Torn (line_from s 1)
+      go : (b : Bool) → ended_at (under_cut s n) an_event b ≡ Torn (line_from s 1)
       go true = refl
       go false = refl
 
@@ -334,7 +334,7 @@ unfolding reading_of
 header_read c k mul1 mul2 = record { alone = refl; next = due-here _ refl refl; count = refl }
 
 pub events_read : EventsRead
-events_read s d q = subst (λ (under : CutLine). Asks s (call_lines q) (askEvent q under)) d.cut (call_asks s q (begins-free s d (blank q)))
+events_read s d q = subst (λ (under : CutLine). Asks s (call_lines q) (ask_event q under)) d.cut (call_asks s q (begins-free s d (blank q)))
 
 pub calls_named : CallsNamed
 calls_named s d = (
@@ -366,7 +366,7 @@ pub event_else_bad : EventElseBad
 unfolding reading_of ending_of
 event_else_bad s d = (λ l h. bad_after s [] l _ refl (no_event_lem l h).0 (no_event_lem l h).1, rw (d.due, d.cut), rw (d.due, d.cut))
   where
-    no_event_lem : (l : Line) → NoEvent l → ((reading_of s l).asked ≡ askEnd (line_from s 1)) × ((reading_of s l).script.due ≡ no_more)
+    no_event_lem : (l : Line) → NoEvent l → ((reading_of s l).asked ≡ ask_end (line_from s 1)) × ((reading_of s l).script.due ≡ no_more)
     no_event_lem (Event q) h = absurd (h.0 q refl)
     no_event_lem Cut h = absurd (h.1 refl)
     no_event_lem (Number m v) h = (rw (d.due, d.cut), rw d.due)
@@ -376,7 +376,7 @@ pub stops_for_good : StopsForGood
 unfolding reading_of ending_of
 stops_for_good s d = (all, λ torn. rw d)
   where
-    stay : (l : Line) → reading_of s l ≡ record { script = s; asked = askNothing }
+    stay : (l : Line) → reading_of s l ≡ record { script = s; asked = ask_nothing }
     stay l = ap (λ (x : Due). expected s x l) d
 
     all : (ls : List Line) → read_all s ls ≡ (s, [])

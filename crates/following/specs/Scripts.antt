@@ -8,19 +8,19 @@ use Rattle.lines.specs.declared.Name.TheVariants.{Cap, Top, Mul1, Mul2, Key, Fn,
 use Rattle.lines.specs.declared.Line.{Line}
 use Rattle.lines.specs.declared.Line.TheVariants.{Number, Event, Cut, Bad}
 use Rattle.following.specs.declared.Due.{Due}
-use Rattle.following.specs.declared.Due.TheVariants.{Number as a_number, Event as anEvent, Nothing as no_more}
+use Rattle.following.specs.declared.Due.TheVariants.{Number as a_number, Event as an_event, Nothing as no_more}
 use Rattle.following.specs.declared.Cut.{Cut as CutLine}
-use Rattle.following.specs.declared.Cut.TheVariants.{None as noCut, After as cutAfter}
+use Rattle.following.specs.declared.Cut.TheVariants.{None as no_cut, After as cut_after}
 use Rattle.following.specs.declared.Script.{Script}
 use Rattle.following.specs.declared.Asked.{Asked}
-use Rattle.following.specs.declared.Asked.TheVariants.{Nothing as askNothing, Table as askTable, Event as askEvent, Bad as askEnd}
+use Rattle.following.specs.declared.Asked.TheVariants.{Nothing as ask_nothing, Table as ask_table, Event as ask_event, Bad as ask_end}
 use Rattle.following.specs.declared.Reading.{Reading}
 use Rattle.following.specs.declared.Ending.{Ending}
 use Rattle.following.specs.declared.Ending.TheVariants.{Whole, Bad as Torn, Over}
 
 -- "`cap`, `top` (the first k), `mul1`, `mul2`, then events"
 abbrev pub start : Script
-start = record { due = a_number Cap; event = Begin; first = 0; second = 0; third = 0; cut = noCut; lines = 0 }
+start = record { due = a_number Cap; event = Begin; first = 0; second = 0; third = 0; cut = no_cut; lines = 0 }
 
 -- ---- what becomes of a line
 
@@ -35,15 +35,15 @@ onward s due q a b c under asked =
 
 -- more is to come for a header or an event
 abbrev pub waits : Script → Due → ℕ → ℕ → ℕ → Reading
-waits s due a b c = onward s due s.event a b c s.cut askNothing
+waits s due a b c = onward s due s.event a b c s.cut ask_nothing
 
 -- it makes a header or an event whole, and an event is due
 abbrev pub asks : Script → Asked → Reading
-asks s asked = onward s anEvent s.event 0 0 0 noCut asked
+asks s asked = onward s an_event s.event 0 0 0 no_cut asked
 
 -- "First bad line: `bad=` its number, from 1, and stop."
 abbrev pub stops_at : Script → ℕ → Reading
-stops_at s line = onward s no_more s.event 0 0 0 noCut (askEnd line)
+stops_at s line = onward s no_more s.event 0 0 0 no_cut (ask_end line)
 
 abbrev pub stops : Script → Reading
 stops s = stops_at s (next_line s)
@@ -77,18 +77,18 @@ filled End k f p = End
 filled Recover k f p = Recover
 
 abbrev pub key_read : Script → ℕ → Reading
-key_read s v = cond (numbers_in s.event == 1) (asks s (askEvent (filled s.event v 0 0) s.cut)) (waits s (a_number Fn) v 0 0)
+key_read s v = cond (numbers_in s.event == 1) (asks s (ask_event (filled s.event v 0 0) s.cut)) (waits s (a_number Fn) v 0 0)
 
 -- "`op=cut` with `after`": the cut line is the one before its `after`
 abbrev pub number_read : Script → Name → ℕ → Reading
 number_read s Cap v = waits s (a_number Top) v 0 0
 number_read s Top v = waits s (a_number Mul1) s.first v 0
 number_read s Mul1 v = waits s (a_number Mul2) s.first s.second v
-number_read s Mul2 v = asks s (askTable s.first s.second s.third v)
+number_read s Mul2 v = asks s (ask_table s.first s.second s.third v)
 number_read s Key v = key_read s v
 number_read s Fn v = waits s (a_number At) s.first v 0
-number_read s At v = asks s (askEvent (filled s.event s.first s.second v) s.cut)
-number_read s After v = onward s anEvent s.event 0 0 0 (cutAfter v s.lines) askNothing
+number_read s At v = asks s (ask_event (filled s.event s.first s.second v) s.cut)
+number_read s After v = onward s an_event s.event 0 0 0 (cut_after v s.lines) ask_nothing
 
 -- the names in their order
 abbrev pub name_number : Name → ℕ
@@ -104,7 +104,7 @@ name_number After = 7
 -- ---- events
 
 abbrev pub event_begun : Script → ScriptCall → Reading
-event_begun s q = cond (numbers_in q == 0) (asks s (askEvent q s.cut)) (onward s (a_number Key) q 0 0 0 s.cut askNothing)
+event_begun s q = cond (numbers_in q == 0) (asks s (ask_event q s.cut)) (onward s (a_number Key) q 0 0 0 s.cut ask_nothing)
 
 -- "`op=cut` .., which must stand right before a changing event or recover (else the cut line is the bad line)"
 abbrev pub may_be_cut : ScriptCall → Bool
@@ -120,16 +120,16 @@ may_be_cut End = true
 may_be_cut Recover = true
 
 abbrev pub event_read : Script → CutLine → ScriptCall → Reading
-event_read s noCut q = event_begun s q
-event_read s (cutAfter n line) q = cond (may_be_cut q) (event_begun s q) (stops_at s line)
+event_read s no_cut q = event_begun s q
+event_read s (cut_after n line) q = cond (may_be_cut q) (event_begun s q) (stops_at s line)
 
 abbrev pub cut_read : Script → CutLine → Reading
-cut_read s noCut = waits s (a_number After) 0 0 0
-cut_read s (cutAfter n line) = stops_at s line
+cut_read s no_cut = waits s (a_number After) 0 0 0
+cut_read s (cut_after n line) = stops_at s line
 
 abbrev pub no_event_line : Script → CutLine → ℕ
-no_event_line s noCut = next_line s
-no_event_line s (cutAfter n line) = line
+no_event_line s no_cut = next_line s
+no_event_line s (cut_after n line) = line
 
 abbrev pub no_event : Script → CutLine → Reading
 no_event s under = stops_at s (no_event_line s under)
@@ -141,11 +141,11 @@ expected s (a_number due) (Number n v) = cond (name_number due == name_number n)
 expected s (a_number due) (Event q) = stops s
 expected s (a_number due) Cut = stops s
 expected s (a_number due) Bad = stops s
-expected s anEvent (Number n v) = no_event s s.cut
-expected s anEvent (Event q) = event_read s s.cut q
-expected s anEvent Cut = cut_read s s.cut
-expected s anEvent Bad = no_event s s.cut
-expected s no_more line = record { script = s; asked = askNothing }
+expected s an_event (Number n v) = no_event s s.cut
+expected s an_event (Event q) = event_read s s.cut q
+expected s an_event Cut = cut_read s s.cut
+expected s an_event Bad = no_event s s.cut
+expected s no_more line = record { script = s; asked = ask_nothing }
 
 unfoldable pub reading_of : Script → Line → Reading
 reading_of s line = expected s s.due line
@@ -156,12 +156,12 @@ reading_of s line = expected s s.due line
 -- bad too
 abbrev pub at_event : Script → CutLine → Bool → Ending
 at_event s under true = Torn (no_event_line s under)
-at_event s noCut false = Whole
-at_event s (cutAfter n line) false = Torn line
+at_event s no_cut false = Whole
+at_event s (cut_after n line) false = Torn line
 
 abbrev pub ended_at : Script → Due → Bool → Ending
 ended_at s (a_number due) torn = Torn (next_line s)
-ended_at s anEvent torn = at_event s s.cut torn
+ended_at s an_event torn = at_event s s.cut torn
 ended_at s no_more torn = Over
 
 unfoldable pub ending_of : Script → Bool → Ending

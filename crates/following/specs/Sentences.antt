@@ -10,11 +10,11 @@ use Rattle.lines.specs.declared.Name.{Name}
 use Rattle.lines.specs.declared.Name.TheVariants.{Cap, Top, Mul1, Mul2, Key, Fn, At, After}
 use Rattle.lines.specs.declared.Line.{Line}
 use Rattle.lines.specs.declared.Line.TheVariants.{Number, Event, Cut, Bad}
-use Rattle.following.specs.declared.Due.TheVariants.{Event as anEvent, Nothing as no_more}
-use Rattle.following.specs.declared.Cut.TheVariants.{None as noCut, After as cutAfter}
+use Rattle.following.specs.declared.Due.TheVariants.{Event as an_event, Nothing as no_more}
+use Rattle.following.specs.declared.Cut.TheVariants.{None as no_cut, After as cut_after}
 use Rattle.following.specs.declared.Script.{Script}
 use Rattle.following.specs.declared.Asked.{Asked}
-use Rattle.following.specs.declared.Asked.TheVariants.{Nothing as askNothing, Table as askTable, Event as askEvent, Bad as askEnd}
+use Rattle.following.specs.declared.Asked.TheVariants.{Nothing as ask_nothing, Table as ask_table, Event as ask_event, Bad as ask_end}
 use Rattle.following.specs.declared.Ending.TheVariants.{Whole, Bad as Torn, Over}
 use Rattle.following.specs.Scripts.{start, reading_of, ending_of}
 
@@ -90,10 +90,10 @@ Changing Recover = Unit {0}
 
 -- what is asked for, before all that is asked for later
 abbrev pub asking : Asked → List Asked → List Asked
-asking askNothing later = later
-asking (askTable c k mul1 mul2) later = askTable c k mul1 mul2 ∷ later
-asking (askEvent q under) later = askEvent q under ∷ later
-asking (askEnd line) later = askEnd line ∷ later
+asking ask_nothing later = later
+asking (ask_table c k mul1 mul2) later = ask_table c k mul1 mul2 ∷ later
+asking (ask_event q under) later = ask_event q under ∷ later
+asking (ask_end line) later = ask_end line ∷ later
 
 -- where the script stands after them, and all that they ask for
 abbrev pub read_all : Script → List Line → Script × List Asked
@@ -106,8 +106,8 @@ line_from s n = (s.lines + n) % 2 ^ 64
 
 -- an event is due, and no cut line stands before it
 pub record EventDue (s : Script) : Type 0 where
-  pub due : s.due ≡ anEvent
-  pub cut : s.cut ≡ noCut
+  pub due : s.due ≡ an_event
+  pub cut : s.cut ≡ no_cut
 
 -- these lines ask for this alone, and then an event is due
 pub record Asks (s : Script) (lines : List Line) (asked : Asked) : Type 0 where
@@ -117,7 +117,7 @@ pub record Asks (s : Script) (lines : List Line) (asked : Asked) : Type 0 where
 
 -- after these lines a line is bad: this number is told for it, and nothing more is due
 pub record BadAfter (s : Script) (lines : List Line) (l : Line) (number : ℕ) : Type 0 where
-  pub alone : (read_all s (lines ++ (l ∷ []))).1 ≡ askEnd number ∷ []
+  pub alone : (read_all s (lines ++ (l ∷ []))).1 ≡ ask_end number ∷ []
   pub over : (read_all s (lines ++ (l ∷ []))).0.due ≡ no_more
 
 -- and so is the end of the input there, with a torn line or none
@@ -138,27 +138,27 @@ NoChange l = (q : ScriptCall) → Changing q → l ≢ Event q
 
 -- "`cap`, `top` (the first k), `mul1`, `mul2`, then events"
 abbrev pub HeaderRead : Type 0
-HeaderRead = (c k mul1 mul2 : ℕ) → Asks start (numbered header_names (c ∷ k ∷ mul1 ∷ mul2 ∷ [])) (askTable c k mul1 mul2)
+HeaderRead = (c k mul1 mul2 : ℕ) → Asks start (numbered header_names (c ∷ k ∷ mul1 ∷ mul2 ∷ [])) (ask_table c k mul1 mul2)
 
 -- each event with its lines, in their order
 abbrev pub EventsRead : Type 0
-EventsRead = (s : Script) → EventDue s → (q : ScriptCall) → Asks s (call_lines q) (askEvent q noCut)
+EventsRead = (s : Script) → EventDue s → (q : ScriptCall) → Asks s (call_lines q) (ask_event q no_cut)
 
 -- the same of the events with numbers, spelled out: key, function and place in their order
 abbrev pub CallsNamed : Type 0
 CallsNamed = (s : Script) → EventDue s
     → ((key f place : ℕ) → Asks s (Event (Insert 0 no_record) ∷ Number Key key ∷ Number Fn f ∷ Number At place ∷ [])
-    (askEvent (Insert key (record { function = f; place = place })) noCut))
+    (ask_event (Insert key (record { function = f; place = place })) no_cut))
     × ((key f place : ℕ) → Asks s (Event (Update 0 no_record) ∷ Number Key key ∷ Number Fn f ∷ Number At place ∷ [])
-    (askEvent (Update key (record { function = f; place = place })) noCut))
-    × ((key : ℕ) → Asks s (Event (Delete 0) ∷ Number Key key ∷ []) (askEvent (Delete key) noCut))
-    × ((key : ℕ) → Asks s (Event (Query 0) ∷ Number Key key ∷ []) (askEvent (Query key) noCut))
+    (ask_event (Update key (record { function = f; place = place })) no_cut))
+    × ((key : ℕ) → Asks s (Event (Delete 0) ∷ Number Key key ∷ []) (ask_event (Delete key) no_cut))
+    × ((key : ℕ) → Asks s (Event (Query 0) ∷ Number Key key ∷ []) (ask_event (Query key) no_cut))
 
 -- "`op=cut` with `after`, which must stand right before a changing event or recover .. and lets only that many of its stores be
 -- made": each of them, with its lines
 abbrev pub CutEventsRead : Type 0
 CutEventsRead = (s : Script) → EventDue s → (n : ℕ) (q : ScriptCall) → Changing q
-    → Asks s (cut_lines n ++ call_lines q) (askEvent q (cutAfter n (line_from s 1)))
+    → Asks s (cut_lines n ++ call_lines q) (ask_event q (cut_after n (line_from s 1)))
 
 -- "(else the cut line is the bad line)": before a query, another cut line, any other line, and at the end
 abbrev pub CutLineElseBad : Type 0

@@ -1,8 +1,8 @@
 // What a line makes of what a script waits for.
 ghost use Rattle.std.specs.Prelude.{◌≡◌, if◌then◌else◌, nat_eq};
-ghost use Rattle.following.specs.declared.Due.TheVariants.{Number as a_number, Event as anEvent};
-ghost use Rattle.following.specs.Scripts.{start as start_of, next_line, onward as onwardOf, waits as waitsOf, asks as asksOf};
-ghost use Rattle.following.specs.Scripts.{stops_at as stopsAtOf, stops as stopsOf, name_number, numbers_in, filled as filledOf, key_read};
+ghost use Rattle.following.specs.declared.Due.TheVariants.{Number as a_number, Event as an_event};
+ghost use Rattle.following.specs.Scripts.{start as start_of, next_line, onward as onward_of, waits as waits_of, asks as asks_of};
+ghost use Rattle.following.specs.Scripts.{stops_at as stops_at_of, stops as stops_of, name_number, numbers_in, filled as filled_of, key_read};
 ghost use Rattle.following.specs.Scripts.{number_read, event_begun, may_be_cut, event_read, cut_read, expected, reading_of, no_event_line, at_event};
 ghost use Rattle.following.specs.Scripts.{ending_of};
 
@@ -43,7 +43,7 @@ fn onward(
     cut: Cut,
     asked: Asked,
 ) -> Reading
-    ensures { result ≡ onwardOf s due event a b c cut asked }
+    ensures { result ≡ onward_of s due event a b c cut asked }
 {
     Reading {
         script: Script {
@@ -61,7 +61,7 @@ fn onward(
 
 // More is to come for a header or an event.
 fn waits(s: Script, due: Due, a: u64, b: u64, c: u64) -> Reading
-    ensures { result ≡ waitsOf s due a b c }
+    ensures { result ≡ waits_of s due a b c }
 {
     let event = s.event;
     let cut = s.cut;
@@ -70,7 +70,7 @@ fn waits(s: Script, due: Due, a: u64, b: u64, c: u64) -> Reading
 
 // A header or an event is whole.
 fn asks(s: Script, asked: Asked) -> Reading
-    ensures { result ≡ asksOf s asked }
+    ensures { result ≡ asks_of s asked }
 {
     let event = s.event;
     onward(s, Due::Event, event, 0, 0, 0, Cut::None, asked)
@@ -78,7 +78,7 @@ fn asks(s: Script, asked: Asked) -> Reading
 
 // "First bad line: `bad=` its number, from 1, and stop."
 fn stops_at(s: Script, line: u64) -> Reading
-    ensures { result ≡ stopsAtOf s line }
+    ensures { result ≡ stops_at_of s line }
 {
     let event = s.event;
     onward(s, Due::Nothing, event, 0, 0, 0, Cut::None, Asked::Bad(line))
@@ -119,7 +119,7 @@ fn numbers_in(event: ScriptCall) -> u64
 
 // An event with its numbers.
 fn filled(event: ScriptCall, key: u64, function: u64, place: u64) -> ScriptCall
-    ensures { result ≡ filledOf event key function place }
+    ensures { result ≡ filled_of event key function place }
 {
     match event {
         ScriptCall::Query(_) => ScriptCall::Query(key),
@@ -211,7 +211,7 @@ fn may_be_cut(event: ScriptCall) -> bool
 
 // "which must stand right before a changing event or recover (else the cut line is the bad line)"
 fn event_under(s: Script, line: u64, event: ScriptCall) -> Reading
-    ensures { result ≡ (if may_be_cut event then event_begun s event else stopsAtOf s line) }
+    ensures { result ≡ (if may_be_cut event then event_begun s event else stops_at_of s line) }
 {
     if may_be_cut(event) {
         return event_begun(s, event);
@@ -238,7 +238,7 @@ fn cut_read(s: Script, cut: Cut) -> Reading
 }
 
 fn stops(s: Script) -> Reading
-    ensures { result ≡ stopsOf s }
+    ensures { result ≡ stops_of s }
 {
     stops_at(s, next_line(s))
 }
@@ -254,7 +254,7 @@ fn no_event_line(s: Script, cut: Cut) -> u64
 }
 
 fn number_named(s: Script, due: Name, name: Name, v: u64) -> Reading
-    ensures { result ≡ (if nat_eq (name_number due) (name_number name) then number_read s due v else stopsOf s) }
+    ensures { result ≡ (if nat_eq (name_number due) (name_number name) then number_read s due v else stops_of s) }
 {
     if name_number(due) == name_number(name) {
         return number_read(s, due, v);
@@ -274,7 +274,7 @@ fn number_line(s: Script, due: Name, line: Line) -> Reading
 }
 
 fn event_line(s: Script, line: Line) -> Reading
-    ensures { result ≡ expected s anEvent line }
+    ensures { result ≡ expected s an_event line }
 {
     let cut = s.cut;
     match line {

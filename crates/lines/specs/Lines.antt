@@ -3,7 +3,7 @@
 -- Assumes nothing.
 use Rattle.std.specs.Prelude.{ℕ, ◌+◌, ◌-◌, ◌*◌, ◌^◌, Bool, true, false, not, ◌&&◌, cond, List, [], ◌∷◌, map, length, drop, get_or, eqb, leb, ltb}
 use Prim.Native.Char.{code}
-use Prim.Native.String.{String, [] as noText, ◌∷◌ as ◌then◌}
+use Prim.Native.String.{String, [] as no_text, ◌∷◌ as ◌then◌}
 use Rattle.std.proofs.Math.Option.{Option, none, some}
 use Rattle.rules.specs.Choice.{all, given}
 use Rattle.rules.specs.declared.Record.{Record}
@@ -16,7 +16,7 @@ use Rattle.lines.specs.declared.Line.TheVariants.{Number, Event, Cut, Bad}
 
 -- a text as bytes
 abbrev pub bytes : String → List ℕ
-bytes noText = []
+bytes no_text = []
 bytes (c then s) = code c ∷ bytes s
 
 -- "`cap`, `top` (the first k), `mul1`, `mul2`, then events", "with `key`, `fn`, `at`", "with `after`"

@@ -3,7 +3,7 @@
 
 ghost use Rattle.std.specs.Prelude.{◌≡◌};
 ghost use Rattle.rules.specs.Answers.{number_of, change_means, conversion_means, query_means, verdict_means};
-ghost use Rattle.rules.specs.Histories.{reported as reportedOf};
+ghost use Rattle.rules.specs.Histories.{reported as reported_of};
 ghost use Rattle.numbering.specs.Told.{told, words_mean, conversion_words_mean};
 
 use rules::{Change, Conversion, Query, Refusal, Verdict};
@@ -53,7 +53,7 @@ pub fn change_number(change: Change) -> u64
 
 // The value that goes with it: "A refusal .. reports 0 stores."
 pub fn reported(change: Change) -> u64
-    ensures { result ≡ reportedOf change }
+    ensures { result ≡ reported_of change }
 {
     match change {
         Change::Listed(stores) => stores,

@@ -6,7 +6,7 @@ use borrow.Author.Tests.{lt-leb}
 use Rattle.rules.specs.Choice.{all}
 use Rattle.rules.specs.Words.{word, words_for}
 use Rattle.rules.specs.Answers.{Meaning, change_means, verdict_means}
-use Rattle.rules.specs.Results.{change_result, query_result, create_tests, created as createdWords, create_result}
+use Rattle.rules.specs.Results.{change_result, query_result, create_tests, created as created_words, create_result}
 use Rattle.rules.specs.Histories.{reported}
 use Rattle.rules.specs.declared.Change.{Change}
 use Rattle.rules.specs.declared.Change.TheVariants.{Listed, Refused}
@@ -18,10 +18,10 @@ use Rattle.rules.specs.declared.Verdict.TheVariants.{Done, Denied}
 use Rattle.rules.proofs.Calls.Meanings.{verdict_one}
 use Rattle.following.specs.Sentences.{Changing}
 use Rattle.following.specs.declared.Cut.{Cut}
-use Rattle.following.specs.declared.Cut.TheVariants.{None as noCut, After as cutAfter}
+use Rattle.following.specs.declared.Cut.TheVariants.{None as no_cut, After as cut_after}
 use Rattle.following.specs.declared.Due.TheVariants.{Nothing as no_more}
 use Rattle.following.specs.declared.Script.{Script}
-use Rattle.following.specs.declared.Asked.TheVariants.{Table as askTable}
+use Rattle.following.specs.declared.Asked.TheVariants.{Table as ask_table}
 use Rattle.replaying.specs.Events.{lent, call_of, queried, kept_under, change_answer, answer_to, table_after}
 use Rattle.replaying.specs.Replays.{Turned, table_of, created, too_large, asked_of, finished, finish_of}
 use Rattle.replaying.specs.Sentences.{Tells, Answered, ChangesAnswered, NothingAnswered, BadAnswered, EndAnswered, LetsMake}
@@ -69,7 +69,7 @@ module _ (room : List ℕ) (p : Replay) (next : Script) (q : ScriptCall) (changi
       }
 
 pub changes_answered : ChangesAnswered
-changes_answered room p next q changing r number stores tells = answered room p next q changing r tells noCut refl refl
+changes_answered room p next q changing r number stores tells = answered room p next q changing r tells no_cut refl refl
 
 lets_min : (n stores made : ℕ) → LetsMake n stores made → min n stores ≡ made
 lets_min n stores made l = ⊎_elim (λ h. omega (arith, h)) (λ h. omega (arith, h)) l
@@ -77,7 +77,7 @@ lets_min n stores made l = ⊎_elim (λ h. omega (arith, h)) (λ h. omega (arith
 pub cut_changes_answered : CutChangesAnswered
 cut_changes_answered room p next q changing r n line number stores made tells lets =
     let kept = lets_min n stores made lets in
-    answered room p next q changing r tells (cutAfter n line) (ap (λ (x : ℕ). Kept r (min n x)) (told-stores room p next q changing r tells)
+    answered room p next q changing r tells (cut_after n line) (ap (λ (x : ℕ). Kept r (min n x)) (told-stores room p next q changing r tells)
     ∙ ap (Kept r) kept) kept
 
 -- ---- lines that ask for nothing, bad lines, and the end
@@ -102,11 +102,11 @@ queries_answered room p next key under number f place count word level e =
 -- ---- the table
 
 module _ (room : List ℕ) (p : Replay) (next : Script) (c k mul1 mul2 : ℕ) where
-  small-table : c ≤ 8 → asked_of room p next (askTable c k mul1 mul2) ≡ created p next room c (create_result (take (words_for c) room) 1 c k mul1 mul2)
+  small-table : c ≤ 8 → asked_of room p next (ask_table c k mul1 mul2) ≡ created p next room c (create_result (take (words_for c) room) 1 c k mul1 mul2)
   small-table small = rw (le-leb c 8 small)
 
   answered_by : c ≤ 8 → (v : Verdict) → verdict_means (create_result (take (words_for c) room) 1 c k mul1 mul2).0 ≡ verdict_means v
-      → asked_of room p next (askTable c k mul1 mul2) ≡ created p next room c (v, (create_result (take (words_for c) room) 1 c k mul1 mul2).1)
+      → asked_of room p next (ask_table c k mul1 mul2) ≡ created p next room c (v, (create_result (take (words_for c) room) 1 c k mul1 mul2).1)
   answered_by small v e =
       let r = create_result (take (words_for c) room) 1 c k mul1 mul2 in
       small-table small ∙ ap (λ (x : Verdict). created p next room c (x, r.1)) (verdict_one r.0 v e)
@@ -123,7 +123,7 @@ table_made room p next c k mul1 mul2 small e =
 
 -- creation answers either by its header words or by a refusal
 pub scripts_make_form1 : ScriptsMakeForm1
-unfolding create_result createdWords
+unfolding create_result created_words
 scripts_make_form1 room p next c k mul1 mul2 e = go (leb c 8) (all (create_tests (length fit) 1 c k mul1 mul2)) e
   where
     fit : List ℕ
@@ -131,7 +131,7 @@ scripts_make_form1 room p next c k mul1 mul2 e = go (leb c 8) (all (create_tests
 
     told : Bool → Bool → Turned
     told small good =
-        cond small (created p next room c (cond good (Done, createdWords 1 c k mul1 mul2) (Denied BadCreation, fit))) (too_large p next room)
+        cond small (created p next room c (cond good (Done, created_words 1 c k mul1 mul2) (Denied BadCreation, fit))) (too_large p next room)
 
     go : (small good : Bool) → (told small good).answer ≡ Created Done → word (told small good).room 0 ≡ 1
     go true true e = refl
@@ -141,13 +141,13 @@ scripts_make_form1 room p next c k mul1 mul2 e = go (leb c 8) (all (create_tests
 pub table_not_made : TableNotMade
 table_not_made room p next c k mul1 mul2 h = ⊎_elim large denied h
   where
-    large : 8 < c → ((asked_of room p next (askTable c k mul1 mul2)).answer ≡ Created (Denied BadCreation))
-        × ((asked_of room p next (askTable c k mul1 mul2)).replay.script.due ≡ no_more)
+    large : 8 < c → ((asked_of room p next (ask_table c k mul1 mul2)).answer ≡ Created (Denied BadCreation))
+        × ((asked_of room p next (ask_table c k mul1 mul2)).replay.script.due ≡ no_more)
     large l = (rw (lt-leb c 8 l), rw (lt-leb c 8 l))
 
     denied : (c ≤ 8) × Verdicts room c k mul1 mul2 13
-        → ((asked_of room p next (askTable c k mul1 mul2)).answer ≡ Created (Denied BadCreation))
-        × ((asked_of room p next (askTable c k mul1 mul2)).replay.script.due ≡ no_more)
+        → ((asked_of room p next (ask_table c k mul1 mul2)).answer ≡ Created (Denied BadCreation))
+        × ((asked_of room p next (ask_table c k mul1 mul2)).replay.script.due ≡ no_more)
     denied d =
         let same = answered_by room p next c k mul1 mul2 d.0 (Denied BadCreation) d.1 in
         (ap (λ (t : Turned). t.answer) same, ap (λ (t : Turned). t.replay.script.due) same)

@@ -16,7 +16,7 @@ use Rattle.following.specs.Scripts.{reading_of, ending_of}
 use Rattle.following.specs.declared.Cut.{Cut}
 use Rattle.following.specs.declared.Script.{Script}
 use Rattle.following.specs.declared.Asked.{Asked}
-use Rattle.following.specs.declared.Asked.TheVariants.{Nothing as askNothing, Table as askTable, Event as askEvent, Bad as askEnd}
+use Rattle.following.specs.declared.Asked.TheVariants.{Nothing as ask_nothing, Table as ask_table, Event as ask_event, Bad as ask_end}
 use Rattle.following.specs.declared.Reading.{Reading}
 use Rattle.following.specs.declared.Ending.{Ending}
 use Rattle.replaying.specs.Events.{EventDone}
@@ -29,16 +29,16 @@ use Rattle.replaying.proofs.Rooms.{take_least, drop_least}
 
 -- nothing is done
 module _ (p : Replay) (next : Script) (room : List ℕ) {r : Turn} where
-  pub nothing-taken : (r.replay ≡ moved p next) × (r.answer ≡ Nothing) → TurnIs (asked_of room p next askNothing) r room
+  pub nothing-taken : (r.replay ≡ moved p next) × (r.answer ≡ Nothing) → TurnIs (asked_of room p next ask_nothing) r room
   nothing-taken d = record { replay = d.0; answer = d.1; room = refl }
 
-  pub end-taken : (line : ℕ) → (r.replay ≡ moved p next) × (r.answer ≡ Bad line) → TurnIs (asked_of room p next (askEnd line)) r room
+  pub end-taken : (line : ℕ) → (r.replay ≡ moved p next) × (r.answer ≡ Bad line) → TurnIs (asked_of room p next (ask_end line)) r room
   end-taken line d = record { replay = d.0; answer = d.1; room = refl }
 
 -- in the lent words
 module _ (p : Replay) (next : Script) (room : List ℕ) {r : Turn} {n : ℕ} (lent : n ≡ min p.words (length room)) where
   pub event_taken : {x : Answer} {u : Table} (q : ScriptCall) (under : Cut) → EventDone q under (take n room) x u
-      → (r.replay ≡ counted p next) × (r.answer ≡ x) → TurnIs (asked_of room p next (askEvent q under)) r (u ++ drop n room)
+      → (r.replay ≡ counted p next) × (r.answer ≡ x) → TurnIs (asked_of room p next (ask_event q under)) r (u ++ drop n room)
   event_taken {x} {u} q under d c =
       let table : take n room ≡ take p.words room = ap (λ (k : ℕ). take k room) lent ∙ take_least p.words room in
       let rest : drop n room ≡ drop p.words room = ap (λ (k : ℕ). drop k room) lent ∙ drop_least p.words room in
@@ -60,7 +60,7 @@ finish_as p torn e q f = f ∙ ap (finished p) q
 
 module _ (p : Replay) (next : Script) (room : List ℕ) (c k mul1 mul2 : ℕ) where
   pub too_large_lem : {r : Turn} → 8 < c → (r.replay ≡ stopped p next) × (r.answer ≡ CreatedAs (Denied BadCreation))
-      → TurnIs (asked_of room p next (askTable c k mul1 mul2)) r room
+      → TurnIs (asked_of room p next (ask_table c k mul1 mul2)) r room
   too_large_lem l e = rw (lt-leb c 8 l) (record { replay = e.0; answer = e.1; room = refl })
 
   module _ {n : ℕ} (lent : n ≡ min (words_for c) (length room)) (small : c ≤ 8) (v : Verdict) (u : Table)
@@ -73,16 +73,16 @@ module _ (p : Replay) (next : Script) (room : List ℕ) (c k mul1 mul2 : ℕ) wh
         let same = verdict_one v (create_result (take (words_for c) room) 1 c k mul1 mul2).0 m.answer in
         sym (rw (same, m.table))
 
-    asked-table : asked_of room p next (askTable c k mul1 mul2) ≡ created p next room c (v, u)
+    asked-table : asked_of room p next (ask_table c k mul1 mul2) ≡ created p next room c (v, u)
     asked-table = rw (le-leb c 8 small, result)
 
     rest : drop n room ≡ drop (words_for c) room
     rest = ap (λ (j : ℕ). drop j room) lent ∙ drop_least (words_for c) room
 
     pub table_taken : {r : Turn} → v ≡ Done → (r.replay ≡ record { script = next; words = words_for c; events = p.events })
-        → r.answer ≡ CreatedAs Done → TurnIs (asked_of room p next (askTable c k mul1 mul2)) r (u ++ drop n room)
+        → r.answer ≡ CreatedAs Done → TurnIs (asked_of room p next (ask_table c k mul1 mul2)) r (u ++ drop n room)
     table_taken d a b = rw (asked-table, d) (record { replay = a; answer = b; room = rw rest })
 
     pub table_denied : {r : Turn} {e : Refusal} → v ≡ Denied e → (r.replay ≡ stopped p next) × (r.answer ≡ CreatedAs (Denied e))
-        → TurnIs (asked_of room p next (askTable c k mul1 mul2)) r (u ++ drop n room)
+        → TurnIs (asked_of room p next (ask_table c k mul1 mul2)) r (u ++ drop n room)
     table_denied d a = rw (asked-table, d) (record { replay = a.0; answer = a.1; room = rw rest })

@@ -10,10 +10,10 @@ use Rattle.rules.specs.declared.Verdict.TheVariants.{Done, Denied}
 use Rattle.lines.specs.declared.Line.{Line}
 use Rattle.following.specs.Scripts.{start, reading_of, ending_of}
 use Rattle.following.specs.declared.Due.TheVariants.{Nothing as no_more}
-use Rattle.following.specs.declared.Cut.TheVariants.{None as noCut}
+use Rattle.following.specs.declared.Cut.TheVariants.{None as no_cut}
 use Rattle.following.specs.declared.Script.{Script}
 use Rattle.following.specs.declared.Asked.{Asked}
-use Rattle.following.specs.declared.Asked.TheVariants.{Nothing as askNothing, Table as askTable, Event as askEvent, Bad as askEnd}
+use Rattle.following.specs.declared.Asked.TheVariants.{Nothing as ask_nothing, Table as ask_table, Event as ask_event, Bad as ask_end}
 use Rattle.following.specs.declared.Ending.{Ending}
 use Rattle.following.specs.declared.Ending.TheVariants.{Whole, Bad as Torn, Over}
 use Rattle.replaying.specs.Events.{answer_to, table_after}
@@ -46,7 +46,7 @@ abbrev pub counted : Replay → Script → Replay
 counted p next = record { script = next; words = p.words; events = (p.events + 1) % 2 ^ 64 }
 
 abbrev pub stopped : Replay → Script → Replay
-stopped p next = moved p (record { due = no_more; event = Begin; first = 0; second = 0; third = 0; cut = noCut; lines = next.lines })
+stopped p next = moved p (record { due = no_more; event = Begin; first = 0; second = 0; third = 0; cut = no_cut; lines = next.lines })
 
 -- ---- the table
 
@@ -67,11 +67,11 @@ abbrev pub table_of : Replay → List ℕ → Table
 table_of p room = take p.words room
 
 abbrev pub asked_of : List ℕ → Replay → Script → Asked → Turned
-asked_of room p next askNothing = record { replay = moved p next; room = room; answer = Nothing }
-asked_of room p next (askEnd line) = record { replay = moved p next; room = room; answer = Bad line }
-asked_of room p next (askTable c k mul1 mul2) =
+asked_of room p next ask_nothing = record { replay = moved p next; room = room; answer = Nothing }
+asked_of room p next (ask_end line) = record { replay = moved p next; room = room; answer = Bad line }
+asked_of room p next (ask_table c k mul1 mul2) =
     cond (nat_le c 8) (created p next room c (create_result (take (words_for c) room) 1 c k mul1 mul2)) (too_large p next room)
-asked_of room p next (askEvent q under) =
+asked_of room p next (ask_event q under) =
     record {
       replay = counted p next;
       room = in_room p.words room (table_after (table_of p room) q under);

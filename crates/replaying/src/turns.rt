@@ -1,7 +1,7 @@
 // What a line makes of a replay.
 ghost use Rattle.std.specs.Prelude.{◌≡◌};
 ghost use Rattle.rules.specs.declared.Verdict.TheVariants.{Denied};
-ghost use Rattle.following.specs.declared.Asked.TheVariants.{Table as askTable, Event as askEvent};
+ghost use Rattle.following.specs.declared.Asked.TheVariants.{Table as ask_table, Event as ask_event};
 ghost use Rattle.replaying.specs.declared.Answer.TheVariants.{Created};
 ghost use Rattle.replaying.specs.Replays.{begun as begun_of, stopped, counted, moved, asked_of, turn_of, finish_of, TurnIs};
 
@@ -49,7 +49,7 @@ fn unmade(p: Replay, next: Script, refusal: Refusal) -> Turn
 
 // "Program cap is at most 8; a larger one gives `made=13`." The table is made in the first of the lent words.
 fn tabled(p: Replay, next: Script, room: &mut [u64], c: u64, k: u64, mul1: u64, mul2: u64) -> Turn
-    ensures { TurnIs (asked_of room.old p next (askTable c k mul1 mul2)) result room.new }
+    ensures { TurnIs (asked_of room.old p next (ask_table c k mul1 mul2)) result room.new }
 {
     if 8 < c {
         return unmade(p, next, Refusal::BadCreation);
@@ -86,7 +86,7 @@ fn answered(p: Replay, next: Script, answer: Answer) -> Turn
 
 // Carries out one event, which the script need not have.
 pub fn evented(p: Replay, next: Script, room: &mut [u64], call: ScriptCall, cut: Cut) -> Turn
-    ensures { TurnIs (asked_of room.old p next (askEvent call cut)) result room.new }
+    ensures { TurnIs (asked_of room.old p next (ask_event call cut)) result room.new }
 {
     let lent = least(p.words, room.len());
     let answer = event(&mut room[..lent], call, cut);

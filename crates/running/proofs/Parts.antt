@@ -11,10 +11,10 @@ use Rattle.lines.specs.Lines.{line_of}
 use Rattle.lines.specs.declared.Line.{Line}
 use Rattle.following.specs.Scripts.{expected, reading_of, at_event, ended_at, ending_of}
 use Rattle.following.specs.declared.Due.{Due}
-use Rattle.following.specs.declared.Due.TheVariants.{Number as a_number, Event as anEvent, Nothing as no_more}
+use Rattle.following.specs.declared.Due.TheVariants.{Number as a_number, Event as an_event, Nothing as no_more}
 use Rattle.following.specs.declared.Cut.{Cut}
-use Rattle.following.specs.declared.Cut.TheVariants.{None as noCut, After as cutAfter}
-use Rattle.following.specs.declared.Asked.TheVariants.{Nothing as askNothing}
+use Rattle.following.specs.declared.Cut.TheVariants.{None as no_cut, After as cut_after}
+use Rattle.following.specs.declared.Asked.TheVariants.{Nothing as ask_nothing}
 use Rattle.following.specs.declared.Reading.{Reading}
 use Rattle.replaying.specs.Replays.{Turned, asked_of, turn_of, finished, finish_of}
 use Rattle.replaying.specs.declared.Answer.{Answer}
@@ -73,10 +73,10 @@ false_true e = let z : ◌≡◌ {A = ℕ} 0 1 = ap (λ (b : Bool). cond b 1 0) 
 over-due : (d : Due) → over_at d ≡ true → d ≡ no_more
 over-due no_more e = refl
 over-due (a_number w) e = absurd (false_true e)
-over-due anEvent e = absurd (false_true e)
+over-due an_event e = absurd (false_true e)
 
 module _ (p : Replay) (d : p.script.due ≡ no_more) (room : List ℕ) where
-  stays : (l : Line) → reading_of p.script l ≡ record { script = p.script; asked = askNothing }
+  stays : (l : Line) → reading_of p.script l ≡ record { script = p.script; asked = ask_nothing }
   unfolding reading_of
   stays l = ap (λ (x : Due). expected p.script x l) d
 
@@ -115,13 +115,13 @@ known_is_all run room line input e = known-silent run.replay (over-due run.repla
 
 unended : (p : Replay) (torn : Bool) (d : Due) → over_at d ≡ false → silent (finished p (ended_at p.script d torn)) ≡ false
 unended p torn (a_number w) e = refl
-unended p torn anEvent e = at p.script.cut torn
+unended p torn an_event e = at p.script.cut torn
   where
     at : (c : Cut) (b : Bool) → silent (finished p (at_event p.script c b)) ≡ false
-    at noCut true = refl
-    at noCut false = refl
-    at (cutAfter n line) true = refl
-    at (cutAfter n line) false = refl
+    at no_cut true = refl
+    at no_cut false = refl
+    at (cut_after n line) true = refl
+    at (cut_after n line) false = refl
 unended p torn no_more e = absurd (false_true (sym e))
 
 pub unknown_is_not_all : UnknownIsNotAll

@@ -4,7 +4,7 @@ use Rattle.std.specs.Prelude.{ℕ, ◌+◌, ◌≤◌, ◌≡◌, Bool, true, fa
 use Rattle.lines.specs.Lines.{line_of}
 use Rattle.lines.specs.declared.Line.{Line}
 use Rattle.following.specs.declared.Due.{Due}
-use Rattle.following.specs.declared.Due.TheVariants.{Number as a_number, Event as anEvent, Nothing as no_more}
+use Rattle.following.specs.declared.Due.TheVariants.{Number as a_number, Event as an_event, Nothing as no_more}
 use Rattle.replaying.specs.Replays.{begun, Turned, turn_of, finish_of}
 use Rattle.replaying.specs.declared.Answer.{Answer}
 use Rattle.replaying.specs.declared.Answer.TheVariants.{Nothing, Created, Changed, Kept, Found, Events, Bad}
@@ -112,7 +112,7 @@ ByteTaken run room line byte r left held = TakenIs (byte_taken run room line byt
 -- "and stop", "and no event line is read": all that is answered is known
 abbrev pub over_at : Due → Bool
 over_at (a_number name) = false
-over_at anEvent = false
+over_at an_event = false
 over_at no_more = true
 
 abbrev pub known : Run → Bool

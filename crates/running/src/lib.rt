@@ -2,7 +2,7 @@
 #![tactic(auto)]
 
 ghost use Rattle.std.specs.Prelude.{◌≡◌};
-ghost use Rattle.running.specs.Runs.{ready as readyOf, HeldIs, LineTaken, ByteTaken, known as known_of, end_of};
+ghost use Rattle.running.specs.Runs.{ready as ready_of, HeldIs, LineTaken, ByteTaken, known as known_of, end_of};
 
 use following::Due;
 use lines::parse;
@@ -37,7 +37,7 @@ pub enum Outcome {
 }
 
 pub fn ready() -> Run
-    ensures { result ≡ readyOf }
+    ensures { result ≡ ready_of }
 {
     let replay = begun();
     Run { replay, held: 0 }

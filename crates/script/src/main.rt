@@ -7,7 +7,7 @@ ghost use Rattle.std.specs.Prelude.{◌≤◌, ◌≡◌, length, take};
 ghost use Rattle.rules.specs.Words.{words_for};
 ghost use Rattle.running.specs.Runs.{end_of};
 ghost use Rattle.saying.specs.Texts.{text_of, text_bytes};
-ghost use Rattle.script.specs.Parts.{standing, begun, pauses as pausesOf, TookSome, TookPart, WentOn, ReadSome, Ran};
+ghost use Rattle.script.specs.Parts.{standing, begun, pauses as pauses_of, TookSome, TookPart, WentOn, ReadSome, Ran};
 
 use running::{LINE_ROOM, Run, end, known, ready, take_byte};
 use saying::{STDERR, STDOUT, TEXT_BYTES, say_at};
@@ -23,7 +23,7 @@ struct Took {
 
 // Whether no byte more is taken: the answer is known, or fewer bytes are free than `say_at` asks for.
 fn pauses(run: Run, free: usize) -> bool
-    ensures { result ≡ pausesOf run free }
+    ensures { result ≡ pauses_of run free }
 {
     if known(run) {
         return true;
