@@ -2,7 +2,7 @@
 -- Assumes nothing.
 use Prim.Native.Nat.{ℕ, suc, ◌+◌, ◌≤◌, ◌<◌}
 use mathlib.Core.Path.{◌≡◌, refl, sym, ap, ◌∙◌}
-use mathlib.Core.Bool.{Bool, true, false, cond}
+use mathlib.Core.Bool.{Bool, true, false}
 use mathlib.Core.List.{List, [], ◌∷◌, ◌++◌}
 use native.Mathlib.Numerals.{add-one}
 use native.Mathlib.Omega.{arith}
@@ -21,7 +21,6 @@ use Rattle.convert.specs.Parts.{ended_by, Point, standing, begun, after_byte, is
 use Rattle.convert.specs.Parts.{KnownPartsWritten, PartsAreTaken}
 use Rattle.convert.specs.declared.Ending.{Ending}
 use Rattle.convert.specs.declared.Ending.TheVariants.{Open, Unmade, Bad as BadLine}
-use Rattle.convert.specs.declared.Course.{Course}
 
 -- ---- parts
 

@@ -1,6 +1,6 @@
 -- The definitions of `Outputs` keep what `Sentences` says of the program.
 -- Assumes nothing.
-use Prim.Native.Nat.{ℕ, zero, suc, ◌+◌, ◌/◌, ◌%◌, ◌≤◌, ◌<◌}
+use Prim.Native.Nat.{ℕ, zero, suc, ◌+◌, ◌/◌, ◌%◌}
 use mathlib.Core.Path.{◌≡◌, refl, sym, ap, ◌∙◌}
 use mathlib.Core.Bool.{Bool, true, false, cond}
 use mathlib.Core.List.{List, [], ◌∷◌, ◌++◌, map, flat_map, append-nil, append_assoc}
@@ -10,10 +10,10 @@ use native.Mathlib.Omega.{arith}
 use lib.ListN.{length, take, drop, replicate, length-replicate}
 use lib.Dec.{eqb, leb, ltb}
 use lib.Seq.{take_at}
-use borrow.Author.Tests.{le-leb, eqb-false}
+use borrow.Author.Tests.{eqb-false}
 use Rattle.rules.specs.Choice.{all}
-use Rattle.rules.specs.Words.{Table, words_for, header_of, state_word}
-use Rattle.rules.specs.Answers.{Meaning, number_of, conversion_means}
+use Rattle.rules.specs.Words.{Table, words_for, header_of}
+use Rattle.rules.specs.Answers.{Meaning}
 use Rattle.rules.specs.Results.{change_result, query_result, create_tests, created, create_result}
 use Rattle.rules.specs.Conversions.{convert_result}
 use Rattle.rules.specs.ConversionSentences.{Told}

@@ -103,7 +103,13 @@ struct Turn {
 }
 
 // Reads once, unless all is known, and takes what came.
-fn read_some(stdin: Stdin, course: Course, room: &mut [u64], line: &mut [u8; LINE_ROOM], input: &mut [u8]) -> Turn
+fn read_some(
+    stdin: Stdin,
+    course: Course,
+    room: &mut [u64],
+    line: &mut [u8; LINE_ROOM],
+    input: &mut [u8],
+) -> Turn
     ensures { ReadSome after_bytes is_known (standing course room.old line.old) input.new result.outcome
         (standing result.course room.new line.new) }
 {

@@ -9,7 +9,6 @@ use lib.ListN.{length, take, get_or}
 use lib.Seq.{take-suc, length-take-le}
 use Rattle.lines.specs.Lines.{bytes}
 use Rattle.lines.specs.Texts.{decimal_text}
-use Rattle.saying.specs.Texts.{line_text}
 use Rattle.saying.specs.Writing.{put_at, Put, line_with}
 use Rattle.saying.proofs.Puts.{then, put_front}
 use Rattle.crediting.specs.Ledgers.{Figures}

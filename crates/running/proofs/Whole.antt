@@ -98,13 +98,13 @@ said-line read line held h = ap line_of h.bytes ∙ line_enough read
 -- ---- every byte in turn
 
 -- what passes over the answers that say nothing is the same over the bytes as over the lines
-module _ {A : Type 0} (with-answer : Answer → A → A) (at_end_lem : List ℕ → Replay → Bool → A)
-    (passes : (x : A) → with-answer Nothing x ≡ x) where
+module _ {A : Type 0} (with_answer : Answer → A → A) (at_end : List ℕ → Replay → Bool → A)
+    (passes : (x : A) → with_answer Nothing x ≡ x) where
   over-read : (bs : List ℕ) (p : Replay) (held : ℕ) (room line read : List ℕ) → Holds read line held
-      → over_bytes with-answer at_end_lem (record { replay = p; held = held }) room line bs
-      ≡ over_lines with-answer at_end_lem room p (map line_of (prefixed read (split bs)).0) (prefixed read (split bs)).1
+      → over_bytes with_answer at_end (record { replay = p; held = held }) room line bs
+      ≡ over_lines with_answer at_end room p (map line_of (prefixed read (split bs)).0) (prefixed read (split bs)).1
   unfolding byte_taken
-  over-read [] p held room line read h = ap (at_end_lem room p) (held-some read line held h)
+  over-read [] p held room line read h = ap (at_end room p) (held-some read line held h)
   over-read (b ∷ bs) p held room line read h =
       go (eqb b 10) (λ q room₂. over-read bs q 0 room₂ line [] (holds-nothing line h.long))
       (over-read bs p _ room _ (read ++ (b ∷ [])) (holds_more read line held b h))
@@ -122,21 +122,21 @@ module _ {A : Type 0} (with-answer : Answer → A → A) (at_end_lem : List ℕ 
 
       go : (d : Bool)
           → ((q : Replay) (room₂ : List ℕ)
-          → over_bytes with-answer at_end_lem (record { replay = q; held = 0 }) room₂ line bs
-          ≡ over_lines with-answer at_end_lem room₂ q (map line_of (prefixed [] (split bs)).0) (prefixed [] (split bs)).1)
-          → over_bytes with-answer at_end_lem (record { replay = p; held = (held_after line held b).0 }) room (held_after line held b).1 bs
-          ≡ over_lines with-answer at_end_lem room p (map line_of (prefixed (read ++ (b ∷ [])) (split bs)).0) (prefixed (read ++ (b ∷ [])) (split bs)).1
-          → with-answer (next d).answer (over_bytes with-answer at_end_lem (next d).run (next d).room (next d).line bs)
-          ≡ over_lines with-answer at_end_lem room p (map line_of (prefixed read (lines d)).0) (prefixed read (lines d)).1
+          → over_bytes with_answer at_end (record { replay = q; held = 0 }) room₂ line bs
+          ≡ over_lines with_answer at_end room₂ q (map line_of (prefixed [] (split bs)).0) (prefixed [] (split bs)).1)
+          → over_bytes with_answer at_end (record { replay = p; held = (held_after line held b).0 }) room (held_after line held b).1 bs
+          ≡ over_lines with_answer at_end room p (map line_of (prefixed (read ++ (b ∷ [])) (split bs)).0) (prefixed (read ++ (b ∷ [])) (split bs)).1
+          → with_answer (next d).answer (over_bytes with_answer at_end (next d).run (next d).room (next d).line bs)
+          ≡ over_lines with_answer at_end room p (map line_of (prefixed read (lines d)).0) (prefixed read (lines d)).1
       go true ended more =
           let said : turn_of room p (line_of (read ++ [])) ≡ t = rw (append-nil read, ← (said-line read line held h)) in
           let rest = rw (prefixed_nothing (split bs)) at (ended t.replay t.room) in
-          rw said (ap (with-answer t.answer) rest)
+          rw said (ap (with_answer t.answer) rest)
       go false ended more = rw (prefixed_joined read b (split bs)) (passes _ ∙ more)
 
   pub over-bytes : (room line input : List ℕ) → length line ≡ line_room
-      → over_bytes with-answer at_end_lem ready room line input
-      ≡ over_lines with-answer at_end_lem room begun (map line_of (split input).0) (split input).1
+      → over_bytes with_answer at_end ready room line input
+      ≡ over_lines with_answer at_end room begun (map line_of (split input).0) (split input).1
   over-bytes room line input long = rw (prefixed_nothing (split input)) at (over-read input begun 0 room line [] (holds-nothing line long))
 
 -- ---- the answers that say something

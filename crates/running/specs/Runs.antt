@@ -44,12 +44,12 @@ some_of (b ∷ bs) = true
 abbrev pub LinesSplit : Type 0
 LinesSplit = (ls : List (List ℕ)) (rest : List ℕ) → Lines ls → NoNewline rest → split (with_ends ls rest) ≡ (ls, some_of rest)
 
--- Every line in turn, then the end, whatever is made of them: `with-answer` makes it of what a line is answered and of what was made of the lines
--- behind it, `at_end_lem` of the words, the replay and whether a line is torn
+-- Every line in turn, then the end, whatever is made of them: `with_answer` makes it of what a line is answered and of what was made of the lines
+-- behind it, `at_end` of the words, the replay and whether a line is torn
 abbrev pub over_lines : {A : Type 0} → (Answer → A → A) → (List ℕ → Replay → Bool → A) → List ℕ → Replay → List Line → Bool → A
-over_lines with-answer at_end_lem room p [] torn = at_end_lem room p torn
-over_lines with-answer at_end_lem room p (l ∷ ls) torn =
-    let t = turn_of room p l in with-answer t.answer (over_lines with-answer at_end_lem t.room t.replay ls torn)
+over_lines with_answer at_end room p [] torn = at_end room p torn
+over_lines with_answer at_end room p (l ∷ ls) torn =
+    let t = turn_of room p l in with_answer t.answer (over_lines with_answer at_end t.room t.replay ls torn)
 
 -- the answers
 abbrev pub answers : List ℕ → Replay → List Line → Bool → List Answer
@@ -125,9 +125,9 @@ end_of run = finish_of run.replay (ltb 0 run.held)
 
 -- the same of every byte in turn
 abbrev pub over_bytes : {A : Type 0} → (Answer → A → A) → (List ℕ → Replay → Bool → A) → Run → List ℕ → List ℕ → List ℕ → A
-over_bytes with-answer at_end_lem run room line [] = at_end_lem room run.replay (ltb 0 run.held)
-over_bytes with-answer at_end_lem run room line (b ∷ bs) =
-    let x = byte_taken run room line b in with-answer x.answer (over_bytes with-answer at_end_lem x.run x.room x.line bs)
+over_bytes with_answer at_end run room line [] = at_end room run.replay (ltb 0 run.held)
+over_bytes with_answer at_end run room line (b ∷ bs) =
+    let x = byte_taken run room line b in with_answer x.answer (over_bytes with_answer at_end x.run x.room x.line bs)
 
 abbrev pub fed : Run → List ℕ → List ℕ → List ℕ → List Answer
 fed run room line [] = end_of run ∷ []

@@ -198,7 +198,13 @@ fn read_some(
 }
 
 // A proved loop has to end, and nothing says that the input does. So the parts are counted, up to a number that no run comes to.
-fn read_all(stdin: Stdin, room: &mut [u64], line: &mut [u8; LINE_ROOM], input: &mut [u8], out: &mut [u8]) -> Turn
+fn read_all(
+    stdin: Stdin,
+    room: &mut [u64],
+    line: &mut [u8; LINE_ROOM],
+    input: &mut [u8],
+    out: &mut [u8],
+) -> Turn
     requires { (words_for 8 ≤ length room.old) × (text_bytes ≤ length out.old) }
     ensures { Ran (begun room.old line.old) result.outcome (standing result.run room.new line.new) }
 {

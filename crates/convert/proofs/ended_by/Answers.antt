@@ -1,6 +1,5 @@
 -- `convert::ended_by` meets its contract.
 -- Assumes nothing.
-use borrow.Author.Rules.{rules}
 use Rattle.convert.proofs.ended_by.Goals as goal
 
 pub returns-in-Bad : goal.returns-in-Bad

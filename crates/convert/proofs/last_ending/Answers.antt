@@ -4,7 +4,6 @@ use borrow.Enum.Refused.{opened}
 use mathlib.Core.Path.{ap, ◌∙◌}
 use Rattle.convert.specs.Parts.{ended_by}
 use Rattle.convert.proofs.Ways.{still_ended}
-use borrow.Author.Rules.{rules}
 use Rattle.convert.proofs.last_ending.Goals as goal
 
 pub returns-in_default : goal.returns-in_default

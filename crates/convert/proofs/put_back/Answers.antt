@@ -1,6 +1,5 @@
 -- `convert::put_back` meets its contract.
 -- Assumes nothing.
-use borrow.Author.Rules.{rules}
 use Rattle.convert.proofs.put_back.Goals as goal
 
 pub returns : goal.returns

@@ -4,7 +4,6 @@ use Rattle.rules.specs.Words.{words_for}
 use native.Mathlib.Omega.{arith}
 use Rattle.replaying.proofs.Rooms.{least_fits}
 use Rattle.convert.proofs.Ways.{zeros-lent, lent-ways}
-use borrow.Author.Rules.{rules}
 use Rattle.convert.proofs.put_table.Goals as goal
 
 pub slice_bounds-put_ways-end-2 : goal.slice_bounds-put_ways-end-2

@@ -2,7 +2,6 @@
 -- Assumes nothing.
 use Rattle.convert.proofs.Ways.{way_put}
 use native.Mathlib.Omega.{arith}
-use borrow.Author.Rules.{rules}
 use Rattle.convert.proofs.put_way.Goals as goal
 
 pub returns : goal.returns

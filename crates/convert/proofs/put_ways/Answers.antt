@@ -3,7 +3,6 @@
 use borrow.Enum.Refused.{opened}
 use Rattle.saying.proofs.Puts.{then, put_front}
 use Rattle.convert.proofs.Ways.{way_alone, ways_both}
-use borrow.Author.Rules.{rules}
 use Rattle.convert.proofs.put_ways.Goals as goal
 
 pub returns-in_default : goal.returns-in_default

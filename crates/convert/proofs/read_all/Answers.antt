@@ -1,15 +1,12 @@
 -- `convert::read_all` meets its contract.
 -- Assumes nothing.
 use borrow.Enum.Refused.{opened}
-use Prim.Native.Nat.{◌-◌, ◌^◌, ◌<◌}
-use mathlib.Core.Path.{◌≡◌, refl}
+use mathlib.Core.Path.{refl}
 use native.Mathlib.Omega.{arith}
-use lib.ListN.{length}
 use borrow.Author.Rules.{rules}
 use Rattle.replaying.proofs.Enough.{room_is_enough}
-use Rattle.running.specs.Runs.{Behind}
 use Rattle.running.proofs.Inputs.{not_going, behind-none, behind-next, ran, ran_on}
-use Rattle.convert.specs.Parts.{standing, begun, is_known, after_bytes}
+use Rattle.convert.specs.Parts.{is_known}
 use Rattle.convert.proofs.Parts.{takes}
 use Rattle.convert.proofs.read_all.Goals as goal
 

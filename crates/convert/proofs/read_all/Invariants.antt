@@ -1,15 +1,10 @@
 -- `convert::read_all` meets its contract.
 -- Assumes nothing.
 use Prim.Native.Nat.{◌-◌, ◌^◌, ◌<◌}
-use mathlib.Core.Path.{◌≡◌, refl}
-use native.Mathlib.Omega.{arith}
+use mathlib.Core.Path.{◌≡◌}
 use lib.ListN.{length}
-use borrow.Author.Rules.{rules}
-use Rattle.replaying.proofs.Enough.{room_is_enough}
 use Rattle.running.specs.Runs.{Behind}
-use Rattle.running.proofs.Inputs.{not_going, behind-none, behind-next, ran, ran_on}
-use Rattle.convert.specs.Parts.{standing, begun, is_known, after_bytes}
-use Rattle.convert.proofs.Parts.{takes}
+use Rattle.convert.specs.Parts.{standing, begun, after_bytes}
 use Rattle.convert.proofs.read_all.Given as goal
 
 abbrev pub invariant-loop-parts : goal.invariant-loop-parts

@@ -4,7 +4,6 @@ use mathlib.Core.Path.{sym, ◌∙◌}
 use Rattle.running.proofs.Inputs.{read_known, read_failed, read-ended, read_taken}
 use Rattle.convert.specs.Parts.{is_known}
 use Rattle.convert.proofs.Parts.{takes}
-use borrow.Author.Rules.{rules}
 use Rattle.convert.proofs.read_some.Goals as goal
 
 pub returns-then-known : goal.returns-then-known

@@ -4,7 +4,6 @@ use mathlib.Core.Path.{refl}
 use Rattle.saying.proofs.LinesPut.{line-put}
 use Rattle.convert.specs.declared.Ending.TheVariants.{Open}
 use Rattle.convert.proofs.Ways.{told_as}
-use borrow.Author.Rules.{rules}
 use Rattle.convert.proofs.report.Goals as goal
 
 pub returns-in-Open : goal.returns-in-Open

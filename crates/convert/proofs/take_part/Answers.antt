@@ -1,12 +1,9 @@
 -- `convert::take_part` meets its contract.
 -- Assumes nothing.
-use Prim.Native.Nat.{◌-◌}
-use mathlib.Core.Path.{◌≡◌, refl, sym, ◌∙◌}
+use mathlib.Core.Path.{refl, sym, ◌∙◌}
 use native.Mathlib.Omega.{arith}
-use lib.ListN.{length}
 use borrow.Author.Rules.{rules}
-use Rattle.convert.specs.Parts.{standing}
-use Rattle.convert.proofs.Parts.{Passed, passed_none, passed_known, passed_more, passed_all}
+use Rattle.convert.proofs.Parts.{passed_none, passed_known, passed_more, passed_all}
 use Rattle.convert.proofs.take_part.Goals as goal
 
 pub loop-i-init : goal.loop-i-init

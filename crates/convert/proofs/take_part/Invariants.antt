@@ -1,12 +1,10 @@
 -- `convert::take_part` meets its contract.
 -- Assumes nothing.
 use Prim.Native.Nat.{◌-◌}
-use mathlib.Core.Path.{◌≡◌, refl, sym, ◌∙◌}
-use native.Mathlib.Omega.{arith}
+use mathlib.Core.Path.{◌≡◌}
 use lib.ListN.{length}
-use borrow.Author.Rules.{rules}
 use Rattle.convert.specs.Parts.{standing}
-use Rattle.convert.proofs.Parts.{Passed, passed_none, passed_known, passed_more, passed_all}
+use Rattle.convert.proofs.Parts.{Passed}
 use Rattle.convert.proofs.take_part.Given as goal
 
 abbrev pub invariant-loop-i : goal.invariant-loop-i

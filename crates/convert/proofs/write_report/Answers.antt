@@ -1,7 +1,6 @@
 -- `convert::write_report` meets its contract.
 -- Assumes nothing.
 use Rattle.saying.proofs.Puts.{front-text}
-use borrow.Author.Rules.{rules}
 use Rattle.convert.proofs.write_report.Goals as goal
 
 pub returns : goal.returns

@@ -1,6 +1,6 @@
 -- `corners::run` is safe and ends: each line ends within the text. The measure is what is left of it.
 -- Assumes nothing.
-use Rattle.std.proofs.Common.{◌-◌, length, rules}
+use Rattle.std.proofs.Common.{◌-◌, length}
 use Rattle.corners.proofs.run.Given as goal
 
 abbrev pub invariant-loop-at : goal.invariant-loop-at

@@ -1,18 +1,13 @@
 -- `ledger::read_all` meets its contract.
 -- Assumes nothing.
 use borrow.Enum.Refused.{opened}
-use Rattle.running.specs.Runs.{Behind}
 use Rattle.running.proofs.Inputs.{behind-next, not_going, ran, ran_on}
 use Rattle.ledger.specs.Parts.{known_in}
 use Rattle.ledger.proofs.Parts.{takes, behind-first, orderly-none}
-use Rattle.posting.specs.Posts.{begun, after_bytes, post_of}
 use Rattle.replaying.proofs.Enough.{room_is_enough}
-use Rattle.tallying.specs.Credits.{Orderly}
 use borrow.Author.Rules.{rules}
-use lib.ListN.{length}
 use native.Mathlib.Omega.{arith}
-use mathlib.Core.Path.{◌≡◌, refl}
-use Prim.Native.Nat.{◌-◌, ◌^◌, ◌<◌}
+use mathlib.Core.Path.{refl}
 use Rattle.ledger.proofs.read_all.Goals as goal
 
 pub loop-parts-init : goal.loop-parts-init
@@ -32,16 +27,14 @@ pub read_some-turn-requires : goal.read_some-turn-requires
 read_some-turn-requires c = c.loop-parts.invariant.5
 
 pub returns-in_default : goal.returns-in_default
-returns-in_default c =
-    (
-      ran takes known_in c.loop-parts.invariant.6 c.read_some-turn.ensures.0 (not_going c.read_some-turn.result.outcome (opened c.in_default.in_default-own.keys2)),
-      c.read_some-turn.ensures.1,
-      room_is_enough 8 _ c.requires.0,
-    )
+returns-in_default c = (
+  ran takes known_in c.loop-parts.invariant.6 c.read_some-turn.ensures.0 (not_going c.read_some-turn.result.outcome (opened c.in_default.in_default-own.keys2)),
+  c.read_some-turn.ensures.1,
+  room_is_enough 8 _ c.requires.0,
+)
 
 pub loop-parts-preserved : goal.loop-parts-preserved
-loop-parts-preserved c =
-    (
+loop-parts-preserved c = (
   search rules,
   search rules,
   search rules,

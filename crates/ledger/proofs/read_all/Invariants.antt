@@ -1,16 +1,10 @@
 -- `ledger::read_all` meets its contract.
 -- Assumes nothing.
 use Rattle.running.specs.Runs.{Behind}
-use Rattle.running.proofs.Inputs.{behind-next, not_going, ran, ran_on}
-use Rattle.ledger.specs.Parts.{known_in}
-use Rattle.ledger.proofs.Parts.{takes, behind-first, orderly-none}
 use Rattle.posting.specs.Posts.{begun, after_bytes, post_of}
-use Rattle.replaying.proofs.Enough.{room_is_enough}
 use Rattle.tallying.specs.Credits.{Orderly}
-use borrow.Author.Rules.{rules}
 use lib.ListN.{length}
-use native.Mathlib.Omega.{arith}
-use mathlib.Core.Path.{◌≡◌, refl}
+use mathlib.Core.Path.{◌≡◌}
 use Prim.Native.Nat.{◌-◌, ◌^◌, ◌<◌}
 use Rattle.ledger.proofs.read_all.Given as goal
 

@@ -4,7 +4,6 @@ use Rattle.running.proofs.Inputs.{read_known, read_failed, read-ended, read_take
 use Rattle.ledger.specs.Parts.{known_in}
 use Rattle.ledger.proofs.Parts.{takes}
 use mathlib.Core.Path.{sym, ◌∙◌}
-use borrow.Author.Rules.{rules}
 use Rattle.ledger.proofs.read_some.Goals as goal
 
 pub returns-then-known : goal.returns-then-known

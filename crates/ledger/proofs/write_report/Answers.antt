@@ -3,7 +3,6 @@
 use Rattle.ledger.proofs.Parts.{report_fronted}
 use Rattle.crediting.proofs.Steps.{turned-orderly}
 use native.Mathlib.Omega.{arith}
-use borrow.Author.Rules.{rules}
 use Rattle.ledger.proofs.write_report.Goals as goal
 
 pub report-n-requires : goal.report-n-requires

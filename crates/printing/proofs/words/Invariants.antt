@@ -1,7 +1,6 @@
 -- `printing::words` is safe and ends: the measure is the number of words left.
 -- Assumes nothing.
 use Prim.Native.Nat.{◌-◌}
-use borrow.Author.Rules.{rules}
 use Rattle.printing.proofs.words.Given as goal
 
 abbrev pub invariant-loop-i : goal.invariant-loop-i

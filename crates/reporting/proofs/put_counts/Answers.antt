@@ -2,7 +2,6 @@
 -- Assumes nothing.
 use Rattle.crediting.specs.Books.{figures_in}
 use Rattle.reporting.proofs.Putting.{counts-put}
-use borrow.Author.Rules.{rules}
 use Rattle.reporting.proofs.put_counts.Goals as goal
 
 pub returns : goal.returns

@@ -3,7 +3,6 @@
 use Rattle.saying.proofs.Puts.{put-fits, put-lent, put_again}
 use Rattle.reporting.proofs.Putting.{function-put}
 use native.Mathlib.Omega.{arith}
-use borrow.Author.Rules.{rules}
 use Rattle.reporting.proofs.put_function.Goals as goal
 
 pub slice_bounds-text-end : goal.slice_bounds-text-end
@@ -13,19 +12,18 @@ pub slice_bounds-copy-end : goal.slice_bounds-copy-end
 slice_bounds-copy-end c = put-lent c.copy_text-n.ensures.0
 
 pub copy-requires : goal.copy-requires
-copy-requires c =
-    (
-      omega (arith, put-lent c.copy_text-n.ensures.0),
-      omega (
-        arith,
-        c.requires,
-        c.copy_text-n.ensures.1,
-        c.tell-counted.ensures.1,
-        c.copy_text-equal.ensures.1,
-        c.tell-told.ensures.1,
-        c.copy_text-named.ensures.1,
-      ),
-    )
+copy-requires c = (
+  omega (arith, put-lent c.copy_text-n.ensures.0),
+  omega (
+    arith,
+    c.requires,
+    c.copy_text-n.ensures.1,
+    c.tell-counted.ensures.1,
+    c.copy_text-equal.ensures.1,
+    c.tell-told.ensures.1,
+    c.copy_text-named.ensures.1,
+  ),
+)
 
 pub returns : goal.returns
 returns c =

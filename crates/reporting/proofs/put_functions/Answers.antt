@@ -1,11 +1,9 @@
 -- `reporting::put_functions` meets its contract.
 -- Assumes nothing.
-use Rattle.reporting.proofs.Putting.{Lines, lines_none, lines_more, lines-all}
+use Rattle.reporting.proofs.Putting.{lines_none, lines_more, lines-all}
 use borrow.Author.Rules.{rules}
-use lib.ListN.{length}
 use native.Mathlib.Omega.{arith}
-use mathlib.Core.Path.{◌≡◌, refl}
-use Prim.Native.Nat.{◌-◌, ◌≤◌}
+use mathlib.Core.Path.{refl}
 use Rattle.reporting.proofs.put_functions.Goals as goal
 
 pub loop-i-init : goal.loop-i-init

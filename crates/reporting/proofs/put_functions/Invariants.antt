@@ -1,10 +1,8 @@
 -- `reporting::put_functions` meets its contract.
 -- Assumes nothing.
-use Rattle.reporting.proofs.Putting.{Lines, lines_none, lines_more, lines-all}
-use borrow.Author.Rules.{rules}
+use Rattle.reporting.proofs.Putting.{Lines}
 use lib.ListN.{length}
-use native.Mathlib.Omega.{arith}
-use mathlib.Core.Path.{◌≡◌, refl}
+use mathlib.Core.Path.{◌≡◌}
 use Prim.Native.Nat.{◌-◌, ◌≤◌}
 use Rattle.reporting.proofs.put_functions.Given as goal
 

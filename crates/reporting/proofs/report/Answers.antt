@@ -4,7 +4,6 @@ use Rattle.saying.proofs.LinesPut.{line-put}
 use Rattle.reporting.proofs.Putting.{reported}
 use Rattle.rules.specs.Answers.{number_of}
 use mathlib.Core.Path.{refl}
-use borrow.Author.Rules.{rules}
 use Rattle.reporting.proofs.report.Goals as goal
 
 pub returns-in-Script : goal.returns-in-Script

@@ -2,7 +2,6 @@
 -- Assumes nothing.
 use native.Mathlib.Omega.{arith}
 use Rattle.saying.proofs.LinesPut.{line_before, last_line, change-lines}
-use borrow.Author.Rules.{rules}
 use Rattle.saying.proofs.changed.Goals as goal
 
 pub returns : goal.returns

@@ -1,10 +1,8 @@
 -- `saying::copy` meets its contract: before byte i, the first i bytes are put.
 -- Assumes nothing.
-use Prim.Native.Nat.{◌-◌, ◌≤◌}
-use mathlib.Core.Path.{◌≡◌, refl}
+use mathlib.Core.Path.{refl}
 use native.Mathlib.Omega.{arith}
-use lib.ListN.{length, take, length-set}
-use Rattle.saying.specs.Writing.{put_at}
+use lib.ListN.{length-set}
 use Rattle.saying.proofs.Puts.{put-none, put_next, put_all}
 use Rattle.saying.proofs.copy.Goals as goal
 

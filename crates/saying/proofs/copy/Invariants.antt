@@ -1,11 +1,9 @@
 -- `saying::copy` meets its contract: before byte i, the first i bytes are put.
 -- Assumes nothing.
 use Prim.Native.Nat.{◌-◌, ◌≤◌}
-use mathlib.Core.Path.{◌≡◌, refl}
-use native.Mathlib.Omega.{arith}
-use lib.ListN.{length, take, length-set}
+use mathlib.Core.Path.{◌≡◌}
+use lib.ListN.{length, take}
 use Rattle.saying.specs.Writing.{put_at}
-use Rattle.saying.proofs.Puts.{put-none, put_next, put_all}
 use Rattle.saying.proofs.copy.Given as goal
 
 abbrev pub invariant-loop-i : goal.invariant-loop-i

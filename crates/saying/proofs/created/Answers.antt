@@ -1,7 +1,6 @@
 -- `saying::created` meets its contract: its lines are put one after the other.
 -- Assumes nothing.
 use Rattle.saying.proofs.LinesPut.{created_done, created_denied}
-use borrow.Author.Rules.{rules}
 use Rattle.saying.proofs.created.Goals as goal
 
 pub returns-in-Done : goal.returns-in-Done

@@ -1,6 +1,5 @@
 -- `saying::found` meets its contract.
 -- Assumes nothing.
-use borrow.Author.Rules.{rules}
 use Rattle.saying.proofs.LinesPut.{found-put}
 use Rattle.saying.proofs.found.Goals as goal
 

@@ -1,7 +1,6 @@
 -- `saying::found_lines` meets its contract: its lines are put one after the other.
 -- Assumes nothing.
 use Rattle.saying.proofs.LinesPut.{line_before, last_line}
-use borrow.Author.Rules.{rules}
 use Rattle.saying.proofs.found_lines.Goals as goal
 
 pub returns : goal.returns

@@ -3,7 +3,6 @@
 use Rattle.replaying.specs.declared.Answer.TheVariants.{Changed}
 use Rattle.saying.specs.Texts.{lines_of}
 use Rattle.saying.proofs.LinesPut.{line_after}
-use borrow.Author.Rules.{rules}
 use Rattle.saying.proofs.kept.Goals as goal
 
 pub returns : goal.returns

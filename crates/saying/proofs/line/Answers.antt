@@ -1,6 +1,5 @@
 -- `saying::line` meets its contract: a name, a decimal and a newline, put one after the other.
 -- Assumes nothing.
-use mathlib.Core.Path.{refl}
 use lib.Seq.{take-length}
 use Rattle.saying.specs.Writing.{line_with}
 use Rattle.saying.proofs.Puts.{then}

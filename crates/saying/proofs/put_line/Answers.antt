@@ -2,7 +2,6 @@
 -- Assumes nothing.
 use Rattle.saying.proofs.Puts.{put-fits, put-lent, put_again}
 use native.Mathlib.Omega.{arith}
-use borrow.Author.Rules.{rules}
 use Rattle.saying.proofs.put_line.Goals as goal
 
 pub slice_bounds-row-end : goal.slice_bounds-row-end

@@ -1,7 +1,6 @@
 -- `saying::say` meets its contract, case by case.
 -- Assumes nothing.
 use Rattle.saying.proofs.LinesPut.{said, said-nothing, last_line}
-use borrow.Author.Rules.{rules}
 use Rattle.saying.proofs.say.Goals as goal
 
 pub returns-in-Nothing : goal.returns-in-Nothing

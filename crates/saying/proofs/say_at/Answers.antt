@@ -2,7 +2,6 @@
 -- Assumes nothing.
 use native.Mathlib.Omega.{arith}
 use Rattle.saying.proofs.LinesPut.{nothing_put, said_put}
-use borrow.Author.Rules.{rules}
 use Rattle.saying.proofs.say_at.Goals as goal
 
 pub returns-in-Nothing : goal.returns-in-Nothing

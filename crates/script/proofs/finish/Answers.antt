@@ -2,7 +2,6 @@
 -- Assumes nothing.
 use mathlib.Core.Path.{sym}
 use lib.Seq.{length-take-le}
-use borrow.Author.Rules.{rules}
 use Rattle.script.proofs.Parts.{end-put}
 use Rattle.std.proofs.Common.{arith}
 use Rattle.script.proofs.finish.Goals as goal

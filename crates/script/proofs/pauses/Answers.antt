@@ -1,6 +1,5 @@
 -- `script::pauses` meets its contract.
 -- Assumes nothing.
-use borrow.Author.Rules.{rules}
 use Rattle.script.proofs.Parts.{pauses-free}
 use Rattle.script.proofs.pauses.Goals as goal
 

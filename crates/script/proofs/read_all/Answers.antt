@@ -1,13 +1,9 @@
 -- `script::read_all` meets its contract: the run stands behind the parts that were read.
 -- Assumes nothing.
 use borrow.Enum.Refused.{opened}
-use Prim.Native.Nat.{◌-◌, ◌^◌, ◌<◌}
-use mathlib.Core.Path.{◌≡◌, refl}
+use mathlib.Core.Path.{refl}
 use native.Mathlib.Omega.{arith}
-use lib.ListN.{length}
 use borrow.Author.Rules.{rules}
-use Rattle.running.specs.Runs.{after_bytes, Behind}
-use Rattle.script.specs.Parts.{begun}
 use Rattle.script.proofs.Parts.{behind-none, behind-next, not_going, ran, ran_on}
 use Rattle.replaying.proofs.Enough.{room_is_enough}
 use Rattle.script.proofs.read_all.Goals as goal
@@ -21,14 +17,13 @@ returns-in_default c =
     c.read_some-turn.ensures (not_going _ (opened c.in_default.in_default-own.keys2))
 
 pub loop-parts-preserved : goal.loop-parts-preserved
-loop-parts-preserved c =
-    (
-      search rules,
-      search rules,
-      search rules,
-      omega (arith, c.loop-parts-test.true),
-      behind-next c.loop-parts.invariant.4 c.read_some-turn.ensures c.in-Going.is,
-    )
+loop-parts-preserved c = (
+  search rules,
+  search rules,
+  search rules,
+  omega (arith, c.loop-parts-test.true),
+  behind-next c.loop-parts.invariant.4 c.read_some-turn.ensures c.in-Going.is,
+)
 
 pub returns : goal.returns
 returns c =

@@ -1,14 +1,10 @@
 -- `script::read_all` meets its contract: the run stands behind the parts that were read.
 -- Assumes nothing.
 use Prim.Native.Nat.{◌-◌, ◌^◌, ◌<◌}
-use mathlib.Core.Path.{◌≡◌, refl}
-use native.Mathlib.Omega.{arith}
+use mathlib.Core.Path.{◌≡◌}
 use lib.ListN.{length}
-use borrow.Author.Rules.{rules}
 use Rattle.running.specs.Runs.{after_bytes, Behind}
 use Rattle.script.specs.Parts.{begun}
-use Rattle.script.proofs.Parts.{behind-none, behind-next, not_going, ran, ran_on}
-use Rattle.replaying.proofs.Enough.{room_is_enough}
 use Rattle.script.proofs.read_all.Given as goal
 
 abbrev pub invariant-loop-parts : goal.invariant-loop-parts

@@ -2,7 +2,6 @@
 -- Assumes nothing.
 use Rattle.script.proofs.Parts.{read_known, read_failed, read_taken}
 use mathlib.Core.Path.{sym, ◌∙◌}
-use borrow.Author.Rules.{rules}
 use Rattle.script.proofs.read_some.Goals as goal
 
 pub returns-then-known : goal.returns-then-known

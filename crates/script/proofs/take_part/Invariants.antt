@@ -1,13 +1,9 @@
 -- `script::take_part` meets its contract: the first `taken` bytes of the part are taken.
 -- Assumes nothing.
 use Prim.Native.Nat.{◌-◌, ◌≤◌}
-use mathlib.Core.Path.{◌≡◌, refl, sym, ◌∙◌}
-use native.Mathlib.Omega.{arith}
-use lib.ListN.{length, take, length-drop}
-use lib.Seq.{length-take-le}
-use borrow.Author.Rules.{rules}
+use mathlib.Core.Path.{◌≡◌}
+use lib.ListN.{length, take}
 use Rattle.running.specs.Runs.{after_bytes}
-use Rattle.script.proofs.Parts.{true_false, part-begun, rest-lent, part_more, some-taken, part-stopped, part_unwritten}
 use Rattle.script.proofs.take_part.Given as goal
 
 abbrev pub invariant-loop-taken : goal.invariant-loop-taken

@@ -1,11 +1,9 @@
 -- `script::take_some` meets its contract: before byte `taken`, the text of those before it is at the front of the buffer.
 -- Assumes nothing.
 use Prim.Native.Nat.{◌-◌}
-use mathlib.Core.Path.{◌≡◌, refl, sym, ◌∙◌}
-use native.Mathlib.Omega.{arith}
+use mathlib.Core.Path.{◌≡◌}
 use lib.ListN.{length}
-use borrow.Author.Rules.{rules}
-use Rattle.script.proofs.Parts.{goes_on_lem, Taking, taking_none, taking_next, took}
+use Rattle.script.proofs.Parts.{Taking}
 use Rattle.script.proofs.take_some.Given as goal
 
 abbrev pub invariant-loop-taken : goal.invariant-loop-taken

@@ -1,6 +1,6 @@
 -- `corners::cases::every` is safe and ends: the list keeps its length. The measure is the number of letters left.
 -- Assumes nothing.
-use Rattle.std.proofs.Common.{◌≡◌, ◌-◌, length, rules}
+use Rattle.std.proofs.Common.{◌≡◌, ◌-◌, length}
 use Rattle.corners.proofs.cases.every.Given as goal
 
 abbrev pub invariant-loop-i : goal.invariant-loop-i

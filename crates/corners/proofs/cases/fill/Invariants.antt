@@ -1,6 +1,6 @@
 -- `corners::cases::fill` is safe and ends: the length stays, and the measure is what is left of it.
 -- Assumes nothing.
-use Rattle.std.proofs.Common.{◌≡◌, ◌-◌, length, arith, length-set, rules}
+use Rattle.std.proofs.Common.{◌≡◌, ◌-◌, length}
 use Rattle.corners.proofs.cases.fill.Given as goal
 
 abbrev pub invariant-loop-i : goal.invariant-loop-i

@@ -1,6 +1,6 @@
 -- `corners::cases::one_line` is safe: the parts lent are as long as they are said to be.
 -- Assumes nothing.
-use Rattle.std.proofs.Common.{sym, arith, length-take-le, rules}
+use Rattle.std.proofs.Common.{sym, arith, length-take-le}
 use Rattle.corners.proofs.cases.one_line.Goals as goal
 
 pub slice_bounds-carried_out-end-2 : goal.slice_bounds-carried_out-end-2

@@ -1,6 +1,6 @@
 -- `corners::lines::number` is safe and ends: the measure is what is left of the line.
 -- Assumes nothing.
-use Rattle.std.proofs.Common.{◌-◌, length, rules}
+use Rattle.std.proofs.Common.{◌-◌, length}
 use Rattle.corners.proofs.lines.number.Given as goal
 
 abbrev pub invariant-loop-i : goal.invariant-loop-i
