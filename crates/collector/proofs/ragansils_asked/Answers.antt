@@ -1,7 +1,6 @@
 -- `collector::ragansils_asked` meets its contract.
 -- Assumes nothing.
 use Rattle.collector.proofs.Tellings.{asked_hit, asked_missed}
-use borrow.Author.Rules.{rules}
 use Rattle.collector.proofs.ragansils_asked.Goals as goal
 
 pub returns-in-Hit : goal.returns-in-Hit

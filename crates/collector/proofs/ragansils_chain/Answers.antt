@@ -1,6 +1,5 @@
 -- `collector::ragansils_chain` meets its contract.
 -- Assumes nothing.
-use borrow.Author.Rules.{rules}
 use Rattle.collector.proofs.Tellings.{chain_whole, chain_broken}
 use Rattle.collector.proofs.ragansils_chain.Goals as goal
 

@@ -1,6 +1,5 @@
 -- `collector::ragansils_convert` meets its contract.
 -- Assumes nothing.
-use borrow.Author.Rules.{rules}
 use Rattle.collector.proofs.Tellings.{convert_told}
 use Rattle.collector.proofs.ragansils_convert.Goals as goal
 

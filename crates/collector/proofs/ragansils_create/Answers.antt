@@ -1,6 +1,5 @@
 -- `collector::ragansils_create` meets its contract.
 -- Assumes nothing.
-use borrow.Author.Rules.{rules}
 use Rattle.making.specs.Promises.{Created}
 use Rattle.collector.proofs.ragansils_create.Goals as goal
 

@@ -1,6 +1,5 @@
 -- `collector::ragansils_delete` meets its contract.
 -- Assumes nothing.
-use borrow.Author.Rules.{rules}
 use Rattle.collector.proofs.ragansils_delete.Goals as goal
 
 pub returns : goal.returns

@@ -1,6 +1,5 @@
 -- `collector::ragansils_make` meets its contract.
 -- Assumes nothing.
-use borrow.Author.Rules.{rules}
 use Rattle.making.specs.Promises.{Made}
 use Rattle.collector.proofs.ragansils_make.Goals as goal
 

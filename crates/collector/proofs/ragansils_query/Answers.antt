@@ -1,6 +1,5 @@
 -- `collector::ragansils_query` meets its contract.
 -- Assumes nothing.
-use borrow.Author.Rules.{rules}
 use Rattle.collector.proofs.Tellings.{query-told}
 use Rattle.collector.proofs.ragansils_query.Goals as goal
 

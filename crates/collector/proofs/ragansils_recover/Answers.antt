@@ -1,6 +1,5 @@
 -- `collector::ragansils_recover` meets its contract.
 -- Assumes nothing.
-use borrow.Author.Rules.{rules}
 use Rattle.collector.proofs.ragansils_recover.Goals as goal
 
 pub returns : goal.returns

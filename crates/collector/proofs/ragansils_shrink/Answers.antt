@@ -1,6 +1,5 @@
 -- `collector::ragansils_shrink` meets its contract.
 -- Assumes nothing.
-use borrow.Author.Rules.{rules}
 use Rattle.collector.proofs.ragansils_shrink.Goals as goal
 
 pub returns : goal.returns

@@ -1,6 +1,5 @@
 -- `collector::ragansils_step` meets its contract: it is the step from the first bucket on, without the bucket.
 -- Assumes nothing.
-use borrow.Author.Rules.{rules}
 use Rattle.collector.proofs.Tellings.{step-told}
 use Rattle.collector.proofs.ragansils_step.Goals as goal
 

@@ -1,6 +1,5 @@
 -- `collector::ragansils_update` meets its contract.
 -- Assumes nothing.
-use borrow.Author.Rules.{rules}
 use Rattle.collector.proofs.ragansils_update.Goals as goal
 
 pub returns : goal.returns

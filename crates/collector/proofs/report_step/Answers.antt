@@ -1,7 +1,6 @@
 -- `collector::report_step` meets its contract.
 -- Assumes nothing.
 use mathlib.Core.Path.{refl}
-use borrow.Author.Rules.{rules}
 use Rattle.collector.proofs.Tellings.{step-listed, step-refused}
 use Rattle.collector.proofs.report_step.Goals as goal
 
