@@ -11,13 +11,6 @@ use Rattle.rules.proofs.Words.Levels.{exponent-fits}
 use Rattle.rules.proofs.Basics.Walks.{stands_in}
 use Rattle.converting.proofs.Filling.{all_left, none_left, slots_along, along_next, along_end, levels_whole, block_may, block_done, block_stuck}
 use Rattle.converting.proofs.fill_table.Goals as goal
-use Rattle.converting.proofs.fill_table.Goals.{After-nth_level}
-
--- the slots of the n-th level are the first of those that are left
-next : (c : After-nth_level) →
-    let s = c.args.h.state in
-    slots_along slots_of (levels_in_use s) c.loop-n.n ≡ slots_of c.nth_level.result ++ slots_along slots_of (levels_in_use s) (c.loop-n.n + 1)
-next c = along_next _ _ _ _ c.nth_level.ensures.0
 
 pub loop-n-init : goal.loop-n-init
 loop-n-init c = all_left _ _ _ _ _ _ (levels_whole _) c.requires.1
@@ -30,11 +23,11 @@ fill_level-filled-requires c = (
   c.requires.0,
   exponent-fits c.args.h.c c.args.h.state c.requires.0.state c.nth_level.result
       (stands_in (levels_in_use c.args.h.state) c.loop-n.n c.nth_level.ensures.0),
-  block_may _ _ _ _ _ _ _ _ _ (next (goal.at.fill_level-filled-requires c).After-nth_level) c.loop-n.invariant,
+  block_may _ _ _ _ _ _ _ _ _ (along_next _ _ _ _ c.nth_level.ensures.0) c.loop-n.invariant,
 )
 
 pub returns-in_default : goal.returns-in_default
-returns-in_default c = block_stuck _ _ _ _ _ _ _ _ _ (next (goal.at.returns-in_default c).After-nth_level) c.loop-n.invariant _ _ c.fill_level-filled.ensures c.in_default.in_default-own.keys2
+returns-in_default c = block_stuck _ _ _ _ _ _ _ _ _ (along_next _ _ _ _ c.nth_level.ensures.0) c.loop-n.invariant _ _ c.fill_level-filled.ensures c.in_default.in_default-own.keys2
 
 pub overflow_step-n : goal.overflow_step-n
 overflow_step-n c = omega arith
@@ -43,7 +36,7 @@ pub loop-n-smaller : goal.loop-n-smaller
 loop-n-smaller c = omega arith
 
 pub loop-n-preserved : goal.loop-n-preserved
-loop-n-preserved c = block_done _ _ _ _ _ _ _ _ _ (next (goal.at.loop-n-preserved c).After-nth_level) c.loop-n.invariant _ _ c.fill_level-filled.ensures c.in-Going.in-Going-own.keys1
+loop-n-preserved c = block_done _ _ _ _ _ _ _ _ _ (along_next _ _ _ _ c.nth_level.ensures.0) c.loop-n.invariant _ _ c.fill_level-filled.ensures c.in-Going.in-Going-own.keys1
 
 pub returns : goal.returns
 returns c =
