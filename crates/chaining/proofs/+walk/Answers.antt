@@ -31,9 +31,9 @@ returns-then-depth-eq0 t c =
 pub walk-below-requires : goal.walk-below-requires
 walk-below-requires t c =
     let p = c.requires in
-    let n = c.if-depth-eq0.false in
+    let deeper = c.if-depth-eq0.false in
     let six = rw c.in-Stands.is at (few _ _ c.decode.ensures c.lookup-found.ensures.0) in
-    (omega (arith, n), (p.0, omega (arith, p.1, n), omega (arith, p.2, n, six)))
+    (omega (arith, deeper), (p.0, omega (arith, p.1, deeper), omega (arith, p.2, deeper, six)))
 
 pub put_before-requires-in-Stands : goal.put_before-requires-in-Stands
 put_before-requires-in-Stands t c = omega (arith, c.walk-below.auto, c.requires.1)
