@@ -8,21 +8,20 @@ use native.Mathlib.Omega.{arith}
 use lib.ListN.{length, length-map}
 use borrow.Author.Tests.{le-leb, lt-leb}
 use Rattle.rules.specs.Words.{Table, header_of}
-use Rattle.rules.specs.Answers.{chain_means}
+use Rattle.rules.specs.Answers.{chain_means, breaks}
 use Rattle.rules.specs.Calls.{query_tests, checked}
 use Rattle.rules.specs.Chains.{position_good, records_long, position_tests, chain_tests, Walk, found, missing, walk, query_of, two_words, chain_of, chain_result}
 use Rattle.rules.specs.declared.Header.{Header}
 use Rattle.rules.specs.declared.Refusal.{Refusal}
 use Rattle.rules.specs.declared.Refusal.TheVariants.{ShortRecords, BadPosition}
-use Rattle.rules.specs.declared.Chain.{Chain}
-use Rattle.rules.specs.declared.Chain.TheVariants.{Broken}
+use Rattle.rules.specs.Answers.{Chain}
+use Rattle.std.specs.Prelude.{Ok, Err}
 use Rattle.rules.proofs.Basics.Tests.{tells_lt, tells_le, tells_and}
 use Rattle.rules.proofs.Calls.Checked.{checked_append}
 use Rattle.rules.proofs.Calls.Meanings.{chain_one}
 use Rattle.rules.proofs.Calls.ChainWalks.{WalkBy, walk_by}
 use Rattle.reading.specs.Gates.{gate_of}
-use Rattle.reading.specs.declared.gate.Gate.{Gate}
-use Rattle.reading.specs.declared.gate.Gate.TheVariants.{Open, Shut}
+use Rattle.reading.specs.Gates.{Gate}
 use Rattle.reading.proofs.Gated.{gate_open, gate_shut}
 use Rattle.listing.proofs.Runs.{front}
 use Rattle.chaining.specs.Walks.{answered, laid_at, Walked, chain_in, ChainedAt}
@@ -35,12 +34,12 @@ position-means address depth e = (tells_and _ _ (tells_lt address (2 ^ 56)) (tel
 -- ---- behind the tests 1 and 3
 
 module _ (t : Table) (address depth : ℕ) (l : List ℕ) where
-  pub no_position : {b : Bool} → b ≡ position_good address depth → b ≡ false → ChainedAt t address depth l (Broken BadPosition 0) l
+  pub no_position : {b : Bool} → b ≡ position_good address depth → b ≡ false → ChainedAt t address depth l (breaks BadPosition 0) l
   unfolding position_tests
   no_position e k = let f = sym e ∙ k in record { answer = rw f; records = rw f }
 
   module _ (good : position_good address depth ≡ true) where
-    pub no_room : length l < 2 * (depth + 1) → ChainedAt t address depth l (Broken ShortRecords 0) l
+    pub no_room : length l < 2 * (depth + 1) → ChainedAt t address depth l (breaks ShortRecords 0) l
     unfolding position_tests records_long
     no_room s = record { answer = rw (good, lt-leb _ _ s); records = rw (good, lt-leb _ _ s) }
 
@@ -67,21 +66,21 @@ module _ (t : Table) (address depth : ℕ) (l : List ℕ) where
 -- ---- the tests 1 and 3
 
 module _ (t : Table) (address depth : ℕ) (l : List ℕ) where
-  behind : chain_result t address depth l ≡ checked (λ (r : Refusal). (Broken r 0, l)) (query_tests t) (chain_in t address depth l)
+  behind : chain_result t address depth l ≡ checked (λ (r : Refusal). (breaks r 0, l)) (query_tests t) (chain_in t address depth l)
   unfolding chain_result chain_tests
-  behind = checked_append (λ (r : Refusal). (Broken r 0, l)) (query_tests t) _ _
+  behind = checked_append (λ (r : Refusal). (breaks r 0, l)) (query_tests t) _ _
 
   chained : {c : Chain} {m : List ℕ} → (c, m) ≡ chain_result t address depth l → Chained t address depth l c t m
   chained e =
       record { answer = ap (λ (a : Chain × List ℕ). chain_means a.0) e; table = refl; records = ap (λ (a : Chain × List ℕ). a.1) e }
 
   module _ {g : Gate} (e : g ≡ gate_of t (query_tests t)) where
-    pub refused : {r : Refusal} → g ≡ Shut r → Chained t address depth l (Broken r 0) t l
-    refused q = chained (gate_shut t (query_tests t) e (λ (r : Refusal). (Broken r 0, l)) _ q ∙ sym behind)
+    pub refused : {r : Refusal} → g ≡ Err r → Chained t address depth l (breaks r 0) t l
+    refused q = chained (gate_shut t (query_tests t) e (λ (r : Refusal). (breaks r 0, l)) _ q ∙ sym behind)
 
-    pub let_through : {h : Header} {c : Chain} {m : List ℕ} → g ≡ Open h → ChainedAt t address depth l c m → Chained t address depth l c t m
+    pub let_through : {h : Header} {c : Chain} {m : List ℕ} → g ≡ Ok h → ChainedAt t address depth l c m → Chained t address depth l c t m
     let_through q s =
-        chained (both s.answer s.records ∙ gate_open t (query_tests t) e (λ (r : Refusal). (Broken r 0, l)) _ q ∙ sym behind)
+        chained (both s.answer s.records ∙ gate_open t (query_tests t) e (λ (r : Refusal). (breaks r 0, l)) _ q ∙ sym behind)
       where
         both : {c : Chain} {m : List ℕ} {a : Chain × List ℕ} → c ≡ a.0 → m ≡ a.1 → (c, m) ≡ a
         both x y = rw (x, y)

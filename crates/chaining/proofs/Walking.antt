@@ -8,7 +8,7 @@ use native.Mathlib.Omega.{arith}
 use native.Mathlib.Numerals.{unary_clauses}
 use Rattle.rules.specs.Words.{Table, header_of, spot_of, record_in}
 use Rattle.rules.specs.Places.{lookup}
-use Rattle.rules.specs.Answers.{LookupTells}
+use Rattle.rules.specs.Answers.{LookupTells, knows, misses}
 use Rattle.rules.specs.Chains.{key_of, Walk, found, missing, before, walk, query_of, two_words}
 use Rattle.rules.specs.declared.Header.{Header}
 use Rattle.rules.specs.declared.Slot.{Slot}
@@ -17,8 +17,7 @@ use Rattle.rules.specs.declared.Spot.{Spot}
 use Rattle.rules.specs.declared.Lookup.{Lookup}
 use Rattle.rules.specs.declared.Lookup.TheVariants.{Stands, Absent}
 use Rattle.rules.specs.declared.Refusal.TheVariants.{KeyAbsent}
-use Rattle.rules.specs.declared.Query.{Query}
-use Rattle.rules.specs.declared.Query.TheVariants.{Known, Unknown}
+use Rattle.rules.specs.Answers.{Query}
 use Rattle.rules.proofs.Calls.Meanings.{lookup-told_by}
 use Rattle.querying.proofs.Standings.{looked, lookup-few}
 use Rattle.listing.specs.Listing.{listed_at}
@@ -46,7 +45,7 @@ unfolding listed_at
 nothing_below l i n = record { answer = refl; count = omega arith; records = refl }
 
 -- a depth with the record r, in n buckets, before the smaller ones
-module _ {q : Query} {r : Record} {s : Spot} {n : ℕ} (known : q ≡ Known r s n) {l mid last : List ℕ} {i start k : ℕ} {b c : Bool} (a : c ≡ b)
+module _ {q : Query} {r : Record} {s : Spot} {n : ℕ} (known : q ≡ knows r s n) {l mid last : List ℕ} {i start k : ℕ} {b c : Bool} (a : c ≡ b)
     (e : last ≡ put_at b i r mid) where
   pub put_on : (w : Walk) → Walked w (i + 1) l (start + n) b mid k → Walked (before q w) i l start c last k
   put_on (found rs m) v =
@@ -57,7 +56,7 @@ module _ {q : Query} {r : Record} {s : Spot} {n : ℕ} (known : q ≡ Known r s 
       rw known (record { answer = a ∙ v.answer; count = omega (arith, v.count); records = f })
 
 -- a depth without one
-pub gap : (asks : ℕ → Query) (d : ℕ) (l : List ℕ) (i start : ℕ) {n : ℕ} → asks d ≡ Unknown KeyAbsent n → Walked (walk asks d) i l start false l (start + n)
+pub gap : (asks : ℕ → Query) (d : ℕ) (l : List ℕ) (i start : ℕ) {n : ℕ} → asks d ≡ misses KeyAbsent n → Walked (walk asks d) i l start false l (start + n)
 unfolding walk
 gap asks zero l i start k = rw k (record { answer = refl; count = refl; records = refl })
 gap asks (suc d) l i start k = rw k (record { answer = refl; count = refl; records = refl })
@@ -74,11 +73,11 @@ module _ (t : Table) (key : ℕ) {h : Header} (same : h ≡ header_of t) {f : Lo
   looked_up = lookup-told_by told ∙ ap (λ (z : Header). lookup t z key) same
 
   pub stands_there : {x : Slot} {r : Record} {n : ℕ} → f ≡ Stands x n → r ≡ record_in t x
-      → query_of t (header_of t) (key / 256) (key % 256) ≡ Known r (spot_of x) n
+      → query_of t (header_of t) (key / 256) (key % 256) ≡ knows r (spot_of x) n
   unfolding query_of
   stands_there k w = rw (key_of_lem key, ← looked_up, k, w)
 
-  pub not_there : {n : ℕ} → f ≡ Absent n → query_of t (header_of t) (key / 256) (key % 256) ≡ Unknown KeyAbsent n
+  pub not_there : {n : ℕ} → f ≡ Absent n → query_of t (header_of t) (key / 256) (key % 256) ≡ misses KeyAbsent n
   unfolding query_of
   not_there k = rw (key_of_lem key, ← looked_up, k)
 

@@ -5,7 +5,7 @@ use Rattle.std.specs.Prelude.{ℕ, ◌≡◌, List}
 use Rattle.rules.specs.Words.{Table}
 use Rattle.rules.specs.Answers.{Meaning, chain_means}
 use Rattle.rules.specs.Chains.{chain_result}
-use Rattle.rules.specs.declared.Chain.{Chain}
+use Rattle.rules.specs.Answers.{Chain}
 
 pub record ChainedBy (t : Table) (address depth : ℕ) (l : List ℕ) (told : Meaning) (u : Table) (m : List ℕ) : Type 0 where
   pub answer : told ≡ chain_means (chain_result t address depth l).0

@@ -1,14 +1,13 @@
 -- A walk as the code makes it: the records are written on the way back, from a pair of the lent words on.
 -- Assumes nothing.
-use Rattle.std.specs.Prelude.{ℕ, ◌+◌, ◌≡◌, Bool, true, false, List, [], ◌∷◌, map, length}
+use Rattle.std.specs.Prelude.{ℕ, ◌+◌, ◌≡◌, Bool, true, false, List, [], ◌∷◌, map, length, Ok}
 use Rattle.rules.specs.Words.{Table, header_of}
 use Rattle.rules.specs.Calls.{checked}
 use Rattle.rules.specs.Chains.{position_tests, Walk, found, missing, walk, query_of, two_words, chain_of}
 use Rattle.rules.specs.declared.Record.{Record}
 use Rattle.rules.specs.declared.Refusal.{Refusal}
 use Rattle.rules.specs.declared.Refusal.TheVariants.{KeyAbsent}
-use Rattle.rules.specs.declared.Chain.{Chain}
-use Rattle.rules.specs.declared.Chain.TheVariants.{Whole, Broken}
+use Rattle.rules.specs.Answers.{Chain, breaks}
 use Rattle.listing.specs.Listing.{listed_at}
 
 -- one record more, as pair i, where the smaller depths have theirs
@@ -31,8 +30,8 @@ laid_at (missing n) i l = l
 
 -- what the chain answers by it
 abbrev pub answered : Bool → ℕ → Chain
-answered true count = Whole count
-answered false count = Broken KeyAbsent count
+answered true count = Ok count
+answered false count = breaks KeyAbsent count
 
 -- with lent words l and a count n, the walk answers r and leaves lent words m and a count k
 pub record Walked (w : Walk) (i : ℕ) (l : List ℕ) (n : ℕ) (r : Bool) (m : List ℕ) (k : ℕ) : Type 0 where
@@ -43,7 +42,7 @@ pub record Walked (w : Walk) (i : ℕ) (l : List ℕ) (n : ℕ) (r : Bool) (m : 
 -- behind the tests 1 and 3
 abbrev pub chain_in : Table → ℕ → ℕ → List ℕ → Chain × List ℕ
 chain_in t address depth l =
-    checked (λ (r : Refusal). (Broken r 0, l)) (position_tests address depth (length l))
+    checked (λ (r : Refusal). (breaks r 0, l)) (position_tests address depth (length l))
     (chain_of (walk (query_of t (header_of t) address) depth) l)
 
 pub record ChainedAt (t : Table) (address depth : ℕ) (l : List ℕ) (c : Chain) (m : List ℕ) : Type 0 where

@@ -9,11 +9,11 @@ ghost use Rattle.chaining.specs.Walks.{put_at, Walked, ChainedAt};
 ghost use Rattle.chaining.specs.Promises.{Chained};
 
 use querying::lookup::lookup;
-use reading::gate::{Gate, query_gate};
+use reading::gate::query_gate;
 use reading::header::decode;
 use reading::slots::record_at;
 use rules::layout::{ADDRESSES, DEPTHS, LARGEST_DEPTH};
-use rules::{Chain, Lookup, Record, Refusal};
+use rules::{Chain, Lookup, Missed, Record, Refusal};
 
 // "an address of 2^56 or more, or a depth above 255, gives 16"
 fn position_good(address: u64, depth: u64) -> bool
@@ -74,24 +74,24 @@ fn chain_at(t: &[u64], address: u64, depth: u64, records: &mut [u64]) -> Chain
     ensures { ChainedAt t.now address depth records.old result records.new }
 {
     if !position_good(address, depth) {
-        return Chain::Broken(Refusal::BadPosition, 0);
+        return Err(Missed::from(Refusal::BadPosition));
     }
     if records.len() < 2 * (depth as usize + 1) {
-        return Chain::Broken(Refusal::ShortRecords, 0);
+        return Err(Missed::from(Refusal::ShortRecords));
     }
     let mut looked = 0;
     if walk(t, address * DEPTHS + depth, records, 0, &mut looked) {
-        return Chain::Whole(looked);
+        return Ok(looked);
     }
-    Chain::Broken(Refusal::KeyAbsent, looked)
+    Err(Missed {
+        refusal: Refusal::KeyAbsent,
+        looked,
+    })
 }
 
 pub fn chain(t: &[u64], address: u64, depth: u64, records: &mut [u64]) -> Chain
     ensures { Chained t.now address depth records.old result t.now records.new }
 {
-    let gate = query_gate(t);
-    match gate {
-        Gate::Shut(refusal) => Chain::Broken(refusal, 0),
-        Gate::Open(_) => chain_at(t, address, depth, records),
-    }
+    query_gate(t)?;
+    chain_at(t, address, depth, records)
 }

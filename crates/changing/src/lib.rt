@@ -2,7 +2,7 @@
 #![tactic(auto)]
 
 ghost use Rattle.std.specs.Prelude.{◌≡◌, ◌^◌, ◌≤◌, ◌<◌, length};
-ghost use Rattle.rules.specs.Forms.{tag_of};
+ghost use Rattle.rules.specs.Forms.{tag_of, tagged};
 ghost use Rattle.rules.specs.Words.{GoodHeader};
 ghost use Rattle.rules.specs.Places.{hashes_of, lookup as lookup_of};
 ghost use Rattle.rules.specs.Stores.{placing_stores, update_stores};
@@ -21,7 +21,7 @@ use placing::placing;
 use placing::room::free_slot;
 use querying::lookup::{lookup, lookup_by, lookup_with};
 use reading::forms::has_tags;
-use reading::gate::{Gate, change_gate};
+use reading::gate::change_gate;
 use reading::places::hashes;
 use reading::slots::token;
 use reading::tokens::hide;
@@ -34,10 +34,10 @@ fn delete_at(t: &[u64], list: &mut [u64], h: Header, key: u64) -> Change
 {
     let found = lookup(t, h, key);
     match found {
-        Lookup::Absent(_) => Change::Refused(Refusal::KeyAbsent),
+        Lookup::Absent(_) => Err(Refusal::KeyAbsent),
         Lookup::Stands(x, _) => {
             let cleared = clear(list, 0, h, token(t, x.bucket), x);
-            Change::Listed(cleared as u64)
+            Ok(cleared as u64)
         }
     }
 }
@@ -46,11 +46,8 @@ fn delete_at(t: &[u64], list: &mut [u64], h: Header, key: u64) -> Change
 pub fn delete(t: &[u64], list: &mut [u64], key: u64) -> Change
     ensures { Changed (delete_call key) t.now list.old result t.now list.new }
 {
-    let gate = change_gate(t, list.len());
-    match gate {
-        Gate::Shut(refusal) => Change::Refused(refusal),
-        Gate::Open(h) => delete_at(t, list, h, key),
-    }
+    let h = change_gate(t, list.len())?;
+    delete_at(t, list, h, key)
 }
 
 // "update, bucket has a free slot | three words to its lowest free slot; one token store that sets it and clears the old";
@@ -91,10 +88,10 @@ fn update_at(t: &[u64], list: &mut [u64], h: Header, key: u64, r: Record) -> Cha
     let hash = hashes(h, key);
     let found = lookup_by(t, h, key, hash);
     match found {
-        Lookup::Absent(_) => Change::Refused(Refusal::KeyAbsent),
+        Lookup::Absent(_) => Err(Refusal::KeyAbsent),
         Lookup::Stands(x, _) => {
             let stores = renewed(t, list, h, x, key, hash.tag, r);
-            Change::Listed(stores as u64)
+            Ok(stores as u64)
         }
     }
 }
@@ -103,11 +100,8 @@ fn update_at(t: &[u64], list: &mut [u64], h: Header, key: u64, r: Record) -> Cha
 pub fn update(t: &[u64], list: &mut [u64], key: u64, r: Record) -> Change
     ensures { Changed (update_call key r) t.now list.old result t.now list.new }
 {
-    let gate = change_gate(t, list.len());
-    match gate {
-        Gate::Shut(refusal) => Change::Refused(refusal),
-        Gate::Open(h) => update_at(t, list, h, key, r),
-    }
+    let h = change_gate(t, list.len())?;
+    update_at(t, list, h, key, r)
 }
 
 // "insert with move": the new item takes the slot that the move frees.
@@ -157,10 +151,10 @@ fn insert_absent(t: &[u64], list: &mut [u64], h: Header, key: u64, x: Hashes, r:
 {
     let p = placing(t, h, key, x);
     let (Placing::Free(y) | Placing::Move(y, _)) = p else {
-        return Change::Refused(Refusal::NoPlace);
+        return Err(Refusal::NoPlace);
     };
     let n = insert_stores(t, list, h, p, y, key, x.tag, r);
-    Change::Listed(n as u64)
+    Ok(n as u64)
 }
 
 // What is known of a key before it is placed: its hashes, and whether it stands.
@@ -180,25 +174,27 @@ fn has_found(found: Lookup) -> bool
     }
 }
 
-// The key is hashed in each branch, where the compiler knows the kind of table: so an insert in a table without tags mixes nothing.
+// The key is hashed for each kind of table, which the compiler knows: so an insert in a table without tags mixes nothing.
+fn look_by<const TAGS: bool>(t: &[u64], h: Header, key: u64) -> Sought
+    requires { GoodHeader (length t.now) h × (TAGS ≡ tagged h) }
+    ensures { (result.hashes ≡ hashes_of h key) × (result.stands ≡ has_found (lookup_of t.now h key)) }
+{
+    let hashes = hashes(h, key);
+    let found = lookup_with::<TAGS>(t, h, key, hashes);
+    Sought {
+        hashes,
+        stands: has_found(found),
+    }
+}
+
 fn look_for(t: &[u64], h: Header, key: u64) -> Sought
     requires { GoodHeader (length t.now) h }
     ensures { (result.hashes ≡ hashes_of h key) × (result.stands ≡ has_found (lookup_of t.now h key)) }
 {
     if has_tags(h) {
-        let x = hashes(h, key);
-        let found = lookup_with(t, h, key, x, true);
-        return Sought {
-            hashes: x,
-            stands: has_found(found),
-        };
+        return look_by::<true>(t, h, key);
     }
-    let x = hashes(h, key);
-    let found = lookup_with(t, h, key, x, false);
-    Sought {
-        hashes: x,
-        stands: has_found(found),
-    }
+    look_by::<false>(t, h, key)
 }
 
 // "for insert 4 before 6"
@@ -208,7 +204,7 @@ fn insert_at(t: &[u64], list: &mut [u64], h: Header, key: u64, r: Record) -> Cha
 {
     let known = look_for(t, h, key);
     if known.stands {
-        return Change::Refused(Refusal::KeyPresent);
+        return Err(Refusal::KeyPresent);
     }
     let x = known.hashes;
     insert_absent(t, list, h, key, x, r)
@@ -218,9 +214,6 @@ fn insert_at(t: &[u64], list: &mut [u64], h: Header, key: u64, r: Record) -> Cha
 pub fn insert(t: &[u64], list: &mut [u64], key: u64, r: Record) -> Change
     ensures { Changed (insert_call key r) t.now list.old result t.now list.new }
 {
-    let gate = change_gate(t, list.len());
-    match gate {
-        Gate::Shut(refusal) => Change::Refused(refusal),
-        Gate::Open(h) => insert_at(t, list, h, key, r),
-    }
+    let h = change_gate(t, list.len())?;
+    insert_at(t, list, h, key, r)
 }

@@ -21,12 +21,12 @@ use changing::{delete, insert, update};
 use converting::convert;
 use growing::{back, begin, end, shrink, step_from};
 use making::{create, make};
-use numbering::{conversion_words, number, query_words, verdict_number};
+use numbering::{conversion_words, number, query_words, side_number, verdict_number};
 use overlaying::asked;
 use overlaying::parts::part;
 use querying::query;
 use recovering::recover;
-use rules::{Asked, Chain, Change, Record};
+use rules::{Change, Record};
 
 #[unsafe(no_mangle)]
 pub extern "C" fn ragansils_create(
@@ -70,15 +70,14 @@ pub extern "C" fn ragansils_chain(
     ensures { ChainedBy table.now address depth records.old (told_with result (buckets.new ∷ [])) table.now
         records.new }
 {
-    let found = chain(table, address, depth, records);
-    match found {
-        Chain::Whole(looked) => {
+    match chain(table, address, depth, records) {
+        Ok(looked) => {
             *buckets = looked;
             0
         }
-        Chain::Broken(refusal, so_far) => {
-            *buckets = so_far;
-            number(refusal)
+        Err(missed) => {
+            *buckets = missed.looked;
+            number(missed.refusal)
         }
     }
 }
@@ -88,11 +87,11 @@ fn report(change: Change, stores: &mut u64) -> u64
     ensures { told_with result (stores.new ∷ []) ≡ change_means change }
 {
     match change {
-        Change::Listed(count) => {
+        Ok(count) => {
             *stores = count;
             0
         }
-        Change::Refused(refusal) => {
+        Err(refusal) => {
             *stores = 0;
             number(refusal)
         }
@@ -168,14 +167,12 @@ fn report_step(table: &[u64], list: &mut [u64], from: u64, answer: &mut [u64; 2]
     ensures { ReportedFrom from table.now list.old result answer.new table.now list.new }
 {
     let taken = step_from(table, list, from);
-    let stepped = taken.stepped;
-    let change = stepped.change;
-    match change {
-        Change::Listed(stores) => {
+    match taken.stepped.change {
+        Ok(stores) => {
             *answer = [stores, taken.bucket];
             0
         }
-        Change::Refused(refusal) => {
+        Err(refusal) => {
             *answer = [0, taken.bucket];
             number(refusal)
         }
@@ -247,15 +244,14 @@ pub extern "C" fn ragansils_asked(
 ) -> u64
     ensures { AsksBy newer.now older.now key (told_with result answer.new) newer.now older.now }
 {
-    let found = asked(newer, older, key);
-    match found {
-        Asked::Hit(name, _, looked) => {
-            *answer = [name, looked];
+    match asked(newer, older, key) {
+        Ok(hit) => {
+            *answer = [side_number(hit.side), hit.looked];
             0
         }
-        Asked::Miss(name, refusal, so_far) => {
-            *answer = [name, so_far];
-            number(refusal)
+        Err(miss) => {
+            *answer = [side_number(miss.side), miss.looked];
+            number(miss.refusal)
         }
     }
 }

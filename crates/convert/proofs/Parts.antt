@@ -8,7 +8,7 @@ use native.Mathlib.Numerals.{add-one}
 use native.Mathlib.Omega.{arith}
 use lib.ListN.{length, drop, get_or, drop_of_length-le}
 use lib.Seq.{drop-cons}
-use Rattle.rules.specs.declared.Verdict.TheVariants.{Done, Denied}
+use Rattle.std.specs.Prelude.{Ok, Err}
 use Rattle.replaying.specs.declared.Answer.{Answer}
 use Rattle.replaying.specs.declared.Answer.TheVariants.{Nothing, Created, Changed, Kept, Found, Events, Bad}
 use Rattle.running.specs.Runs.{line_room, byte_taken, TakenIs, over_bytes, together}
@@ -55,8 +55,8 @@ takes = record { none = after_none; more = parts_are_taken }
 
 pub told-answer : (a : Answer) (later : Report) → with_answer a later ≡ told_of (ended_by a) later
 told-answer (Bad n) later = refl
-told-answer (Created (Denied e)) later = refl
-told-answer (Created Done) later = refl
+told-answer (Created (Err e)) later = refl
+told-answer (Created (Ok tt)) later = refl
 told-answer Nothing later = refl
 told-answer (Changed r) later = refl
 told-answer (Kept r n) later = refl

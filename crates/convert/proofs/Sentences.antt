@@ -22,10 +22,9 @@ use Rattle.rules.specs.declared.Refusal.{Refusal}
 use Rattle.rules.specs.declared.Refusal.TheVariants.{BadCreation}
 use Rattle.rules.specs.declared.ScriptCall.{ScriptCall}
 use Rattle.rules.specs.declared.ScriptCall.TheVariants.{Begin}
-use Rattle.rules.specs.declared.Verdict.{Verdict}
-use Rattle.rules.specs.declared.Verdict.TheVariants.{Done, Denied}
-use Rattle.rules.specs.declared.Conversion.{Conversion}
-use Rattle.rules.specs.declared.Conversion.TheVariants.{Converted, Stuck, Rejected}
+use Rattle.rules.specs.Answers.{Verdict}
+use Rattle.std.specs.Prelude.{Ok, Err}
+use Rattle.rules.specs.Answers.{Conversion}
 use Rattle.rules.proofs.Calls.Conversions.{old_words_play_no_part, convert_keeps_the_map}
 use Rattle.lines.specs.Lines.{line_of, name_text, bytes}
 use Rattle.lines.specs.Texts.{digits_in, decimal_text, line_text as script_text}
@@ -58,13 +57,14 @@ use Rattle.convert.specs.Outputs.{back_to, ways_from, Report, bad_line, unmade, 
 use Rattle.convert.specs.Outputs.{output_to}
 use Rattle.convert.specs.Sentences.{Read, nothing, line, Begins, BadLinesEnd, BadEnd, RefusedTablesEnd, WholeScriptsConvert, NothingElseTold}
 use Rattle.convert.specs.Sentences.{header_lines, Numbers, LargerCapsNotMade, CapsToSevenMade, RefusedWaysTold, BothWaysTold, WayToForm2}
+use Rattle.rules.specs.declared.Unconverted.TheVariants.{Rejected, Stuck}
 
 -- ---- lines that do not end a script
 
 goes_on_lem : (a : Answer) → GoesOn a → (r : Report) → with_answer a r ≡ r
 goes_on_lem (Bad n) g r = absurd (g.good n refl)
-goes_on_lem (Created (Denied e)) g r = absurd (g.made e refl)
-goes_on_lem (Created Done) g r = refl
+goes_on_lem (Created (Err e)) g r = absurd (g.made e refl)
+goes_on_lem (Created (Ok tt)) g r = refl
 goes_on_lem Nothing g r = refl
 goes_on_lem (Changed x) g r = refl
 goes_on_lem (Kept x n) g r = refl
@@ -118,27 +118,27 @@ whole_scripts_convert room left ls p d n e =
 
 -- ---- a table that is not made is refused with 13
 
-only_13 : (b : Bool) (t u : Table) (e : Refusal) → (cond {A = Verdict × Table} b (Done, u) (Denied BadCreation, t)).0 ≡ Denied e → e ≡ BadCreation
+only_13 : (b : Bool) (t u : Table) (e : Refusal) → (cond {A = Verdict × Table} b (Ok tt, u) (Err BadCreation, t)).0 ≡ Err e → e ≡ BadCreation
 only_13 true t u e k = cc
 only_13 false t u e k = cc
 
 module _ (room : List ℕ) (p : Replay) (next : Script) (e : Refusal) where
-  made_13 : (c : ℕ) (v : Verdict) (t : Table) → (v ≡ Denied e → e ≡ BadCreation)
-      → (created_turn p next room c (v, t)).answer ≡ Created (Denied e) → e ≡ BadCreation
-  made_13 c Done t f k = cc
-  made_13 c (Denied d) t f k = f cc
+  made_13 : (c : ℕ) (v : Verdict) (t : Table) → (v ≡ Err e → e ≡ BadCreation)
+      → (created_turn p next room c (v, t)).answer ≡ Created (Err e) → e ≡ BadCreation
+  made_13 c (Ok tt) t f k = cc
+  made_13 c (Err d) t f k = f cc
 
-  event_13 : (q : ScriptCall) (under : Cut) (t : Table) → answer_to t q under ≡ Created (Denied e) → e ≡ BadCreation
+  event_13 : (q : ScriptCall) (under : Cut) (t : Table) → answer_to t q under ≡ Created (Err e) → e ≡ BadCreation
   unfolding answer_to
   event_13 q under t k = go (queried q) under k
     where
       go : (o : Option ℕ) (c : Cut) → either o (λ key. Found (query_result t key)) (change_answer c (change_result t lent (call_of q)).0)
-          ≡ Created (Denied e) → e ≡ BadCreation
+          ≡ Created (Err e) → e ≡ BadCreation
       go (some key) c k = cc
       go absent no_cut k = cc
       go absent (cut_after n at) k = cc
 
-  asked_13 : (a : Asked) → (asked_of room p next a).answer ≡ Created (Denied e) → e ≡ BadCreation
+  asked_13 : (a : Asked) → (asked_of room p next a).answer ≡ Created (Err e) → e ≡ BadCreation
   unfolding create_result
   asked_13 ask_nothing k = cc
   asked_13 (ask_end n) k = cc
@@ -149,11 +149,11 @@ module _ (room : List ℕ) (p : Replay) (next : Script) (e : Refusal) where
       fit = take (words_for c) room
 
       go : (small : Bool) → (cond small (created_turn p next room c (create_result fit 1 c k mul1 mul2)) (too_large p next room)).answer
-          ≡ Created (Denied e) → e ≡ BadCreation
+          ≡ Created (Err e) → e ≡ BadCreation
       go true k = made_13 c _ _ (only_13 (all (create_tests (length fit) 1 c _ mul1 mul2)) fit _ e) k
       go false k = cc
 
-turn_13 : (room : List ℕ) (p : Replay) (l : Line) (e : Refusal) → (turn_of room p l).answer ≡ Created (Denied e) → e ≡ BadCreation
+turn_13 : (room : List ℕ) (p : Replay) (l : Line) (e : Refusal) → (turn_of room p l).answer ≡ Created (Err e) → e ≡ BadCreation
 unfolding turn_of
 turn_13 room p l e k = let r = reading_of p.script l in asked_13 room p r.script e r.asked k
 
@@ -168,18 +168,18 @@ refused_tables_end room left ls p d l none e k later =
 abbrev Kind : Report → Type 0
 Kind r = ((n : ℕ) × (r ≡ bad_line n)) ⊎ (r ≡ unmade BadCreation) ⊎ ((t : Table) × (r ≡ converted (ways_from t)))
 
-answer_kind : (a : Answer) → ((e : Refusal) → a ≡ Created (Denied e) → e ≡ BadCreation) → {r : Report} → Kind r → Kind (with_answer a r)
+answer_kind : (a : Answer) → ((e : Refusal) → a ≡ Created (Err e) → e ≡ BadCreation) → {r : Report} → Kind r → Kind (with_answer a r)
 answer_kind (Bad n) f k = inl (n, refl)
-answer_kind (Created (Denied e)) f k = inr (inl (ap unmade (f e refl)))
-answer_kind (Created Done) f k = k
+answer_kind (Created (Err e)) f k = inr (inl (ap unmade (f e refl)))
+answer_kind (Created (Ok tt)) f k = k
 answer_kind Nothing f k = k
 answer_kind (Changed x) f k = k
 answer_kind (Kept x n) f k = k
 answer_kind (Found q) f k = k
 answer_kind (Events n) f k = k
 
-finish_13 : (p : Replay) (x : Ending) (e : Refusal) → finished p x ≡ Created (Denied e) → e ≡ BadCreation
-finish_13 p Whole e k = cc
+finish_13 : (p : Replay) (x : Ending) (e : Refusal) → finished p x ≡ Created (Err e) → e ≡ BadCreation
+finish_13 p Ok e k = cc
 finish_13 p (Torn n) e k = cc
 finish_13 p Over e k = cc
 
@@ -278,7 +278,7 @@ module _ (room : List ℕ) (c k mul1 mul2 : ℕ) where
   created-long = simp length-replicate (omega arith)
 
   -- a table that is made is the one that is converted where no line comes behind it
-  made_told : table.answer ≡ Created Done
+  made_told : table.answer ≡ Created (Ok tt)
       → with_answer table.answer (told table.room table.replay [] false) ≡ converted (ways_from (created 1 c k mul1 mul2))
   unfolding table behind create_result finish_of ending_of
   made_told e = go (leb c 8) (all (create_tests (length fit) 1 c k mul1 mul2)) e
@@ -288,9 +288,9 @@ module _ (room : List ℕ) (c k mul1 mul2 : ℕ) where
 
       turn : Bool → Bool → Turned
       turn small good =
-          cond small (created_turn before behind room c (cond good (Done, created 1 c k mul1 mul2) (Denied BadCreation, fit))) (too_large before behind room)
+          cond small (created_turn before behind room c (cond good (Ok tt, created 1 c k mul1 mul2) (Err BadCreation, fit))) (too_large before behind room)
 
-      go : (small good : Bool) → (turn small good).answer ≡ Created Done
+      go : (small good : Bool) → (turn small good).answer ≡ Created (Ok tt)
           → with_answer (turn small good).answer (told (turn small good).room (turn small good).replay [] false)
           ≡ converted (ways_from (created 1 c k mul1 mul2))
       go true true e = ap (λ (t : Table). converted (ways_from t)) (take_at (created 1 c k mul1 mul2) (drop (words_for c) room) (words_for c) created-long)
@@ -321,12 +321,12 @@ answer-lines a number key e =
     ap (λ (m : Meaning). flat_map line_text (answer_lines ("key" ∷ []) m.number m.values)) e ∙ rw append-nil
 
 two_ways : (b : Conversion) (number key : ℕ) → Told b number key
-    → flat_map way_text (Converted ∷ b ∷ []) ≡ line_text ("answer", 0) ++ line_text ("key", 0) ++ line_text ("answer", number) ++ line_text ("key", key)
+    → flat_map way_text ((Ok tt) ∷ b ∷ []) ≡ line_text ("answer", 0) ++ line_text ("key", 0) ++ line_text ("answer", number) ++ line_text ("key", key)
 unfolding flat_map
 two_ways b number key e =
     let back = append-nil (way_text b) ∙ answer-lines b number key e in
-    ap (λ (l : List ℕ). way_text Converted ++ l) back ∙ ap (λ (l : List ℕ). l ++ (line_text ("answer", number) ++ line_text ("key", key)))
-    (answer-lines Converted 0 0 refl)
+    ap (λ (l : List ℕ). way_text (Ok tt) ++ l) back ∙ ap (λ (l : List ℕ). l ++ (line_text ("answer", number) ++ line_text ("key", key)))
+    (answer-lines (Ok tt) 0 0 refl)
     ∙ sym (append_assoc (line_text ("answer", 0) ++ line_text ("key", 0)) (line_text ("answer", number)) (line_text ("key", key)))
 
 module _ (t : Table) where
@@ -350,19 +350,19 @@ refused_ways_told t s long number key e other =
   where
     go : (a : Conversion) (u : Table) → convert_result t (zeros t) ≡ (a, u) → Told a number key
         → ways_text t ≡ line_text ("answer", number) ++ line_text ("key", key)
-    go Converted u k e = absurd (other (sym (ap (λ (m : Meaning). m.number) e)))
-    go (Stuck x) u k e = ways_by t k ∙ append-nil (way_text (Stuck x)) ∙ answer-lines (Stuck x) number key e
-    go (Rejected x) u k e = ways_by t k ∙ append-nil (way_text (Rejected x)) ∙ answer-lines (Rejected x) number key e
+    go (Ok tt) u k e = absurd (other (sym (ap (λ (m : Meaning). m.number) e)))
+    go (Err (Stuck x)) u k e = ways_by t k ∙ append-nil (way_text (Err (Stuck x))) ∙ answer-lines (Err (Stuck x)) number key e
+    go (Err (Rejected x)) u k e = ways_by t k ∙ append-nil (way_text (Err (Rejected x))) ∙ answer-lines (Err (Rejected x)) number key e
 
 pub both_ways_told : BothWaysTold
 both_ways_told t s u r long e size number key told =
     let old = old_words_play_no_part t s (zeros t) (long ∙ sym (zeros-long t)) in
-    let there : convert_result t (zeros t) ≡ (Converted, u) = sym (rw (← old.0, ← (old.1 converted), e)) in
+    let there : convert_result t (zeros t) ≡ (Ok tt, u) = sym (rw (← old.0, ← (old.1 converted), e)) in
     let back = (old_words_play_no_part u r t size).0 in
     ways_by t there ∙ two_ways (convert_result u t).0 number key (rw back at told)
   where
-    converted : (x : Refusal) → (convert_result t s).0 ≡ Rejected x → ⊥
-    converted x k = let z : ◌≡◌ {A = Conversion} Converted (Rejected x) = sym (ap (λ (p : Conversion × Table). p.0) e) ∙ k in
+    converted : (x : Refusal) → (convert_result t s).0 ≡ Err (Rejected x) → ⊥
+    converted x k = let z : ◌≡◌ {A = Conversion} (Ok tt) (Err (Rejected x)) = sym (ap (λ (p : Conversion × Table). p.0) e) ∙ k in
         let n : ◌≡◌ {A = ℕ} 0 1 = cc in omega arith
 
 pub way_to_form2 : WayToForm2

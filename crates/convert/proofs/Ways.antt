@@ -10,8 +10,7 @@ use denote.Enum.Declared.{tag_of}
 use Rattle.rules.specs.Words.{Table}
 use Rattle.rules.specs.Answers.{Meaning, conversion_means}
 use Rattle.rules.specs.Conversions.{convert_result}
-use Rattle.rules.specs.declared.Conversion.{Conversion}
-use Rattle.rules.specs.declared.Conversion.TheVariants.{Converted, Stuck, Rejected}
+use Rattle.rules.specs.Answers.{Conversion}
 use Rattle.rules.specs.contracts.Conversion.{the_type}
 use Rattle.numbering.specs.Told.{conversion_words_mean}
 use Rattle.numbering.specs.declared.ConversionWords.{ConversionWords}
@@ -56,11 +55,11 @@ module _ {t s u v : Table} {a : Conversion} (d : Converts t s a u v) where
   way_alone k = ways_by ∙ alone a k
     where
       alone : (b : Conversion) → OneOf (1 ∷ 2 ∷ []) (tag_of the_type b) → flat_map way_text (b ∷ back_to t (b, v)) ≡ way_text b
-      alone Converted k = absurd (miss (1 ∷ 2 ∷ []) 0 tt k)
-      alone (Stuck key) k = append-nil (way_text (Stuck key))
-      alone (Rejected e) k = append-nil (way_text (Rejected e))
+      alone (Ok tt) k = absurd (miss (1 ∷ 2 ∷ []) 0 tt k)
+      alone (Err (Stuck key)) k = append-nil (way_text (Err (Stuck key)))
+      alone (Err (Rejected e)) k = append-nil (way_text (Err (Rejected e)))
 
-  pub ways_both : a ≡ Converted → flat_map way_text (ways_in t s) ≡ way_text a ++ way_text (convert_result v t).0
+  pub ways_both : a ≡ Ok tt → flat_map way_text (ways_in t s) ≡ way_text a ++ way_text (convert_result v t).0
   unfolding flat_map
   ways_both k = ways_by ∙ rw k (rw (append-nil (way_text (convert_result v t).0)))
 

@@ -8,14 +8,14 @@ use Rattle.rules.specs.Words.{Table}
 use Rattle.rules.specs.Answers.{number_of, conversion_means}
 use Rattle.rules.specs.Conversions.{convert_result}
 use Rattle.rules.specs.declared.Refusal.{Refusal}
-use Rattle.rules.specs.declared.Verdict.TheVariants.{Done, Denied}
-use Rattle.rules.specs.declared.Conversion.{Conversion}
-use Rattle.rules.specs.declared.Conversion.TheVariants.{Converted, Stuck, Rejected}
+use Rattle.std.specs.Prelude.{Ok, Err}
+use Rattle.rules.specs.Answers.{Conversion}
 use Rattle.lines.specs.Lines.{line_of}
 use Rattle.replaying.specs.Replays.{begun, table_of, finish_of}
 use Rattle.replaying.specs.declared.Answer.{Answer}
 use Rattle.replaying.specs.declared.Answer.TheVariants.{Nothing, Created, Changed, Kept, Found, Events, Bad}
 use Rattle.replaying.specs.declared.Replay.{Replay}
+use Rattle.rules.specs.declared.Unconverted.TheVariants.{Stuck, Rejected}
 use Rattle.running.specs.Runs.{split, over_lines}
 use Rattle.saying.specs.Texts.{line_text, answer_lines}
 
@@ -23,9 +23,9 @@ use Rattle.saying.specs.Texts.{line_text, answer_lines}
 
 -- "where that is 0 .. the way back": u is the table of form 2, and the first table's words are lent for the other
 abbrev pub back_to : Table → Conversion × Table → List Conversion
-back_to t (Converted, u) = (convert_result u t).0 ∷ []
-back_to t (Stuck key, u) = []
-back_to t (Rejected e, u) = []
+back_to t (Ok tt, u) = (convert_result u t).0 ∷ []
+back_to t (Err (Stuck key), u) = []
+back_to t (Err (Rejected e), u) = []
 
 -- what the way to form 2 answers, in a second table s, and what the way back does
 abbrev pub ways_in : Table → Table → List Conversion
@@ -46,8 +46,8 @@ pub data Report : Type 0 where
 -- what is told of a line's answer, and of the lines behind it: "`bad=` and `made=13`" end it, and no other answer is told
 abbrev pub with_answer : Answer → Report → Report
 with_answer (Bad n) later = bad_line n
-with_answer (Created (Denied e)) later = unmade e
-with_answer (Created Done) later = later
+with_answer (Created (Err e)) later = unmade e
+with_answer (Created (Ok tt)) later = later
 with_answer Nothing later = later
 with_answer (Changed r) later = later
 with_answer (Kept r n) later = later

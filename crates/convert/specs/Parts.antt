@@ -1,7 +1,7 @@
 -- How the program takes an input that comes in parts, byte by byte, and what it writes then.
 -- Assumes nothing.
 use Rattle.std.specs.Prelude.{ℕ, ◌≡◌, Bool, true, false, cond, List, [], ◌∷◌, ◌++◌, length, ltb}
-use Rattle.rules.specs.declared.Verdict.TheVariants.{Done, Denied}
+use Rattle.std.specs.Prelude.{Ok, Err}
 use Rattle.replaying.specs.declared.Answer.{Answer}
 use Rattle.replaying.specs.declared.Answer.TheVariants.{Nothing, Created, Changed, Kept, Found, Events, Bad}
 use Rattle.running.specs.Runs.{line_room, ready, byte_taken, together}
@@ -15,8 +15,8 @@ use Rattle.convert.specs.declared.Course.{Course}
 -- how an answer ends a script
 abbrev pub ended_by : Answer → Ending
 ended_by (Bad n) = BadLine n
-ended_by (Created (Denied e)) = Unmade e
-ended_by (Created Done) = Open
+ended_by (Created (Err e)) = Unmade e
+ended_by (Created (Ok tt)) = Open
 ended_by Nothing = Open
 ended_by (Changed r) = Open
 ended_by (Kept r n) = Open

@@ -1,15 +1,14 @@
 -- The program of request h), said a second time, in facts: what ends it, which caps it takes, which table is converted and what is told of the ways. No
 -- code leans on this. The definitions of `Outputs` are proved to keep it.
 -- Assumes nothing.
-use Rattle.std.specs.Prelude.{ℕ, ◌^◌, ◌≤◌, ◌<◌, ◌≡◌, false, List, [], ◌∷◌, ◌++◌, ◌⊎◌, length}
+use Rattle.std.specs.Prelude.{ℕ, ◌^◌, ◌≤◌, ◌<◌, ◌≡◌, false, List, [], ◌∷◌, ◌++◌, ◌⊎◌, length, Ok}
 use Rattle.rules.specs.Words.{Table, word, words_for}
 use Rattle.rules.specs.Results.{created}
 use Rattle.rules.specs.Conversions.{convert_result}
 use Rattle.rules.specs.ConversionSentences.{Told}
 use Rattle.rules.specs.Demands.{GoodCreation}
 use Rattle.rules.specs.declared.Refusal.{Refusal}
-use Rattle.rules.specs.declared.Verdict.TheVariants.{Denied}
-use Rattle.rules.specs.declared.Conversion.TheVariants.{Converted}
+use Rattle.std.specs.Prelude.{Err}
 use Rattle.lines.specs.Lines.{line_of}
 use Rattle.lines.specs.Texts.{line_text as script_text}
 use Rattle.lines.specs.declared.Line.TheVariants.{Number}
@@ -52,7 +51,7 @@ BadEnd = (room left : List ℕ) (ls : List (List ℕ)) (p : Replay) → Begins r
 -- a table that is not made is told alone, "`made=13` as the ledger has" it, whatever comes
 abbrev pub RefusedTablesEnd : Type 0
 RefusedTablesEnd = (room left : List ℕ) (ls : List (List ℕ)) (p : Replay) → Begins room ls left p → (l : List ℕ) → NoNewline l → (e : Refusal)
-    → (turn_of left p (line_of l)).answer ≡ Created (Denied e)
+    → (turn_of left p (line_of l)).answer ≡ Created (Err e)
     → (later : List ℕ) → output_to room (with_ends (ls ++ (l ∷ [])) later) ≡ line_text ("made", 13)
 
 -- "reads a table script to its end, .. the table NOT recovered": the table is converted as the lines have left it
@@ -96,10 +95,10 @@ RefusedWaysTold = (t s : Table) → length s ≡ length t → (number key : ℕ)
 
 -- "and where that is 0 the same two lines of the way back": from the table that the way there has made, u, in another one of that length, r
 abbrev pub BothWaysTold : Type 0
-BothWaysTold = (t s u r : Table) → length s ≡ length t → convert_result t s ≡ (Converted, u) → length r ≡ length t → (number key : ℕ)
+BothWaysTold = (t s u r : Table) → length s ≡ length t → convert_result t s ≡ (Ok tt, u) → length r ≡ length t → (number key : ℕ)
     → Told (convert_result u r).0 number key
     → ways_text t ≡ line_text ("answer", 0) ++ line_text ("key", 0) ++ line_text ("answer", number) ++ line_text ("key", key)
 
 -- "the way to form 2": scripts make form 1, and the table of a way that succeeds has the other form
 abbrev pub WayToForm2 : Type 0
-WayToForm2 = (t s u : Table) → word t 0 ≡ 1 → convert_result t s ≡ (Converted, u) → word u 0 ≡ 2
+WayToForm2 = (t s u : Table) → word t 0 ≡ 1 → convert_result t s ≡ (Ok tt, u) → word u 0 ≡ 2

@@ -18,7 +18,7 @@ use converting::convert;
 use numbering::{conversion_words, number};
 use replaying::Answer;
 use replaying::lending::least;
-use rules::{Conversion, Refusal, Verdict};
+use rules::{Conversion, Refusal};
 use running::{LINE_ROOM, Outcome, Run, end, ready, take_byte};
 use saying::{STDERR, STDOUT, put_line};
 use std::io::{Read, Stdin};
@@ -51,8 +51,8 @@ fn ended_by(answer: Answer) -> Ending
     match answer {
         Answer::Bad(line) => Ending::Bad(line),
         Answer::Created(verdict) => match verdict {
-            Verdict::Done => Ending::Open,
-            Verdict::Denied(refusal) => Ending::Unmade(refusal),
+            Ok(()) => Ending::Open,
+            Err(refusal) => Ending::Unmade(refusal),
         },
         Answer::Nothing => Ending::Open,
         Answer::Changed(_) => Ending::Open,
@@ -195,7 +195,7 @@ fn put_ways(t: &mut [u64], second: &mut [u64], out: &mut [u8]) -> usize
 {
     let there = convert(t, second);
     let next = put_way(there, out, 0);
-    let Conversion::Converted = there else {
+    let Ok(()) = there else {
         return next;
     };
     put_back(second, t, out, next)

@@ -19,22 +19,19 @@ use Rattle.rules.specs.declared.Finding.{Finding}
 use Rattle.rules.specs.declared.Finding.TheVariants.{Sound, Doubled, Flagged, Neither}
 use Rattle.rules.specs.declared.Refusal.{Refusal}
 use Rattle.rules.specs.declared.Refusal.TheVariants.{AlreadyResizing, NoKind, BadCreation}
-use Rattle.rules.specs.declared.Conversion.{Conversion}
-use Rattle.rules.specs.declared.Conversion.TheVariants.{Converted, Stuck, Rejected}
+use Rattle.rules.specs.Answers.{Conversion}
+use Rattle.std.specs.Prelude.{Ok, Err}
 use Rattle.rules.proofs.Basics.Lists.{ascending-tells}
 use Rattle.rules.specs.contracts.Finding.{the_type as finding-type}
 use Rattle.rules.proofs.Tables.Findings.{finding-means, kind_found}
 use Rattle.rules.proofs.Calls.Meanings.{finding-told_by}
 use Rattle.rules.proofs.Calls.Conversions.{Source, fresh-given, fresh-empty, items_apart, refuses-unsound, refuses-resizing, refuses_length, all_pass}
 use Rattle.reading.specs.Gates.{gate_of, header_test, Headed}
-use Rattle.reading.specs.declared.gate.Gate.{Gate}
-use Rattle.reading.specs.declared.gate.Gate.TheVariants.{Shut}
+use Rattle.reading.specs.Gates.{Gate}
 use Rattle.reading.proofs.Gated.{gate_shut}
-use Rattle.converting.specs.Fillings.{items_in, filling_of, MayTake, Fills, ConvertedAt, ConvertsAt}
+use Rattle.converting.specs.Fillings.{Progress, items_in, filling_of, MayTake, Fills, ConvertedAt, ConvertsAt}
 use Rattle.converting.specs.Promises.{Converts}
-use Rattle.converting.specs.contracts.Progress.{the_type as progress-type}
-use Rattle.converting.specs.declared.Progress.{Progress}
-use Rattle.converting.specs.declared.Progress.TheVariants.{Going, Stuck as StuckWith}
+use Rattle.rules.specs.declared.Unconverted.TheVariants.{Rejected, Stuck}
 
 -- ---- "A source that is not sound gives 12": what recovery would mend is not sound either
 
@@ -65,14 +62,14 @@ module _ (t : Table) (h : Header) (headed : Headed t h) where
   source_of sound b e f = record { sound = sound; rest = eqb-true _ _ (rest_of b e ∙ f) }
 
   module _ (s : Table) where
-    pub unsound-refused : (SoundTable t → ⊥) → ConvertsAt t s (Rejected NoKind) s
+    pub unsound-refused : (SoundTable t → ⊥) → ConvertsAt t s (Err (Rejected NoKind)) s
     unsound-refused no-sound = sym (refuses-unsound t s good no-sound)
 
-    pub resizing-refused : SoundTable t → (b : Bool) → b ≡ at_rest h.state → b ≡ false → ConvertsAt t s (Rejected AlreadyResizing) s
+    pub resizing-refused : SoundTable t → (b : Bool) → b ≡ at_rest h.state → b ≡ false → ConvertsAt t s (Err (Rejected AlreadyResizing)) s
     unfolding at_rest
     resizing-refused sound b e f = sym (refuses-resizing t s sound (eqb-false _ _ (rest_of b e ∙ f)))
 
-    pub length_refused : Source t → (length s ≡ length t → ⊥) → ConvertsAt t s (Rejected BadCreation) s
+    pub length_refused : Source t → (length s ≡ length t → ⊥) → ConvertsAt t s (Err (Rejected BadCreation)) s
     length_refused source other = sym (refuses_length t s source other)
 
     pub sound-converted : Source t → length s ≡ length t → (r : Conversion) (v : Table) → ConvertedAt t h r v → ConvertsAt t s r v
@@ -80,9 +77,9 @@ module _ (t : Table) (h : Header) (headed : Headed t h) where
 
 -- test 1
 module _ (t s : Table) {g : Gate} (e : g ≡ gate_of t (header_test t)) where
-  pub header_refused : {r : Refusal} → g ≡ Shut r → ConvertsAt t s (Rejected r) s
+  pub header_refused : {r : Refusal} → g ≡ Err r → ConvertsAt t s (Err (Rejected r)) s
   unfolding convert_result convert_tests header_test
-  header_refused q = gate_shut t (header_test t) e (λ (r : Refusal). (Rejected r, s)) _ q
+  header_refused q = gate_shut t (header_test t) e (λ (r : Refusal). (Err (Rejected r), s)) _ q
 
 pub converts : (t s : Table) (r : Conversion) (v : Table) → ConvertsAt t s r v → Converts t s r t v
 converts t s r v e = record { answer = ap (λ (a : Conversion × Table). a.0) e; source = refl; second = ap (λ (a : Conversion × Table). a.1) e }
@@ -121,12 +118,8 @@ module _ (t : Table) (h : Header) (headed : Headed t h) (source : Source t) (u :
     pub filled-long : length v ≡ length t
     filled-long = f.long ∙ fresh-long
 
-    pub all-filled : OneOf (0 ∷ []) (tag_of progress-type r) → ConvertedAt t h Converted v
-    all-filled k = go r (f.filling ∙ whole) k
-      where
-        go : (p : Progress) → filling_of p v ≡ filling t → OneOf (0 ∷ []) (tag_of progress-type p) → ConvertedAt t h Converted v
-        go Going e k = ap (filled_to h) e
-        go (StuckWith key) e k = absurd (miss (0 ∷ []) 1 tt k)
+    pub all-filled : r ≡ Ok tt → ConvertedAt t h (Ok tt) v
+    all-filled e = ap (filled_to h) (ap (λ (p : Progress). filling_of p v) (sym e) ∙ f.filling ∙ whole)
 
-    pub one-stuck : (key : ℕ) → r ≡ StuckWith key → (w : Table) → w ≡ fresh_for h → ConvertedAt t h (Stuck key) w
+    pub one-stuck : (key : ℕ) → r ≡ Err key → (w : Table) → w ≡ fresh_for h → ConvertedAt t h (Err (Stuck key)) w
     one-stuck key e w again = rw again (ap (filled_to h) (ap (λ (p : Progress). filling_of p v) (sym e) ∙ f.filling ∙ whole))

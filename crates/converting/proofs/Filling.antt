@@ -8,8 +8,6 @@ use mathlib.Core.List.Memᴰ
 use mathlib.Core.List.Memᴰ.{head as here}
 use mathlib.Core.List.{Memᴰ as In}
 use mathlib.Core.Bool.{Bool, true, false}
-use types.Run.{OneOf, miss}
-use denote.Enum.Declared.{tag_of}
 use lib.ListN.{length, drop}
 use Rattle.rules.specs.Choice.{from}
 use Rattle.rules.specs.Words.{Table, header_of, size_of, buckets_of, levels_in_use, place_at, slots_of, slots_in_use, slot_at, slots_in, key_in, record_in, token_of}
@@ -29,10 +27,8 @@ use Rattle.rules.proofs.Basics.Lists.{select_append, ascending-tells, ascending-
 use Rattle.rules.proofs.Places.Lookups.{lookup_unknown}
 use Rattle.rules.proofs.Calls.Passing.{passes}
 use Rattle.rules.proofs.Calls.Filling.{Apart, Filled, FillsTo, fill_all, stuck-stays, later-absent}
-use Rattle.converting.specs.Fillings.{items_in, Unsought, PutIn, MayTake, Fills}
-use Rattle.converting.specs.contracts.Progress.{the_type as progress-type}
-use Rattle.converting.specs.declared.Progress.{Progress}
-use Rattle.converting.specs.declared.Progress.TheVariants.{Going, Stuck}
+use Rattle.converting.specs.Fillings.{Progress, items_in, Unsought, PutIn, MayTake, Fills}
+use Rattle.std.specs.Prelude.{Ok, Err}
 
 module _ (t : Table) (to : Header) where
   apart_of : (u : Table) (xs : List Slot) → MayTake t to u xs → Apart t xs
@@ -93,7 +89,7 @@ module _ (t : Table) (to : Header) where
     pub left_whole : MayTake t to u₀ xs₀ → Left u₀ xs₀ u₀ xs₀
     left_whole m = record { same = refl; may = m; long = refl }
 
-    left_none : (u : Table) → Left u₀ xs₀ u [] → Fills t u₀ xs₀ Going u
+    left_none : (u : Table) → Left u₀ xs₀ u [] → Fills t u₀ xs₀ (Ok tt) u
     left_none u l = record { filling = sym l.same; long = l.long }
 
     module _ (u : Table) (xs ys : List Slot) (left : Left u₀ xs₀ u (xs ++ ys)) where
@@ -101,18 +97,16 @@ module _ (t : Table) (to : Header) where
       halves = left.same ∙ foldl-append (with_item t) (filled u) xs ys
 
       -- the first of them have gone into it
-      pub left_others : (r : Progress) (v : Table) → Fills t u xs r v → OneOf (0 ∷ []) (tag_of progress-type r) → Left u₀ xs₀ v ys
-      left_others (Stuck key) v f k = absurd (miss (0 ∷ []) 1 tt k)
-      left_others Going v f k = record {
+      pub left_others : (v : Table) → Fills t u xs (Ok tt) v → Left u₀ xs₀ v ys
+      left_others v f = record {
         same = halves ∙ ap (λ (z : Filling). foldl (with_item t) z ys) (sym f.filling);
         may = may_after u xs ys left.may v (sym f.filling);
         long = f.long ∙ left.long;
       }
 
       -- one of them has found no place, and so the others play no part
-      pub left_stuck : (r : Progress) (v : Table) → Fills t u xs r v → OneOf (1 ∷ []) (tag_of progress-type r) → Fills t u₀ xs₀ r v
-      left_stuck Going v f k = absurd (miss (1 ∷ []) 0 tt k)
-      left_stuck (Stuck key) v f k =
+      pub left_stuck : (key : ℕ) (v : Table) → Fills t u xs (Err key) v → Fills t u₀ xs₀ (Err key) v
+      left_stuck key v f =
           record {
             filling = sym (halves ∙ ap (λ (z : Filling). foldl (with_item t) z ys) (sym f.filling) ∙ stuck-stays t key ys);
             long = f.long ∙ left.long;
@@ -143,7 +137,7 @@ module _ (t : Table) (h : Header) where
 
   -- where no slot is left, all items have gone into it
   pub none_left : (to : Header) (u₀ : Table) (xs₀ : List Slot) (u : Table) (xs : List Slot) → xs ≡ [] → Left t to u₀ xs₀ u (items_in t h xs)
-      → Fills t u₀ xs₀ Going u
+      → Fills t u₀ xs₀ (Ok tt) u
   unfolding items_in
   none_left to u₀ xs₀ u xs e l = let m : Left t to u₀ xs₀ u (items_in t h []) = rw e at l in left_none t to u₀ xs₀ u m
 
@@ -224,9 +218,8 @@ module _ (t : Table) (h to : Header) (u₀ : Table) (xs₀ : List Slot) (u : Tab
   pub block_may : MayTake t to u (items_in t h ys)
   block_may = may_front t to u (items_in t h ys) (items_in t h zs) block_left.may
 
-  module _ (r : Progress) (v : Table) (f : Fills t u (items_in t h ys) r v) where
-    pub block_done : OneOf (0 ∷ []) (tag_of progress-type r) → Left t to u₀ xs₀ v (items_in t h zs)
-    block_done = left_others t to u₀ xs₀ u (items_in t h ys) (items_in t h zs) block_left r v f
+  pub block_done : (v : Table) → Fills t u (items_in t h ys) (Ok tt) v → Left t to u₀ xs₀ v (items_in t h zs)
+  block_done = left_others t to u₀ xs₀ u (items_in t h ys) (items_in t h zs) block_left
 
-    pub block_stuck : OneOf (1 ∷ []) (tag_of progress-type r) → Fills t u₀ xs₀ r v
-    block_stuck = left_stuck t to u₀ xs₀ u (items_in t h ys) (items_in t h zs) block_left r v f
+  pub block_stuck : (key : ℕ) (v : Table) → Fills t u (items_in t h ys) (Err key) v → Fills t u₀ xs₀ (Err key) v
+  block_stuck = left_stuck t to u₀ xs₀ u (items_in t h ys) (items_in t h zs) block_left

@@ -2,7 +2,7 @@
 -- Assumes nothing.
 use mathlib.Core.Path.{◌≡◌, sym, ◌∙◌}
 use Rattle.rules.specs.Words.{Table}
-use Rattle.rules.specs.declared.Conversion.{Conversion}
+use Rattle.rules.specs.Answers.{Conversion}
 use Rattle.converting.specs.Promises.{Converts}
 
 pub converts-one : {t a u v x y : Table} {r s : Conversion} → Converts t a r u x → Converts t a s v y → (r ≡ s) × (u ≡ v) × (x ≡ y)

@@ -25,9 +25,9 @@ use Rattle.rules.specs.declared.Record.{Record}
 use Rattle.rules.specs.declared.Placing.{Placing}
 use Rattle.rules.specs.declared.Placing.TheVariants.{Free}
 use Rattle.rules.specs.declared.Lookup.TheVariants.{Absent}
-use Rattle.rules.specs.declared.Change.{Change}
-use Rattle.rules.specs.declared.Change.TheVariants.{Listed}
-use Rattle.rules.specs.declared.Verdict.{Verdict}
+use Rattle.rules.specs.Answers.{Change}
+use Rattle.std.specs.Prelude.{Ok, Err}
+use Rattle.rules.specs.Answers.{Verdict}
 use Rattle.rules.specs.contracts.Placing.{the_type as placing-type}
 use Rattle.rules.proofs.Words.Made.{made-long}
 use Rattle.rules.proofs.Calls.MadeLists.{make_takes_the_list}
@@ -38,7 +38,6 @@ use Rattle.listing.proofs.Placings.{placed_nowhere, placed-listed}
 use Rattle.listing.proofs.Outcomes.{did_list, did_as}
 use Rattle.making.specs.Promises.{Created, Made}
 use Rattle.converting.specs.Fillings.{Unsought, PutIn}
-use Rattle.converting.specs.declared.Progress.TheVariants.{Going, Stuck}
 
 module _ (u : Table) (to : Header) (key : ℕ) (r : Record) (w : Unsought u to key r) (l : List ℕ) (long : length l ≡ 20) where
   module _ (x : Change) (m : List ℕ) (d : Did (insert_in u to (Absent 0) key r) l x m) where
@@ -47,7 +46,7 @@ module _ (u : Table) (to : Header) (key : ℕ) (r : Record) (w : Unsought u to k
     told = rw (long, w.absent) (d.answer, d.list)
 
     -- the list holds the stores, and they are made
-    put-somewhere : (n : ℕ) → x ≡ Listed n → (y : Verdict) (v : Table) (k : List ℕ) → Made u m n y v k → PutIn u key r Going v
+    put-somewhere : (n : ℕ) → x ≡ Ok n → (y : Verdict) (v : Table) (k : List ℕ) → Made u m n y v k → PutIn u key r (Ok tt) v
     unfolding Made
     put-somewhere n e y v k made_by =
         let taken = make_takes_the_list u l (insert key r) n (sym told.0 ∙ e) n (omega arith) in
@@ -69,11 +68,11 @@ module _ (u : Table) (to : Header) (key : ℕ) (r : Record) (w : Unsought u to k
   placed = w.absent ∙ ap (λ (q : Placing). placed_by q (placing_stores u to q key r)) (sym same)
 
   -- no place
-  pub put_nowhere : OneOf (2 ∷ []) (tag_of placing-type p) → PutIn u key r (Stuck key) u
+  pub put_nowhere : OneOf (2 ∷ []) (tag_of placing-type p) → PutIn u key r (Err key) u
   put_nowhere k = record { filling = ap (inserted_in u key) (placed_nowhere p (placing_stores u to p key r) k ∙ sym placed); long = refl }
 
   -- a free slot
-  pub put_in_slot : (y : Slot) → p ≡ Free y → (v : Table) → v ≡ made u (put_stores to (token_of u y.bucket) y key r) → PutIn u key r Going v
+  pub put_in_slot : (y : Slot) → p ≡ Free y → (v : Table) → v ≡ made u (put_stores to (token_of u y.bucket) y key r) → PutIn u key r (Ok tt) v
   unfolding placing_stores
   put_in_slot y e v f =
       let lists : outcome u 20 (insert key r) ≡ listed (put_stores to (token_of u y.bucket) y key r) =
@@ -83,12 +82,12 @@ module _ (u : Table) (to : Header) (key : ℕ) (r : Record) (w : Unsought u to k
   -- a slot that another item leaves: the stores are listed and made
   module _ (y : Slot) (k : Takes u p y) (l : List ℕ) (long : length l ≡ 20) (n : ℕ) (m : List ℕ) (run : Run n l m (placing_stores u to p key r)) (few : n ≤ 9)
     where
-      listed-pairs : Did (insert_in u to (Absent 0) key r) l (Listed n) m
+      listed-pairs : Did (insert_in u to (Absent 0) key r) l (Ok n) m
       listed-pairs =
           did_as (placed-listed u p y (placing_stores u to p key r) k ∙ sym placed ∙ w.absent) (did_list run (omega (arith, run.0, few, long)))
 
-      pub put_moving : (x : Verdict) (v : Table) (o : List ℕ) → Made u m n x v o → PutIn u key r Going v
-      put_moving x v o made_by = put-somewhere u to key r w l long (Listed n) m listed-pairs n refl x v o made_by
+      pub put_moving : (x : Verdict) (v : Table) (o : List ℕ) → Made u m n x v o → PutIn u key r (Ok tt) v
+      put_moving x v o made_by = put-somewhere u to key r w l long (Ok n) m listed-pairs n refl x v o made_by
 
 -- "create the other form there": the form is what was computed
 pub fresh-made : (s : Table) (h : Header) → GoodHeader (length s) h → at_rest h.state ≡ true → (form : ℕ) → form ≡ other_form h.form

@@ -1,7 +1,7 @@
 -- A second table as the code fills it: bucket by bucket, with the items of the source's taken slots.
 -- t is the source, u the second table at entry and v at exit.
 -- Assumes nothing.
-use Rattle.std.specs.Prelude.{ℕ, ◌≡◌, length}
+use Rattle.std.specs.Prelude.{ℕ, ◌≡◌, length, Result, Ok, Err}
 use mathlib.Core.List.{List, ◌∷◌, ◌++◌, foldl, Memᴰ as In}
 use Rattle.std.proofs.Math.Option.{none}
 use Rattle.rules.specs.Choice.{select}
@@ -14,19 +14,21 @@ use Rattle.rules.specs.declared.Header.{Header}
 use Rattle.rules.specs.declared.Slot.{Slot}
 use Rattle.rules.specs.declared.Record.{Record}
 use Rattle.rules.specs.declared.Lookup.TheVariants.{Absent}
-use Rattle.rules.specs.declared.Conversion.{Conversion}
+use Rattle.rules.specs.Answers.{Conversion}
 use Rattle.reading.specs.Gates.{Headed}
-use Rattle.converting.specs.declared.Progress.{Progress}
-use Rattle.converting.specs.declared.Progress.TheVariants.{Going, Stuck}
 
 -- the taken ones of some slots
 unfoldable pub items_in : Table → Header → List Slot → List Slot
 items_in t h xs = select (taken t h) xs
 
+-- whether every item so far has found its place, or the key of the one that has not
+abbrev pub Progress : Type 0
+Progress = Result (Unit {0}) ℕ
+
 -- where the inserts so far have led. With a key that found no place the table's words play no part
 abbrev pub filling_of : Progress → Table → Filling
-filling_of Going u = filled u
-filling_of (Stuck key) u = stuck key
+filling_of (Ok tt) u = filled u
+filling_of (Err key) u = stuck key
 
 -- the key is not in the table u, with the header `to`: so its insert is what it is where the lookup finds nothing
 pub record Unsought (u : Table) (to : Header) (key : ℕ) (r : Record) : Type 0 where

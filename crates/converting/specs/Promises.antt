@@ -5,7 +5,7 @@ use Rattle.std.specs.Prelude.{◌≡◌}
 use Rattle.rules.specs.Words.{Table}
 use Rattle.rules.specs.Answers.{Meaning, conversion_means}
 use Rattle.rules.specs.Conversions.{convert_result}
-use Rattle.rules.specs.declared.Conversion.{Conversion}
+use Rattle.rules.specs.Answers.{Conversion}
 
 -- the number and the key that are answered are the rules', and so is the second table; the source is only read, and stays
 pub record ConvertsBy (t s : Table) (told : Meaning) (u v : Table) : Type 0 where

@@ -12,28 +12,25 @@ ghost use Rattle.reading.specs.Gates.{Headed};
 ghost use Rattle.reading.specs.Within.{BucketWithin, SlotWithin};
 ghost use Rattle.listing.specs.Listing.{Takes};
 ghost use Rattle.converting.specs.Fillings.{items_in, Unsought, PutIn, MayTake, Fills, ConvertedAt, ConvertsAt};
-ghost use Rattle.converting.specs.declared.Progress.TheVariants.{Going};
 ghost use Rattle.converting.specs.Promises.{Converts};
 
 use listing::list_placing;
 use making::{create, make};
 use placing::placing;
-use reading::gate::{Gate, header_gate};
+use reading::gate::header_gate;
 use reading::header::decode;
 use reading::levels::{level_count, nth_level};
 use reading::places::hashes;
 use reading::slots::{key_at, key_word, record_at, token, token_word};
 use reading::tokens::{is_taken, show};
 use recovering::finding;
-use rules::{Conversion, Finding, Header, Level, Place, Placing, Record, Refusal, Slot};
+use rules::{
+    Conversion, Finding, Header, Level, Place, Placing, Record, Refusal, Slot, Unconverted,
+};
 use words::power;
 
 // Whether every item so far has found its place, or the key of the one that has not.
-#[derive(Clone, Copy)]
-pub enum Progress {
-    Going,
-    Stuck(u64),
-}
+pub type Progress = Result<(), u64>;
 
 fn other_form(form: u64) -> u64
     ensures { result ≡ other_form form }
@@ -50,7 +47,7 @@ fn create_fresh(second: &mut [u64], h: Header)
     ensures { second.new ≡ fresh_for h }
 {
     let state = h.state;
-    create(second, other_form(h.form), h.c, state.k, h.mul1, h.mul2);
+    let _ = create(second, other_form(h.form), h.c, state.k, h.mul1, h.mul2);
 }
 
 // An item in a free slot: its three words and its token, stored at once. A table that is being made need not survive a cut.
@@ -69,11 +66,11 @@ fn put_free(second: &mut [u64], to: Header, y: Slot, key: u64, tag: u64, r: Reco
 // An item that takes slot y, from which another moves. There are nine stores, so they are listed, in pairs of this function's own, and made.
 fn put_by_move(second: &mut [u64], to: Header, p: Placing, y: Slot, key: u64, tag: u64, r: Record)
     requires { Unsought second.old to key r × (p ≡ placing_of second.old to key) × Takes second.old p y × (tag ≡ tag_of to key) }
-    ensures { PutIn second.old key r Going second.new }
+    ensures { PutIn second.old key r (Ok tt) second.new }
 {
     let mut pairs = [0u64; 20];
     let stores = list_placing(second, &mut pairs, to, p, y, key, tag, r);
-    make(second, &pairs, stores as u64);
+    let _ = make(second, &pairs, stores as u64);
 }
 
 // An item whose key the second table has not: so it need not be looked up, and only its place is sought.
@@ -86,13 +83,13 @@ fn put_item(second: &mut [u64], to: Header, key: u64, r: Record) -> Progress
     match p {
         Placing::Free(y) => {
             put_free(second, to, y, key, x.tag, r);
-            Progress::Going
+            Ok(())
         }
         Placing::Move(y, _) => {
             put_by_move(second, to, p, y, key, x.tag, r);
-            Progress::Going
+            Ok(())
         }
-        Placing::Nowhere => Progress::Stuck(key),
+        Placing::Nowhere => Err(key),
     }
 }
 
@@ -108,13 +105,10 @@ fn fill_bucket(t: &[u64], h: Header, p: Place, second: &mut [u64], to: Header) -
                 bucket: p.bucket,
                 slot: s,
             };
-            let put = put_item(second, to, key_at(t, x), record_at(t, x));
-            let Progress::Going = put else {
-                return put;
-            };
+            put_item(second, to, key_at(t, x), record_at(t, x))?;
         }
     }
-    Progress::Going
+    Ok(())
 }
 
 fn fill_level(t: &[u64], h: Header, l: Level, second: &mut [u64], to: Header) -> Progress
@@ -127,12 +121,9 @@ fn fill_level(t: &[u64], h: Header, l: Level, second: &mut [u64], to: Header) ->
             level: l.name,
             bucket: size - 1 + i,
         };
-        let filled = fill_bucket(t, h, p, second, to);
-        let Progress::Going = filled else {
-            return filled;
-        };
+        fill_bucket(t, h, p, second, to)?;
     }
-    Progress::Going
+    Ok(())
 }
 
 // "insert every item in probe-level order, bucket and slot ascending"
@@ -142,12 +133,9 @@ fn fill_table(t: &[u64], h: Header, second: &mut [u64], to: Header) -> Progress
 {
     let levels = level_count(h.state);
     for n in 0..levels {
-        let filled = fill_level(t, h, nth_level(h.state, n), second, to);
-        let Progress::Going = filled else {
-            return filled;
-        };
+        fill_level(t, h, nth_level(h.state, n), second, to)?;
     }
-    Progress::Going
+    Ok(())
 }
 
 // "If an item finds no place, answer 6 with its key and leave the second table freshly created"
@@ -157,12 +145,11 @@ fn convert_sound(t: &[u64], h: Header, second: &mut [u64]) -> Conversion
 {
     create_fresh(second, h);
     let to = decode(second);
-    let filled = fill_table(t, h, second, to);
-    match filled {
-        Progress::Going => Conversion::Converted,
-        Progress::Stuck(key) => {
+    match fill_table(t, h, second, to) {
+        Ok(()) => Ok(()),
+        Err(key) => {
             create_fresh(second, h);
-            Conversion::Stuck(key)
+            Err(Unconverted::Stuck(key))
         }
     }
 }
@@ -173,16 +160,14 @@ fn convert_at(t: &[u64], h: Header, second: &mut [u64]) -> Conversion
     requires { Headed t.now h }
     ensures { ConvertsAt t.now second.old result second.new }
 {
-    let found = finding(t, h);
-    let Finding::Sound = found else {
-        return Conversion::Rejected(Refusal::NoKind);
+    let Finding::Sound = finding(t, h) else {
+        return Err(Unconverted::Rejected(Refusal::NoKind));
     };
-    let state = h.state;
-    if !state.at_rest() {
-        return Conversion::Rejected(Refusal::AlreadyResizing);
+    if !h.state.at_rest() {
+        return Err(Unconverted::Rejected(Refusal::AlreadyResizing));
     }
     if second.len() != t.len() {
-        return Conversion::Rejected(Refusal::BadCreation);
+        return Err(Unconverted::Rejected(Refusal::BadCreation));
     }
     convert_sound(t, h, second)
 }
@@ -190,9 +175,6 @@ fn convert_at(t: &[u64], h: Header, second: &mut [u64]) -> Conversion
 pub fn convert(t: &[u64], second: &mut [u64]) -> Conversion
     ensures { Converts t.now second.old result t.now second.new }
 {
-    let gate = header_gate(t);
-    match gate {
-        Gate::Shut(refusal) => Conversion::Rejected(refusal),
-        Gate::Open(h) => convert_at(t, h, second),
-    }
+    let h = header_gate(t)?;
+    convert_at(t, h, second)
 }

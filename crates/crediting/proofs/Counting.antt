@@ -5,8 +5,8 @@ use Rattle.rules.specs.Words.{Table, words_for}
 use Rattle.rules.specs.Results.{create_result}
 use Rattle.rules.specs.declared.ScriptCall.{ScriptCall}
 use Rattle.rules.specs.declared.Refusal.TheVariants.{BadCreation}
-use Rattle.rules.specs.declared.Verdict.{Verdict}
-use Rattle.rules.specs.declared.Verdict.TheVariants.{Done, Denied}
+use Rattle.rules.specs.Answers.{Verdict}
+use Rattle.std.specs.Prelude.{Ok, Err}
 use Rattle.lines.specs.Lines.{line_of}
 use Rattle.lines.specs.declared.Name.{Name}
 use Rattle.lines.specs.declared.Name.TheVariants.{Cap, Top, Mul1, Mul2, Key, Fn, At, After}
@@ -93,8 +93,8 @@ module _ (s : Script) where
 
 module _ (room : List ℕ) (p : Replay) (next : Script) where
   created_goes : (c : ℕ) (r : Verdict × Table) → GoesOn (created p next room c r).answer → (created p next room c r).replay.script ≡ next
-  created_goes c (Done, t) g = refl
-  created_goes c (Denied e, t) g = absurd (g.made e refl)
+  created_goes c (Ok tt, t) g = refl
+  created_goes c (Err e, t) g = absurd (g.made e refl)
 
   table_goes : (b : Bool) (c : ℕ) (r : Verdict × Table) → GoesOn (cond b (created p next room c r) (too_large p next room)).answer
       → (cond b (created p next room c r) (too_large p next room)).replay.script ≡ next

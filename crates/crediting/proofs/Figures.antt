@@ -6,7 +6,7 @@ use Rattle.rules.specs.Words.{Table}
 use Rattle.rules.specs.Soundness.{PlainMap, SoundTable, map_of}
 use Rattle.rules.specs.Results.{query_result}
 use Rattle.rules.specs.Demands.{QueryBy, count_of}
-use Rattle.rules.specs.declared.Query.{Query}
+use Rattle.rules.specs.Answers.{Query}
 use Rattle.rules.specs.declared.Record.{Record}
 use Rattle.rules.proofs.Tables.Maps.{sound-map}
 use Rattle.rules.proofs.Calls.Queries.{query_answers}

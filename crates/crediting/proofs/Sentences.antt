@@ -11,13 +11,11 @@ use Rattle.rules.specs.Answers.{query_means}
 use Rattle.rules.specs.SpotSentences.{word_told}
 use Rattle.rules.specs.Histories.{Accepted}
 use Rattle.rules.specs.declared.ScriptCall.TheVariants.{Recover}
-use Rattle.rules.specs.declared.Change.{Change}
-use Rattle.rules.specs.declared.Change.TheVariants.{Listed, Refused}
+use Rattle.rules.specs.Answers.{Change}
+use Rattle.std.specs.Prelude.{Ok, Err}
 use Rattle.rules.specs.declared.Record.{Record}
 use Rattle.rules.specs.declared.Refusal.{Refusal}
-use Rattle.rules.specs.declared.Query.{Query}
-use Rattle.rules.specs.declared.Query.TheVariants.{Known, Unknown}
-use Rattle.rules.specs.declared.Verdict.TheVariants.{Done, Denied}
+use Rattle.rules.specs.Answers.{Query}
 use Rattle.rules.proofs.Tables.Maps.{sound-map}
 use Rattle.rules.proofs.Calls.Meanings.{number_not_zero}
 use Rattle.rules.proofs.Calls.Spots.{told_there}
@@ -85,8 +83,8 @@ samples-begin p l d s = rw (due-told p.script d, s)
 -- ---- the script's lines
 
 unended : (a : Answer) → GoesOn a → (r : Report) → unless_ended a r ≡ r
-unended (Created (Denied e)) g r = absurd (g.made e refl)
-unended (Created Done) g r = refl
+unended (Created (Err e)) g r = absurd (g.made e refl)
+unended (Created (Ok tt)) g r = refl
 unended (Bad n) g r = absurd (g.good n refl)
 unended Nothing g r = refl
 unended (Changed x) g r = refl
@@ -124,9 +122,9 @@ bad_end room left ls p read torn n e = at_end_lem room left ls p read torn ∙ r
 
 -- ---- recovery
 
-accepted : {n : ℕ} (r : Change) → r ≡ Listed n → Accepted r
-accepted (Listed m) k = tt
-accepted (Refused e) k = let z : ◌≡◌ {A = ℕ} 0 1 = cc in absurd (omega arith)
+accepted : {n : ℕ} (r : Change) → r ≡ Ok n → Accepted r
+accepted (Ok m) k = tt
+accepted (Err e) k = let z : ◌≡◌ {A = ℕ} 0 1 = cc in absurd (omega arith)
 
 pub final_map : FinalMap
 final_map p left a =
@@ -352,8 +350,8 @@ keys_few (l ∷ ls) = go (sample_of l) refl (keys_few ls)
 
 module _ (x : Figures) where
   once : (a : Answer) (r : Report) → once_recovered a r ≡ counts x → r ≡ counts x
-  once (Changed (Refused e)) r k = not_unrecovered x k
-  once (Changed (Listed n)) r k = k
+  once (Changed (Err e)) r k = not_unrecovered x k
+  once (Changed (Ok n)) r k = k
   once Nothing r k = k
   once (Created v) r k = k
   once (Kept c n) r k = k
@@ -362,8 +360,8 @@ module _ (x : Figures) where
   once (Bad n) r k = k
 
   unless : (a : Answer) (r : Report) → unless_ended a r ≡ counts x → r ≡ counts x
-  unless (Created (Denied e)) r k = not_unmade x k
-  unless (Created Done) r k = k
+  unless (Created (Err e)) r k = not_unmade x k
+  unless (Created (Ok tt)) r k = k
   unless (Bad n) r k = not_bad x k
   unless Nothing r k = k
   unless (Changed c) r k = k
@@ -425,6 +423,6 @@ pub credits_stood : CreditsStood
 credits_stood x t key z = go (query_result t key) refl
   where
     go : (q : Query) → query_result t key ≡ q → (figures_with x (query_result t key)).credits ≡ credited (word t (word_told t key + 1)) x.credits
-    go (Known r s n) e =
-        ap (λ (q : Query). (figures_with x q).credits) e ∙ ap (λ (f : ℕ). credited f x.credits) (told_there t key r (s, n, e)).1
-    go (Unknown k n) e = absurd (number_not_zero k (sym (ap (λ (q : Query). (query_means q).number) e) ∙ z))
+    go (Ok a) e =
+        ap (λ (q : Query). (figures_with x q).credits) e ∙ ap (λ (f : ℕ). credited f x.credits) (told_there t key a.what (a.spot, a.looked, e)).1
+    go (Err a) e = absurd (number_not_zero a.refusal (sym (ap (λ (q : Query). (query_means q).number) e) ∙ z))

@@ -5,8 +5,8 @@ use Rattle.rules.specs.Words.{Table}
 use Rattle.rules.specs.Results.{query_result}
 use Rattle.rules.specs.Answers.{Meaning, query_means}
 use Rattle.rules.specs.declared.ScriptCall.TheVariants.{Recover}
-use Rattle.rules.specs.declared.Query.{Query}
-use Rattle.rules.specs.declared.Query.TheVariants.{Known, Unknown}
+use Rattle.rules.specs.Answers.{Query}
+use Rattle.std.specs.Prelude.{Ok, Err}
 use Rattle.rules.proofs.Calls.Meanings.{number_not_zero, query-one}
 use Rattle.numbering.specs.Told.{words_mean}
 use Rattle.numbering.specs.declared.QueryWords.{QueryWords}
@@ -43,16 +43,16 @@ module _ (c : Counts) (f s : List ℕ) where
       → {n b : ℕ} → n ≡ (c.samples + 1) % 2 ^ 64
       → b ≡ (c.buckets + w.buckets) % 2 ^ 64
       → CountsAre (figures_with (figures_in c f s) answer) (record { samples = n; missing = c.missing; buckets = b; tally = tally }) g v
-  known-counted (Known r x looked) e z {tally} {g} {v} d p q =
-      let own : Credited r.function c.tally f s tally g v = rw (ap (λ (m : Meaning). get_or m.values 0 0) e) at d in
+  known-counted (Ok a) e z {tally} {g} {v} d p q =
+      let own : Credited a.what.function c.tally f s tally g v = rw (ap (λ (m : Meaning). get_or m.values 0 0) e) at d in
       let count = ap (λ (m : Meaning). get_or m.values 2 0) e in
       record { figures = rw (p, q, count, own.held); orderly = d.orderly }
-  known-counted (Unknown k looked) e z d p q = absurd (number_not_zero k (sym (ap (λ (m : Meaning). m.number) e) ∙ z))
+  known-counted (Err a) e z d p q = absurd (number_not_zero a.refusal (sym (ap (λ (m : Meaning). m.number) e) ∙ z))
 
   pub unknown_counted : (answer : Query) {w : QueryWords} → words_mean w ≡ query_means answer → (w.number ≡ 0 → ⊥)
       → Orderly c.tally.used f s → {r : Counts} → r ≡ missed_one c w.buckets → CountsAre (figures_with (figures_in c f s) answer) r f s
-  unknown_counted (Known r x looked) e z o q = absurd (z (ap (λ (m : Meaning). m.number) e))
-  unknown_counted (Unknown k looked) e z o q =
+  unknown_counted (Ok a) e z o q = absurd (z (ap (λ (m : Meaning). m.number) e))
+  unknown_counted (Err a) e z o q =
       let count = ap (λ (m : Meaning). get_or m.values 2 0) e in
       rw (q, count) (record { figures = refl; orderly = o })
 

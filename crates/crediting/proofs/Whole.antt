@@ -10,9 +10,8 @@ use Rattle.rules.specs.Calls.{recover}
 use Rattle.rules.specs.Results.{change_result}
 use Rattle.rules.specs.Histories.{Accepted}
 use Rattle.rules.specs.declared.ScriptCall.TheVariants.{Recover}
-use Rattle.rules.specs.declared.Change.{Change}
-use Rattle.rules.specs.declared.Change.TheVariants.{Listed, Refused}
-use Rattle.rules.specs.declared.Verdict.TheVariants.{Done, Denied}
+use Rattle.rules.specs.Answers.{Change}
+use Rattle.std.specs.Prelude.{Ok, Err}
 use Rattle.rules.proofs.Words.Made.{made-long}
 use Rattle.rules.proofs.Calls.MadeLists.{after-whole}
 use Rattle.rules.proofs.Cutting.Restoring.{recovery_restores}
@@ -182,13 +181,13 @@ module _ (p : Replay) (room : List ℕ) where
   unfolding recovered_book script_book words recovered before
   recovered_book_lem = refl
 
-  recovers : (n : ℕ) → answer_to before Recover no_cut ≡ Changed (Listed n) → SoundTable recovered
+  recovers : (n : ℕ) → answer_to before Recover no_cut ≡ Changed (Ok n) → SoundTable recovered
   unfolding recovered before answer_to table_after
   recovers n e = recovery_restores (table_of p room) lent (accepted (change_result (table_of p room) lent recover).0 e)
     where
-      accepted : (r : Change) → Changed r ≡ Changed (Listed n) → Accepted r
-      accepted (Listed m) k = tt
-      accepted (Refused r) k = let z : ◌≡◌ {A = ℕ} 0 1 = cc in absurd (omega arith)
+      accepted : (r : Change) → Changed r ≡ Changed (Ok n) → Accepted r
+      accepted (Ok m) k = tt
+      accepted (Err r) k = let z : ◌≡◌ {A = ℕ} 0 1 = cc in absurd (omega arith)
 
   -- ---- the ways on from there, by what recovery answers
 
@@ -247,11 +246,11 @@ module _ (p : Replay) (room : List ℕ) where
       first_is key ls torn ∙ go told (λ n k. recovers n (answered ∙ ap Changed k))
       ∙ rw (samples_by (l ∷ ls) torn, more_good key l ls torn more, more)
     where
-      go : (r : Change) → ((n : ℕ) → r ≡ Listed n → SoundTable recovered) → first_report key ls torn (stage_recovered (Changed r))
+      go : (r : Change) → ((n : ℕ) → r ≡ Ok n → SoundTable recovered) → first_report key ls torn (stage_recovered (Changed r))
           ≡ report_by r (key ∷ keys_in ls) (all_good ls torn)
-      go (Listed n) sound = first_counted (sound n refl) key ls torn
+      go (Ok n) sound = first_counted (sound n refl) key ls torn
           ∙ ap (λ (x : ℕ). cond (all_good ls torn) (counted_keys (key ∷ keys_in ls)) (behind x)) (omega arith)
-      go (Refused f) sound = known_behind (stage-book (Unrecovered f)) refl ls torn ∙ sym (either_way (all_good ls torn) (unrecovered f))
+      go (Err f) sound = known_behind (stage-book (Unrecovered f)) refl ls torn ∙ sym (either_way (all_good ls torn) (unrecovered f))
 
   bad_first : (l : List ℕ) (ls : List (List ℕ)) (torn : Bool) → sample_of l ≡ BadSample → report_behind (spoilt script_book) ls torn
       ≡ samples_report before p.script.lines (l ∷ ls) torn
@@ -265,8 +264,8 @@ module _ (p : Replay) (room : List ℕ) where
   end-behind = ap report_in recovered_book_lem ∙ ap (λ (a : Answer). report_at (stage_recovered a) no_figures) answered ∙ go told ∙ sym (samples_by [] false)
     where
       go : (r : Change) → report_at (stage_recovered (Changed r)) no_figures ≡ report_by r [] true
-      go (Listed n) = ap counts (sym (figures-none (map_of recovered) (looked_in recovered)))
-      go (Refused f) = refl
+      go (Ok n) = ap counts (sym (figures-none (map_of recovered) (looked_in recovered)))
+      go (Err f) = refl
 
 -- ---- the whole input
 
@@ -298,8 +297,8 @@ script-line p room l ls torn later = go t.answer
     goes_on_lem = later t.replay t.room
 
     go : (a : Answer) → report_behind (next (stage_after a)) ls torn ≡ unless_ended a (report_from t.room t.replay ls torn)
-    go (Created Done) = goes_on_lem
-    go (Created (Denied e)) = known_behind (next (Unmade e)) refl ls torn
+    go (Created (Ok tt)) = goes_on_lem
+    go (Created (Err e)) = known_behind (next (Unmade e)) refl ls torn
     go (BadAnswer n) = known_behind (next (Bad n)) refl ls torn
     go Nothing = goes_on_lem
     go (Changed r) = goes_on_lem

@@ -3,10 +3,8 @@
 use Rattle.std.specs.Prelude.{◌≡◌, ℕ, ◌+◌, ◌%◌, ◌^◌, Bool, true, false, cond, List, [], ◌∷◌}
 use Rattle.rules.specs.Results.{query_result}
 use Rattle.rules.specs.declared.ScriptCall.TheVariants.{Recover}
-use Rattle.rules.specs.declared.Change.TheVariants.{Listed, Refused}
-use Rattle.rules.specs.declared.Query.{Query}
-use Rattle.rules.specs.declared.Query.TheVariants.{Known, Unknown}
-use Rattle.rules.specs.declared.Verdict.TheVariants.{Done, Denied}
+use Rattle.std.specs.Prelude.{Ok, Err}
+use Rattle.rules.specs.Answers.{Query}
 use Rattle.tallying.specs.Credits.{Orderly, held_in, credited}
 use Rattle.lines.specs.Lines.{line_of}
 use Rattle.lines.specs.Samples.{sample_of}
@@ -42,15 +40,15 @@ missed_one c looked =
     record { samples = one_more c.samples; missing = one_more c.missing; buckets = (c.buckets + looked) % 2 ^ 64; tally = c.tally }
 
 abbrev pub figures_with : Figures → Query → Figures
-figures_with x (Known r spot looked) =
+figures_with x (Ok a) =
     record {
       samples = one_more x.samples;
       missing = x.missing;
-      credits = credited r.function x.credits;
-      buckets = (x.buckets + looked) % 2 ^ 64;
+      credits = credited a.what.function x.credits;
+      buckets = (x.buckets + a.looked) % 2 ^ 64;
     }
-figures_with x (Unknown e looked) =
-    record { samples = one_more x.samples; missing = one_more x.missing; credits = x.credits; buckets = (x.buckets + looked) % 2 ^ 64 }
+figures_with x (Err a) =
+    record { samples = one_more x.samples; missing = one_more x.missing; credits = x.credits; buckets = (x.buckets + a.looked) % 2 ^ 64 }
 
 abbrev pub in_stage : Stage → Book → Book
 in_stage s b = record { replay = b.replay; room = b.room; stage = s; figures = b.figures }
@@ -70,8 +68,8 @@ spoilt b = in_stage (Bad (line_behind b.replay.script.lines b.figures.samples)) 
 -- ---- recovery, before the first sample
 
 abbrev pub stage_recovered : Answer → Stage
-stage_recovered (Changed (Refused e)) = Unrecovered e
-stage_recovered (Changed (Listed n)) = Samples
+stage_recovered (Changed (Err e)) = Unrecovered e
+stage_recovered (Changed (Ok n)) = Samples
 stage_recovered Nothing = Samples
 stage_recovered (Created v) = Samples
 stage_recovered (Kept r n) = Samples
@@ -97,8 +95,8 @@ first_sampled key b = let r = recovered_book b in when_recovered r.stage key r
 -- ---- a line
 
 abbrev pub stage_after : Answer → Stage
-stage_after (Created (Denied e)) = Unmade e
-stage_after (Created Done) = Script
+stage_after (Created (Err e)) = Unmade e
+stage_after (Created (Ok tt)) = Script
 stage_after (BadAnswer n) = Bad n
 stage_after Nothing = Script
 stage_after (Changed r) = Script

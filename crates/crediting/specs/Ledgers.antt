@@ -10,8 +10,7 @@ use Rattle.rules.specs.Demands.{count_of}
 use Rattle.rules.specs.declared.ScriptCall.TheVariants.{Recover}
 use Rattle.rules.specs.declared.Record.{Record}
 use Rattle.rules.specs.declared.Refusal.{Refusal}
-use Rattle.rules.specs.declared.Change.TheVariants.{Listed, Refused}
-use Rattle.rules.specs.declared.Verdict.TheVariants.{Done, Denied}
+use Rattle.std.specs.Prelude.{Ok, Err}
 use Rattle.tallying.specs.Credits.{Credits, credits_of}
 use Rattle.lines.specs.Lines.{line_of}
 use Rattle.lines.specs.Samples.{sample_of}
@@ -103,8 +102,8 @@ line_behind lines samples = (lines + samples + 1) % 2 ^ 64
 
 -- "The table is recovered before the first sample; if that is refused, `answer=12` is the whole report"
 abbrev pub once_recovered : Answer → Report → Report
-once_recovered (Changed (Refused e)) report = unrecovered e
-once_recovered (Changed (Listed n)) report = report
+once_recovered (Changed (Err e)) report = unrecovered e
+once_recovered (Changed (Ok n)) report = report
 once_recovered Nothing report = report
 once_recovered (Created v) report = report
 once_recovered (Kept r n) report = report
@@ -148,8 +147,8 @@ samples_begin p line = all (event_due p.script ∷ starts_sample (sample_of line
 
 -- "Script answers are not printed; `bad=` or `made=13` end it."
 abbrev pub unless_ended : Answer → Report → Report
-unless_ended (Created (Denied e)) report = unmade e
-unless_ended (Created Done) report = report
+unless_ended (Created (Err e)) report = unmade e
+unless_ended (Created (Ok tt)) report = report
 unless_ended (Bad n) report = bad_line n
 unless_ended Nothing report = report
 unless_ended (Changed r) report = report

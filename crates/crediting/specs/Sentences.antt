@@ -12,8 +12,7 @@ use Rattle.rules.specs.Demands.{count_of}
 use Rattle.rules.specs.SpotSentences.{told, word_told}
 use Rattle.rules.specs.declared.Record.{Record}
 use Rattle.rules.specs.declared.Refusal.{Refusal}
-use Rattle.rules.specs.declared.Change.TheVariants.{Listed, Refused}
-use Rattle.rules.specs.declared.Verdict.TheVariants.{Denied}
+use Rattle.std.specs.Prelude.{Ok, Err}
 use Rattle.tallying.specs.Credits.{credited}
 use Rattle.tallying.specs.Sentences.{total}
 use Rattle.lines.specs.Lines.{line_of}
@@ -60,7 +59,7 @@ BadEnd = (room left : List ℕ) (ls : List (List ℕ)) (p : Replay) → Read roo
 abbrev pub RefusedTablesEnd : Type 0
 RefusedTablesEnd = (room left : List ℕ) (ls : List (List ℕ)) (p : Replay) → Read room begun ls left p → (l : List ℕ)
     → NoSample p l → (e : Refusal)
-    → (turn_of left p (line_of l)).answer ≡ Created (Denied e)
+    → (turn_of left p (line_of l)).answer ≡ Created (Err e)
     → (later : List (List ℕ)) (torn : Bool) → report_of room (ls ++ (l ∷ later)) torn ≡ unmade e
 
 -- ---- recovery
@@ -76,10 +75,10 @@ final_table p left = after (table_of p left) (whole recover lent)
 
 -- it is refused, or accepted
 abbrev pub Refuses : Replay → List ℕ → Refusal → Type 0
-Refuses p left e = (change_result (table_of p left) lent recover).0 ≡ Refused e
+Refuses p left e = (change_result (table_of p left) lent recover).0 ≡ Err e
 
 abbrev pub Accepts : Replay → List ℕ → Type 0
-Accepts p left = (stores : ℕ) × ((change_result (table_of p left) lent recover).0 ≡ Listed stores)
+Accepts p left = (stores : ℕ) × ((change_result (table_of p left) lent recover).0 ≡ Ok stores)
 
 -- "and the final map": the table is then sound, and has a map
 abbrev pub FinalMap : Type 0

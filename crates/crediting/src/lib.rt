@@ -15,7 +15,7 @@ use numbering::query_words;
 use querying::query;
 use replaying::lending::least;
 use replaying::{Answer, Replay, begun, evented, finish as script_end, take_line as replay_line};
-use rules::{Change, Query, Refusal, ScriptCall, Verdict};
+use rules::{Query, Refusal, ScriptCall};
 use std::num::wrapping_add_u64;
 use tallying::{Tally, credit, nothing};
 
@@ -123,8 +123,8 @@ fn stage_recovered(answer: Answer) -> Stage
         return Stage::Samples;
     };
     match change {
-        Change::Refused(refusal) => Stage::Unrecovered(refusal),
-        Change::Listed(_) => Stage::Samples,
+        Err(refusal) => Stage::Unrecovered(refusal),
+        Ok(_) => Stage::Samples,
     }
 }
 
@@ -170,8 +170,8 @@ fn stage_after(answer: Answer) -> Stage
 {
     match answer {
         Answer::Created(verdict) => match verdict {
-            Verdict::Done => Stage::Script,
-            Verdict::Denied(refusal) => Stage::Unmade(refusal),
+            Ok(()) => Stage::Script,
+            Err(refusal) => Stage::Unmade(refusal),
         },
         Answer::Bad(line) => Stage::Bad(line),
         _ => Stage::Script,

@@ -23,15 +23,14 @@ use Rattle.rules.specs.declared.Record.{Record}
 use Rattle.rules.specs.declared.Placing.{Placing}
 use Rattle.rules.specs.declared.Refusal.{Refusal}
 use Rattle.rules.specs.declared.Refusal.TheVariants.{NotResizing, InterimEmpty, NoPlace}
-use Rattle.rules.specs.declared.Change.TheVariants.{Listed}
+use Rattle.std.specs.Prelude.{Ok, Err}
 use Rattle.rules.specs.declared.SteppedFrom.{SteppedFrom}
 use Rattle.rules.specs.contracts.Placing.{the_type as placing-type}
 use Rattle.rules.proofs.Basics.Lists.{not_some}
 use Rattle.rules.proofs.Calls.Meanings.{stepped-from-one}
 use Rattle.reading.specs.Within.{SlotWithin, PlacingWithin}
 use Rattle.reading.specs.Gates.{gate_of}
-use Rattle.reading.specs.declared.gate.Gate.{Gate}
-use Rattle.reading.specs.declared.gate.Gate.TheVariants.{Open, Shut}
+use Rattle.reading.specs.Gates.{Gate}
 use Rattle.reading.proofs.Gated.{gate_open, gate_shut}
 use Rattle.listing.specs.Listing.{listed_at, Run, Takes}
 use Rattle.listing.specs.Promises.{StepTaken, StepTakenFrom}
@@ -108,7 +107,7 @@ module _ (t : Table) (h : Header) where
       → item ≡ some x → key ≡ key_in t x → r ≡ record_in t x → p ≡ placing t h (key_in t x) → w ≡ token_of t x.bucket
       → bucket ≡ interim_bucket h.state x → 20 ≤ length l
       → Run n₁ l l₁ (placing_stores t h p key r) × (n₁ ≤ 9) → (n₂ ≡ n₁ + 1) × (l₂ ≡ listed_at l₁ n₁ (clear_stores h w x))
-      → DidStep t h item (step_in t h item) l (record { stepped = record { change = Listed n₂; placing = p }; bucket = bucket }) l₂
+      → DidStep t h item (step_in t h item) l (record { stepped = record { change = Ok n₂; placing = p }; bucket = bucket }) l₂
   unfolding step_stores clear_stores
   did_step item x {key} {n₁} {n₂} {w} l {p = p} {r = r} i k v q u c long s₁ s₂ =
       let first = placing_stores t h p key r in
@@ -121,7 +120,7 @@ module _ (t : Table) (h : Header) where
       let listing : listed (step_stores t h x p) ≡ step_in t h item = rw (i, q) in
       rw (← listing)
       (record {
-        answer = λ j. record { stepped = record { change = Listed ((count ∙ ap length same) j); placing = found j }; bucket = counted j };
+        answer = λ j. record { stepped = record { change = Ok ((count ∙ ap length same) j); placing = found j }; bucket = counted j };
         list = then l 0 first (clear_stores h w x) s₁.0.1 (s₁.0.0 ∙ sym (zero-add (length first))) s₂.1 ∙ front l stores few
             ∙ ap (λ z. written z l) same;
       })
@@ -135,12 +134,12 @@ module _ (t : Table) (l : List ℕ) (b : ℕ) where
   whole d = record { answer = rw d.answer; table = refl; list = d.list }
 
   module _ {g : Gate} (e : g ≡ gate_of t (changing_tests t (length l))) where
-    pub step_shut : {r : Refusal} {s : SteppedFrom} → g ≡ Shut r → RefusedStep r s → StepTakenFrom b t l s t l
+    pub step_shut : {r : Refusal} {s : SteppedFrom} → g ≡ Err r → RefusedStep r s → StepTakenFrom b t l s t l
     unfolding outcome
     step_shut q a =
         whole (did_step_refuse t (header_of t) _ l (gate_shut t (changing_tests t (length l)) e refused (step_of t (header_of t) b) q) a)
 
-    pub step_open : {h : Header} {s : SteppedFrom} {m : List ℕ} → g ≡ Open h → h ≡ header_of t → DidStep t h (step_item t h b) (step_of t h b) l s m
+    pub step_open : {h : Header} {s : SteppedFrom} {m : List ℕ} → g ≡ Ok h → h ≡ header_of t → DidStep t h (step_item t h b) (step_of t h b) l s m
         → StepTakenFrom b t l s t m
     unfolding outcome
     step_open {s = s} {m = m} q same d =

@@ -9,11 +9,11 @@ use Rattle.rules.specs.declared.Header.{Header}
 use Rattle.rules.specs.declared.Slot.{Slot}
 use Rattle.rules.specs.declared.Refusal.{Refusal}
 use Rattle.rules.specs.declared.Placing.TheVariants.{Nowhere}
-use Rattle.rules.specs.declared.Change.TheVariants.{Refused}
+use Rattle.std.specs.Prelude.{Err}
 use Rattle.rules.specs.declared.SteppedFrom.{SteppedFrom}
 
 abbrev pub RefusedStep : Refusal → SteppedFrom → Type 0
-RefusedStep e r = r ≡ record { stepped = record { change = Refused e; placing = Nowhere }; bucket = 0 }
+RefusedStep e r = r ≡ record { stepped = record { change = Err e; placing = Nowhere }; bucket = 0 }
 
 pub record DidStep (t : Table) (h : Header) (item : Option Slot) (o : Outcome) (l : List ℕ) (r : SteppedFrom) (m : List ℕ) : Type 0 where
   pub answer : r ≡ record { stepped = record { change = change_of o; placing = step_placing t h o item }; bucket = step_bucket h o item }

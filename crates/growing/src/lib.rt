@@ -14,7 +14,7 @@ ghost use Rattle.growing.specs.Steps.{RefusedStep, DidStep};
 
 use interim::{Item, bucket_in_level, first_item, first_placed};
 use listing::{clear, list_placing, store};
-use reading::gate::{Gate, change_gate};
+use reading::gate::change_gate;
 use reading::places::tag;
 use reading::slots::{key_at, record_at, token};
 use rules::layout::STATE;
@@ -26,7 +26,7 @@ fn restate(list: &mut [u64], s: State) -> Change
     ensures { Did (listed_of (state_stores s)) list.old result list.new }
 {
     let listed = store(list, 0, STATE, s.word());
-    Change::Listed(listed as u64)
+    Ok(listed as u64)
 }
 
 // "begin growth | state: k + 1, phase 1"
@@ -36,10 +36,10 @@ fn begin_at(list: &mut [u64], h: Header) -> Change
 {
     let state = h.state;
     if !state.at_rest() {
-        return Change::Refused(Refusal::AlreadyResizing);
+        return Err(Refusal::AlreadyResizing);
     }
     if state.k == h.c {
-        return Change::Refused(Refusal::AtCapacity);
+        return Err(Refusal::AtCapacity);
     }
     restate(list, state.begun())
 }
@@ -48,11 +48,8 @@ fn begin_at(list: &mut [u64], h: Header) -> Change
 pub fn begin(t: &[u64], list: &mut [u64]) -> Change
     ensures { Changed begin_call t.now list.old result t.now list.new }
 {
-    let gate = change_gate(t, list.len());
-    match gate {
-        Gate::Shut(refusal) => Change::Refused(refusal),
-        Gate::Open(h) => begin_at(list, h),
-    }
+    let h = change_gate(t, list.len())?;
+    begin_at(list, h)
 }
 
 // "the state goes from rest with k to phase 2 with k − 1, in one store"
@@ -62,10 +59,10 @@ fn shrink_at(list: &mut [u64], h: Header) -> Change
 {
     let state = h.state;
     if !state.at_rest() {
-        return Change::Refused(Refusal::AlreadyResizing);
+        return Err(Refusal::AlreadyResizing);
     }
     if state.k < 2 {
-        return Change::Refused(Refusal::TooSmall);
+        return Err(Refusal::TooSmall);
     }
     restate(list, state.shrunk())
 }
@@ -74,11 +71,8 @@ fn shrink_at(list: &mut [u64], h: Header) -> Change
 pub fn shrink(t: &[u64], list: &mut [u64]) -> Change
     ensures { Changed shrink_call t.now list.old result t.now list.new }
 {
-    let gate = change_gate(t, list.len());
-    match gate {
-        Gate::Shut(refusal) => Change::Refused(refusal),
-        Gate::Open(h) => shrink_at(list, h),
-    }
+    let h = change_gate(t, list.len())?;
+    shrink_at(list, h)
 }
 
 // "A shrinking table becomes a growing one with k + 1, and a growing one a shrinking one with k − 1, by one state store."
@@ -88,7 +82,7 @@ fn back_at(list: &mut [u64], h: Header) -> Change
 {
     let state = h.state;
     if state.at_rest() {
-        return Change::Refused(Refusal::NotResizing);
+        return Err(Refusal::NotResizing);
     }
     let turned = state.turned();
     restate(list, turned)
@@ -98,11 +92,8 @@ fn back_at(list: &mut [u64], h: Header) -> Change
 pub fn back(t: &[u64], list: &mut [u64]) -> Change
     ensures { Changed back_call t.now list.old result t.now list.new }
 {
-    let gate = change_gate(t, list.len());
-    match gate {
-        Gate::Shut(refusal) => Change::Refused(refusal),
-        Gate::Open(h) => back_at(list, h),
-    }
+    let h = change_gate(t, list.len())?;
+    back_at(list, h)
 }
 
 // A refused step: no store, no placing, and bucket 0.
@@ -111,7 +102,7 @@ fn unplaced(refusal: Refusal) -> SteppedFrom
 {
     SteppedFrom {
         stepped: Stepped {
-            change: Change::Refused(refusal),
+            change: Err(refusal),
             placing: Placing::Nowhere,
         },
         bucket: 0,
@@ -136,7 +127,7 @@ fn step_item(t: &[u64], list: &mut [u64], h: Header, b: usize) -> SteppedFrom
     let n = clear(list, at, h, token(t, x.bucket), x);
     SteppedFrom {
         stepped: Stepped {
-            change: Change::Listed(n as u64),
+            change: Ok(n as u64),
             placing: p,
         },
         bucket: bucket_in_level(h.state, x) as u64,
@@ -163,10 +154,9 @@ fn step_at(t: &[u64], list: &mut [u64], h: Header, b: u64) -> SteppedFrom
 pub fn step_from(t: &[u64], list: &mut [u64], b: u64) -> SteppedFrom
     ensures { StepTakenFrom b t.now list.old result t.now list.new }
 {
-    let gate = change_gate(t, list.len());
-    match gate {
-        Gate::Shut(refusal) => unplaced(refusal),
-        Gate::Open(h) => step_at(t, list, h, b),
+    match change_gate(t, list.len()) {
+        Ok(h) => step_at(t, list, h, b),
+        Err(refusal) => unplaced(refusal),
     }
 }
 
@@ -185,11 +175,11 @@ fn end_at(t: &[u64], list: &mut [u64], h: Header) -> Change
 {
     let state = h.state;
     if state.at_rest() {
-        return Change::Refused(Refusal::NotResizing);
+        return Err(Refusal::NotResizing);
     }
     let item = first_item(t, h, 0);
     let Item::Empty = item else {
-        return Change::Refused(Refusal::InterimTaken);
+        return Err(Refusal::InterimTaken);
     };
     restate(list, state.ended())
 }
@@ -198,9 +188,6 @@ fn end_at(t: &[u64], list: &mut [u64], h: Header) -> Change
 pub fn end(t: &[u64], list: &mut [u64]) -> Change
     ensures { Changed end_call t.now list.old result t.now list.new }
 {
-    let gate = change_gate(t, list.len());
-    match gate {
-        Gate::Shut(refusal) => Change::Refused(refusal),
-        Gate::Open(h) => end_at(t, list, h),
-    }
+    let h = change_gate(t, list.len())?;
+    end_at(t, list, h)
 }

@@ -7,7 +7,7 @@ use Rattle.rules.specs.Answers.{Meaning, change_means, stepped_means, gone_on_me
 use Rattle.rules.specs.Calls.{Outcome}
 use Rattle.rules.specs.Calls.{Call}
 use Rattle.rules.specs.Results.{change_of, list_after, change_result, step_from_result, step_result}
-use Rattle.rules.specs.declared.Change.{Change}
+use Rattle.rules.specs.Answers.{Change}
 use Rattle.rules.specs.declared.Stepped.{Stepped}
 use Rattle.rules.specs.declared.SteppedFrom.{SteppedFrom}
 

@@ -14,7 +14,7 @@ use Rattle.rules.specs.Choice.{all}
 use Rattle.rules.specs.Forms.{form_good}
 use Rattle.rules.specs.Words.{Table, words_for, odd, capacity_tests, state_word}
 use Rattle.rules.specs.Results.{create_tests, created, create_result}
-use Rattle.rules.specs.declared.Verdict.TheVariants.{Done, Denied}
+use Rattle.std.specs.Prelude.{Ok, Err}
 use Rattle.rules.specs.declared.Refusal.TheVariants.{BadCreation}
 use Rattle.rules.proofs.Basics.Tests.{all_yes, all_no}
 use Rattle.making.specs.Promises.{Created}
@@ -71,7 +71,7 @@ room_for c = omega arith
 
 -- the answers of create
 module _ (t : Table) (form c k mul1 mul2 : ℕ) where
-  pub refused : all (create_tests (length t) form c k mul1 mul2) ≡ false → Created t form c k mul1 mul2 (Denied BadCreation) t
+  pub refused : all (create_tests (length t) form c k mul1 mul2) ≡ false → Created t form c k mul1 mul2 (Err BadCreation) t
   unfolding Created create_result
   refused e = rw e (record { answer = refl; table = refl })
 
@@ -85,6 +85,6 @@ module _ (t : Table) (form c k mul1 mul2 : ℕ) where
     room = rw size (room_for c)
 
     -- and is written over zeroes
-    pub accepted : (u : Table) → u ≡ replicate (length t) 0 → Created t form c k mul1 mul2 Done (set (set (set (set (set u 0 form) 1 c) 2 mul1) 3 mul2) 4 k)
+    pub accepted : (u : Table) → u ≡ replicate (length t) 0 → Created t form c k mul1 mul2 (Ok tt) (set (set (set (set (set u 0 form) 1 c) 2 mul1) 3 mul2) 4 k)
     unfolding Created create_result created state_word
     accepted u e = rw (passed, e, size, add-zero k) (record { answer = refl; table = five_stores (words_for c) form c mul1 mul2 k (omega (arith, room_for c)) })

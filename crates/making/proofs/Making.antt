@@ -13,7 +13,7 @@ use lib.Dec.{ltb}
 use Rattle.rules.specs.Words.{Table, word}
 use Rattle.rules.specs.Stores.{Store, pairs, made}
 use Rattle.rules.specs.Results.{make_tests, make_result}
-use Rattle.rules.specs.declared.Verdict.TheVariants.{Done, Denied}
+use Rattle.std.specs.Prelude.{Ok, Err}
 use Rattle.rules.specs.declared.Refusal.TheVariants.{BadMaking}
 use Rattle.rules.proofs.Basics.Tests.{all_yes}
 use Rattle.making.specs.Promises.{Made}
@@ -63,14 +63,14 @@ module _ (n : ℕ) (l : List ℕ) where
 
 -- the answers of make
 module _ (t : Table) (l : List ℕ) (n : ℕ) where
-  pub few-pairs : length l / 2 < n → Made t l n (Denied BadMaking) t l
+  pub few-pairs : length l / 2 < n → Made t l n (Err BadMaking) t l
   unfolding Made make_result make_tests
   few-pairs h = rw (lt-leb (2 * n) (length l) (omega arith)) (record { answer = refl; table = refl }, refl)
 
-  pub outside : inside (length t) (pairs n l) ≡ false → Made t l n (Denied BadMaking) t l
+  pub outside : inside (length t) (pairs n l) ≡ false → Made t l n (Err BadMaking) t l
   unfolding Made make_result make_tests inside
   outside e = simp (e, and-false) (record { answer = refl; table = refl }, refl)
 
-  pub all_made : {u : Table} → 2 * n ≤ length l → inside (length t) (pairs n l) ≡ true → u ≡ made t (pairs n l) → Made t l n Done u l
+  pub all_made : {u : Table} → 2 * n ≤ length l → inside (length t) (pairs n l) ≡ true → u ≡ made t (pairs n l) → Made t l n (Ok tt) u l
   unfolding Made make_result make_tests inside
   all_made h e m = rw (le-leb (2 * n) (length l) h, e) (record { answer = refl; table = m }, refl)

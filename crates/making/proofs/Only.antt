@@ -6,7 +6,7 @@ use mathlib.Core.List.{List}
 use Rattle.rules.specs.Words.{Table}
 use Rattle.rules.specs.Answers.{verdict_means}
 use Rattle.rules.specs.Results.{create_result, make_result}
-use Rattle.rules.specs.declared.Verdict.{Verdict}
+use Rattle.rules.specs.Answers.{Verdict}
 use Rattle.rules.proofs.Calls.Meanings.{verdict_one}
 use Rattle.making.specs.Promises.{IsResult, Created, Made}
 

@@ -6,7 +6,7 @@ use Rattle.std.specs.Prelude.{ℕ, ◌≡◌, List}
 use Rattle.rules.specs.Words.{Table}
 use Rattle.rules.specs.Answers.{Meaning, verdict_means}
 use Rattle.rules.specs.Results.{create_result, make_result}
-use Rattle.rules.specs.declared.Verdict.{Verdict}
+use Rattle.rules.specs.Answers.{Verdict}
 
 -- the number that is answered is the rules', and so is the table
 pub record IsResult (result : Verdict × Table) (told : Meaning) (u : Table) : Type 0 where

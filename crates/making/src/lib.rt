@@ -55,7 +55,7 @@ pub fn create(t: &mut [u64], form: u64, c: u64, k: u64, mul1: u64, mul2: u64) ->
     ensures { Created t.old form c k mul1 mul2 result t.new }
 {
     if !creation_good(t.len(), form, c, k, mul1, mul2) {
-        return Verdict::Denied(Refusal::BadCreation);
+        return Err(Refusal::BadCreation);
     }
     zero(t);
     t[FORM] = form;
@@ -63,7 +63,7 @@ pub fn create(t: &mut [u64], form: u64, c: u64, k: u64, mul1: u64, mul2: u64) ->
     t[MULTIPLIER1] = mul1;
     t[MULTIPLIER2] = mul2;
     t[STATE] = k;
-    Verdict::Done
+    Ok(())
 }
 
 // Whether no "index among them is outside the table", which has that many words.
@@ -97,11 +97,11 @@ pub fn make(t: &mut [u64], list: &[u64], n: u64) -> Verdict
 {
     let count = n as usize;
     if list.len() / 2 < count {
-        return Verdict::Denied(Refusal::BadMaking);
+        return Err(Refusal::BadMaking);
     }
     if !indexes_inside(t.len(), list, count) {
-        return Verdict::Denied(Refusal::BadMaking);
+        return Err(Refusal::BadMaking);
     }
     store_all(t, list, count);
-    Verdict::Done
+    Ok(())
 }

@@ -2,11 +2,11 @@
 #![tactic(auto)]
 
 ghost use Rattle.std.specs.Prelude.{◌≡◌};
-ghost use Rattle.rules.specs.Answers.{number_of, change_means, conversion_means, query_means, verdict_means};
+ghost use Rattle.rules.specs.Answers.{number_of, name_of, change_means, conversion_means, query_means, verdict_means};
 ghost use Rattle.rules.specs.Histories.{reported as reported_of};
 ghost use Rattle.numbering.specs.Told.{told, words_mean, conversion_words_mean};
 
-use rules::{Change, Conversion, Query, Refusal, Verdict};
+use rules::{Change, Conversion, Query, Refusal, Side, Unconverted, Verdict};
 
 // "no. | given when | by"
 pub fn number(refusal: Refusal) -> u64
@@ -37,8 +37,8 @@ pub fn verdict_number(verdict: Verdict) -> u64
     ensures { told result ≡ verdict_means verdict }
 {
     match verdict {
-        Verdict::Done => 0,
-        Verdict::Denied(refusal) => number(refusal),
+        Ok(()) => 0,
+        Err(denial) => number(denial),
     }
 }
 
@@ -46,8 +46,8 @@ pub fn change_number(change: Change) -> u64
     ensures { result ≡ (change_means change).number }
 {
     match change {
-        Change::Listed(_) => 0,
-        Change::Refused(refusal) => number(refusal),
+        Ok(_) => 0,
+        Err(refusal) => number(refusal),
     }
 }
 
@@ -56,8 +56,18 @@ pub fn reported(change: Change) -> u64
     ensures { result ≡ reported_of change }
 {
     match change {
-        Change::Listed(stores) => stores,
-        Change::Refused(_) => 0,
+        Ok(stores) => stores,
+        Err(_) => 0,
+    }
+}
+
+// "the table's name (0 newer, 1 older)"
+pub fn side_number(side: Side) -> u64
+    ensures { result ≡ name_of side }
+{
+    match side {
+        Side::Newer => 0,
+        Side::Older => 1,
     }
 }
 
@@ -77,19 +87,19 @@ pub fn query_words(answer: Query) -> QueryWords
     ensures { words_mean result ≡ query_means answer }
 {
     match answer {
-        Query::Known(record, spot, looked) => QueryWords {
+        Ok(known) => QueryWords {
             number: 0,
-            function: record.function,
-            place: record.place,
-            buckets: looked,
-            word: spot.word,
-            level: spot.level,
+            function: known.what.function,
+            place: known.what.place,
+            buckets: known.looked,
+            word: known.spot.word,
+            level: known.spot.level,
         },
-        Query::Unknown(refusal, searched) => QueryWords {
-            number: number(refusal),
+        Err(missed) => QueryWords {
+            number: number(missed.refusal),
             function: 0,
             place: 0,
-            buckets: searched,
+            buckets: missed.looked,
             word: 0,
             level: 0,
         },
@@ -108,12 +118,12 @@ pub fn conversion_words(answer: Conversion) -> ConversionWords
     ensures { conversion_words_mean result ≡ conversion_means answer }
 {
     match answer {
-        Conversion::Converted => ConversionWords { number: 0, key: 0 },
-        Conversion::Stuck(key) => ConversionWords {
+        Ok(()) => ConversionWords { number: 0, key: 0 },
+        Err(Unconverted::Stuck(key)) => ConversionWords {
             number: number(Refusal::NoPlace),
             key,
         },
-        Conversion::Rejected(refusal) => ConversionWords {
+        Err(Unconverted::Rejected(refusal)) => ConversionWords {
             number: number(refusal),
             key: 0,
         },

@@ -6,20 +6,20 @@ use native.Mathlib.Omega.{arith}
 use lib.ListN.{length}
 use Rattle.rules.specs.Words.{Table, GoodHeader, key_word}
 use Rattle.rules.specs.Places.{lookup}
-use Rattle.rules.specs.Answers.{LookupTells}
+use Rattle.rules.specs.Answers.{LookupTells, hits, lacks}
 use Rattle.rules.specs.Overlays.{newer, older, in_older, in_either, asked_result}
 use Rattle.rules.specs.declared.Header.{Header}
 use Rattle.rules.specs.declared.Slot.{Slot}
 use Rattle.rules.specs.declared.Lookup.{Lookup}
 use Rattle.rules.specs.declared.Lookup.TheVariants.{Stands, Absent}
 use Rattle.rules.specs.declared.Refusal.TheVariants.{KeyAbsent}
-use Rattle.rules.specs.declared.Asked.{Asked}
-use Rattle.rules.specs.declared.Asked.TheVariants.{Hit, Miss}
+use Rattle.rules.specs.Answers.{Asked}
 use Rattle.rules.proofs.Words.Headers.{table-small}
 use Rattle.rules.proofs.Calls.Meanings.{lookup-told_by}
 use Rattle.reading.specs.Within.{Standing}
 use Rattle.querying.proofs.Standings.{looked, lookup-few}
 use Rattle.overlaying.specs.Promises.{Near, Asks}
+use Rattle.rules.specs.declared.Side.TheVariants.{Newer, Older}
 
 -- ---- the lookup of one table
 
@@ -37,19 +37,6 @@ module _ (t : Table) (h : Header) (key : ℕ) {f : Lookup} (told : LookupTells f
 
   pub newer_by : (behind : Lookup) {r : Asked} → r ≡ in_either f behind → r ≡ in_either (lookup t h key) behind
   newer_by behind e = rw (← lookup-told_by told) e
-
-module _ {f : Lookup} where
-  pub older-stands : (n : ℕ) {x : Slot} {m w : ℕ} → f ≡ Stands x m → w ≡ key_word x → Hit older w (n + m) ≡ in_older n f
-  older-stands n e k = rw (e, k)
-
-  pub older-absent : (n : ℕ) {m : ℕ} → f ≡ Absent m → Miss older KeyAbsent (n + m) ≡ in_older n f
-  older-absent n e = rw e
-
-  pub newer-stands : (behind : Lookup) {x : Slot} {m w : ℕ} → f ≡ Stands x m → w ≡ key_word x → Hit newer w m ≡ in_either f behind
-  newer-stands behind e k = rw (e, k)
-
-  pub newer-absent : (behind : Lookup) {m : ℕ} {r : Asked} → f ≡ Absent m → r ≡ in_older m behind → r ≡ in_either f behind
-  newer-absent behind e k = rw (e, k)
 
 -- ---- the promise
 

@@ -10,18 +10,18 @@ use lib.Dec.{eqb}
 use denote.Ref.{Bor}
 use Rattle.rules.specs.Words.{Table, token_word, key_word}
 use Rattle.rules.specs.Places.{lookup}
-use Rattle.rules.specs.Answers.{LookupTells}
+use Rattle.rules.specs.Answers.{LookupTells, lacks, name_of}
 use Rattle.rules.specs.Overlays.{newer, named, in_either, asked_result, part_of, part_result, words_of}
 use Rattle.rules.specs.declared.Header.{Header}
 use Rattle.rules.specs.declared.Slot.{Slot}
 use Rattle.rules.specs.declared.Lookup.{Lookup}
 use Rattle.rules.specs.declared.Lookup.TheVariants.{Stands, Absent}
 use Rattle.rules.specs.declared.Refusal.{Refusal}
-use Rattle.rules.specs.declared.Asked.{Asked}
-use Rattle.rules.specs.declared.Asked.TheVariants.{Miss}
+use Rattle.rules.specs.Answers.{Asked}
 use Rattle.rules.proofs.Calls.Meanings.{lookup-told_by}
 use Rattle.reading.specs.Within.{SlotWithin}
 use Rattle.overlaying.specs.Promises.{PartAt, PartFound, PartOver, Parted}
+use Rattle.rules.specs.declared.Side.{Side}
 
 pub cut : (i n : ℕ) → i + n - i ≡ n
 cut i n = omega arith
@@ -92,9 +92,9 @@ module _ (t u : Bor (List ℕ)) (key : ℕ) where
       → PartOver (lookup t.now h key) (lookup u.now g key) t u r → Parted t u key r t.now u.now
   part_open h g e p = parted e (over_for (lookup t.now h key) (lookup u.now g key) p)
 
-  pub part_shut : (name : ℕ) {x : Refusal} {r : Bor (List ℕ)} → Miss name x 0 ≡ asked_result t.now u.now key → PartAt (named name t u) 0 0 r
+  pub part_shut : (side : Side) {x : Refusal} {r : Bor (List ℕ)} → lacks side x 0 ≡ asked_result t.now u.now key → PartAt (named (name_of side) t u) 0 0 r
       → Parted t u key r t.now u.now
-  part_shut name e p = parted e p
+  part_shut side e p = parted e p
 
 -- no second part keeps the promise: neither other words nor other memory; and no second table
 pub parts-one : (t u : Bor (List ℕ)) (key : ℕ) (r s : Bor (List ℕ)) (v w x y : Table) → Parted t u key r v w → Parted t u key s x y

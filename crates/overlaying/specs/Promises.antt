@@ -8,7 +8,7 @@ use Rattle.rules.specs.Answers.{Meaning, asked_means}
 use Rattle.rules.specs.Overlays.{named, asked_result, part_result, words_of}
 use Rattle.rules.specs.declared.Lookup.{Lookup}
 use Rattle.rules.specs.declared.Lookup.TheVariants.{Stands, Absent}
-use Rattle.rules.specs.declared.Asked.{Asked}
+use Rattle.rules.specs.Answers.{Asked}
 
 -- what a lookup has found: a slot whose words have a number, after at most six buckets
 abbrev pub Near : Lookup → Type 0

@@ -1,5 +1,6 @@
 // The part of whichever table holds the key: words of that table's own memory.
-ghost use Rattle.std.specs.Prelude.{◌+◌, ◌≤◌, length};
+ghost use Rattle.std.specs.Prelude.{◌≡◌, ◌+◌, ◌≤◌, length};
+ghost use Rattle.rules.specs.Forms.{tagged};
 ghost use Rattle.rules.specs.Words.{GoodHeader};
 ghost use Rattle.rules.specs.Places.{lookup as lookup_of};
 ghost use Rattle.reading.specs.Within.{Standing};
@@ -7,7 +8,7 @@ ghost use Rattle.overlaying.specs.Promises.{PartAt, PartFound, PartOver, Parted}
 
 use querying::lookup::lookup_with;
 use reading::forms::has_tags;
-use reading::gate::{Gate, query_gate};
+use reading::gate::query_gate;
 use reading::places::hashes;
 use reading::slots::key_word;
 use rules::layout::SLOT_WORDS;
@@ -33,15 +34,22 @@ fn older_part<'a>(older: &'a [u64], found: Lookup) -> &'a [u64]
     }
 }
 
-// As in a query, the key is hashed in each branch, where the compiler knows the kind of table.
+// As in a query, there is code of its own for tables whose slots have tags.
+fn older_part_with<'a, const TAGS: bool>(older: &'a [u64], g: Header, key: u64) -> &'a [u64]
+    requires { GoodHeader (length older.now) g × (TAGS ≡ tagged g) }
+    ensures { PartFound (lookup_of older.now g key) older.entry result }
+{
+    older_part(older, lookup_with::<TAGS>(older, g, key, hashes(g, key)))
+}
+
 fn part_in_older<'a>(older: &'a [u64], g: Header, key: u64) -> &'a [u64]
     requires { GoodHeader (length older.now) g }
     ensures { PartFound (lookup_of older.now g key) older.entry result }
 {
     if has_tags(g) {
-        return older_part(older, lookup_with(older, g, key, hashes(g, key), true));
+        return older_part_with::<true>(older, g, key);
     }
-    older_part(older, lookup_with(older, g, key, hashes(g, key), false))
+    older_part_with::<false>(older, g, key)
 }
 
 // What the newer table's lookup leads to; only where it finds nothing is the older table looked up.
@@ -61,6 +69,25 @@ fn newer_part<'a>(
     }
 }
 
+fn newer_part_with<'a, const TAGS: bool>(
+    newer: &'a [u64],
+    h: Header,
+    older: &'a [u64],
+    g: Header,
+    key: u64,
+) -> &'a [u64]
+    requires { GoodHeader (length newer.now) h × GoodHeader (length older.now) g × (TAGS ≡ tagged h) }
+    ensures { PartOver (lookup_of newer.now h key) (lookup_of older.now g key) newer.entry older.entry result }
+{
+    newer_part(
+        newer,
+        lookup_with::<TAGS>(newer, h, key, hashes(h, key)),
+        older,
+        g,
+        key,
+    )
+}
+
 // Behind the tests of both.
 fn part_in_either<'a>(
     newer: &'a [u64],
@@ -73,21 +100,9 @@ fn part_in_either<'a>(
     ensures { PartOver (lookup_of newer.now h key) (lookup_of older.now g key) newer.entry older.entry result }
 {
     if has_tags(h) {
-        return newer_part(
-            newer,
-            lookup_with(newer, h, key, hashes(h, key), true),
-            older,
-            g,
-            key,
-        );
+        return newer_part_with::<true>(newer, h, older, g, key);
     }
-    newer_part(
-        newer,
-        lookup_with(newer, h, key, hashes(h, key), false),
-        older,
-        g,
-        key,
-    )
+    newer_part_with::<false>(newer, h, older, g, key)
 }
 
 // "The answer is the part of whichever table holds the key, three words of that table and no copy; an empty part with a refusal", which begins at word
@@ -95,15 +110,11 @@ fn part_in_either<'a>(
 pub fn part<'a>(newer: &'a [u64], older: &'a [u64], key: u64) -> &'a [u64]
     ensures { Parted newer.entry older.entry key result newer.now older.now }
 {
-    let first = query_gate(newer);
-    match first {
-        Gate::Shut(_) => words_from(newer, 0, 0),
-        Gate::Open(h) => {
-            let second = query_gate(older);
-            match second {
-                Gate::Shut(_) => words_from(older, 0, 0),
-                Gate::Open(g) => part_in_either(newer, h, older, g, key),
-            }
-        }
-    }
+    let Ok(h) = query_gate(newer) else {
+        return words_from(newer, 0, 0);
+    };
+    let Ok(g) = query_gate(older) else {
+        return words_from(older, 0, 0);
+    };
+    part_in_either(newer, h, older, g, key)
 }

@@ -49,11 +49,11 @@ fn stores(list: &[u64], count: u64) {
 
 pub fn change(list: &[u64], answer: Change) {
     match answer {
-        Change::Listed(count) => {
+        Ok(count) => {
             outcome(0);
             stores(list, count);
         }
-        Change::Refused(refusal) => {
+        Err(refusal) => {
             outcome(number(refusal));
             stores(list, 0);
         }

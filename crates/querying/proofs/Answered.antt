@@ -9,7 +9,7 @@ use lib.ListN.{length}
 use Rattle.rules.specs.Words.{Table, header_of, spot_of, record_in}
 use Rattle.rules.specs.Places.{hashes_of, places_of, hit_in, lookup}
 use Rattle.rules.specs.Calls.{header_good, flag_clear, query_tests}
-use Rattle.rules.specs.Answers.{query_means, LookupTells}
+use Rattle.rules.specs.Answers.{query_means, LookupTells, knows, misses}
 use Rattle.rules.specs.Results.{query_at, query_result}
 use Rattle.rules.specs.declared.Header.{Header}
 use Rattle.rules.specs.declared.Slot.{Slot}
@@ -19,13 +19,12 @@ use Rattle.rules.specs.declared.Lookup.{Lookup}
 use Rattle.rules.specs.declared.Lookup.TheVariants.{Stands, Absent}
 use Rattle.rules.specs.declared.Refusal.{Refusal}
 use Rattle.rules.specs.declared.Refusal.TheVariants.{BadHeader, FlagSet, KeyAbsent}
-use Rattle.rules.specs.declared.Query.{Query}
-use Rattle.rules.specs.declared.Query.TheVariants.{Known, Unknown}
+use Rattle.rules.specs.Answers.{Query}
+use Rattle.std.specs.Prelude.{Ok, Err}
 use Rattle.rules.proofs.Places.Few.{four_at_rest, six_at_most}
 use Rattle.rules.proofs.Calls.Meanings.{query-one, lookup-told_by}
 use Rattle.reading.specs.Gates.{gate_of}
-use Rattle.reading.specs.declared.gate.Gate.{Gate}
-use Rattle.reading.specs.declared.gate.Gate.TheVariants.{Open, Shut}
+use Rattle.reading.specs.Gates.{Gate}
 use Rattle.reading.proofs.Gated.{gate_open, gate_shut}
 use Rattle.querying.specs.Promises.{position, probe_count, count_of, Queried}
 use Rattle.querying.proofs.Standings.{looked, seek-position, position-few}
@@ -47,7 +46,7 @@ module _ (t : Table) (key : ℕ) where
   counted = go (header_good t) (flag_clear t)
     where
       go : (b d : Bool) → count_of
-          (query_means (cond b (cond d (query_at t (lookup t (header_of t) key)) (Unknown FlagSet 0)) (Unknown BadHeader 0))) ≡ cond b
+          (query_means (cond b (cond d (query_at t (lookup t (header_of t) key)) (misses FlagSet 0)) (misses BadHeader 0))) ≡ cond b
           (cond d (position (hit_in t (header_of t) key) (places_of (header_of t) key)) 0) 0
       go true true = at_position
       go true false = refl
@@ -78,26 +77,28 @@ module _ (t : Table) (key : ℕ) where
   -- ---- the ways through the code
 
   module _ {g : Gate} (e : g ≡ gate_of t (query_tests t)) where
-    pub refused : {r : Refusal} → g ≡ Shut r → Queried t key (Unknown r 0) t
+    pub refused : {r : Refusal} → g ≡ Err r → Queried t key (misses r 0) t
     unfolding query_result
-    refused q = queried (gate_shut t (query_tests t) e (λ (r : Refusal). Unknown r 0) _ q)
+    refused q = queried (gate_shut t (query_tests t) e (λ (r : Refusal). misses r 0) _ q)
 
-    module _ {h : Header} (q : g ≡ Open h) (same : h ≡ header_of t) {f : Lookup} (l : LookupTells f (lookup t h key)) where
-      pub through : {r : Query} → r ≡ query_at t f → Queried t key r t
-      unfolding query_result
-      through told =
-          queried
-          (told
-          ∙ ap (query_at t) (lookup-told_by l ∙ ap (λ (z : Header). lookup t z key) same)
-          ∙ gate_open t (query_tests t) e (λ (r : Refusal). Unknown r 0) _ q)
+    pub through : {h : Header} → g ≡ Ok h → h ≡ header_of t → {r : Query} → r ≡ query_at t (lookup t h key) → Queried t key r t
+    unfolding query_result
+    through q same told =
+        queried
+        (told
+        ∙ ap (query_at t) (ap (λ (z : Header). lookup t z key) same)
+        ∙ gate_open t (query_tests t) e (λ (r : Refusal). misses r 0) _ q)
 
 -- ---- what a lookup tells
 
+pub told-alike : (t : Table) {f g : Lookup} → LookupTells f g → query_at t f ≡ query_at t g
+told-alike t l = ap (query_at t) (lookup-told_by l)
+
 module _ (t : Table) {f : Lookup} where
-  pub told-known : {x : Slot} {n : ℕ} {r : Record} {s : Spot} → f ≡ Stands x n → r ≡ record_in t x → s ≡ spot_of x → Known r s n ≡ query_at t f
+  pub told-known : {x : Slot} {n : ℕ} {r : Record} {s : Spot} → f ≡ Stands x n → r ≡ record_in t x → s ≡ spot_of x → knows r s n ≡ query_at t f
   told-known p w v = rw (p, w, v)
 
-  pub told-absent : {n : ℕ} → f ≡ Absent n → Unknown KeyAbsent n ≡ query_at t f
+  pub told-absent : {n : ℕ} → f ≡ Absent n → misses KeyAbsent n ≡ query_at t f
   told-absent p = rw p
 
 -- no second answer and no second table keeps the promise

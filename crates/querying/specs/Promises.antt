@@ -9,7 +9,7 @@ use Rattle.rules.specs.Answers.{Meaning, query_means}
 use Rattle.rules.specs.Results.{query_result}
 use Rattle.rules.specs.declared.Place.{Place}
 use Rattle.rules.specs.declared.Slot.{Slot}
-use Rattle.rules.specs.declared.Query.{Query}
+use Rattle.rules.specs.Answers.{Query}
 
 -- "Its probe count is the number of buckets looked at up to and including that one, or all of them when the key is absent":
 -- the position, from 1, of the first bucket of a list that has the key, or the list's length

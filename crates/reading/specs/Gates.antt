@@ -1,22 +1,24 @@
 -- What the tests 1, 2 and 3 leave: a good header, or the refusal of the first that fails.
 -- Assumes nothing.
-use Rattle.std.specs.Prelude.{◌≡◌, Bool, cond, List, [], ◌∷◌, length}
+use Rattle.std.specs.Prelude.{◌≡◌, Bool, cond, List, [], ◌∷◌, length, Result, Ok, Err}
 use Rattle.rules.specs.Words.{Table, header_of, GoodHeader}
 use Rattle.rules.specs.Calls.{header_good, checked}
 use Rattle.rules.specs.declared.Header.{Header}
 use Rattle.rules.specs.declared.Refusal.{Refusal}
 use Rattle.rules.specs.declared.Refusal.TheVariants.{BadHeader}
-use Rattle.reading.specs.declared.gate.Gate.{Gate}
-use Rattle.reading.specs.declared.gate.Gate.TheVariants.{Open, Shut}
+
+-- a good header to go on with, or a refusal
+abbrev pub Gate : Type 0
+Gate = Result Header Refusal
 
 -- the header where all tests pass, else the refusal of the first that fails
 unfoldable pub gate_of : Table → List (Bool × Refusal) → Gate
-gate_of t tests = checked Shut tests (Open (header_of t))
+gate_of t tests = checked Err tests (Ok (header_of t))
 
 -- one test more: an open gate stays open only where it passes
 abbrev pub also : Bool → Refusal → Gate → Gate
-also b x (Open h) = cond b (Open h) (Shut x)
-also b x (Shut r) = Shut r
+also b x (Ok h) = cond b (Ok h) (Err x)
+also b x (Err r) = Err r
 
 -- test 1 alone
 unfoldable pub header_test : Table → List (Bool × Refusal)
@@ -29,5 +31,5 @@ pub record Headed (t : Table) (h : Header) : Type 0 where
 
 -- what an open gate is open with: the table's own header, and it is good
 abbrev pub Ready : Table → Gate → Type 0
-Ready t (Open h) = (h ≡ header_of t) × GoodHeader (length t) h
-Ready t (Shut r) = Unit {0}
+Ready t (Ok h) = (h ≡ header_of t) × GoodHeader (length t) h
+Ready t (Err r) = Unit {0}

@@ -9,64 +9,52 @@ use rules::layout::{FLAG, HEADER_WORDS};
 use rules::{Header, Refusal};
 
 // A good header to go on with, or the refusal of the first test that fails.
-#[derive(Clone, Copy)]
-pub enum Gate {
-    Open(Header),
-    Shut(Refusal),
-}
+pub type Gate = Result<Header, Refusal>;
 
 pub fn header_gate(t: &[u64]) -> Gate
     ensures { (result ≡ gate_of t.now (header_test t.now)) × Ready t.now result }
 {
     if t.len() < HEADER_WORDS {
-        return Gate::Shut(Refusal::BadHeader);
+        return Err(Refusal::BadHeader);
     }
     let h = decode(t);
     if !header_good(t.len(), h) {
-        return Gate::Shut(Refusal::BadHeader);
+        return Err(Refusal::BadHeader);
     }
-    Gate::Open(h)
+    Ok(h)
 }
 
 pub fn recover_gate(t: &[u64], n: usize) -> Gate
     ensures { (result ≡ gate_of t.now (recover_tests t.now n)) × Ready t.now result }
 {
-    let gate = header_gate(t);
-    match gate {
-        Gate::Shut(r) => Gate::Shut(r),
-        Gate::Open(h) => {
-            if n < 20 {
-                return Gate::Shut(Refusal::ShortList);
-            }
-            Gate::Open(h)
-        }
+    let h = header_gate(t)?;
+    if n < 20 {
+        return Err(Refusal::ShortList);
     }
+    Ok(h)
 }
 
 // Test 3, behind the others.
-fn unflagged(t: &[u64], gate: Gate) -> Gate
-    requires { Ready t.now gate }
-    ensures { (result ≡ also (flag_clear t.now) FlagSet gate) × Ready t.now result }
+fn unflagged(t: &[u64], h: Header) -> Gate
+    requires { Ready t.now (Ok h) }
+    ensures { (result ≡ also (flag_clear t.now) FlagSet (Ok h)) × Ready t.now result }
 {
-    match gate {
-        Gate::Shut(r) => Gate::Shut(r),
-        Gate::Open(h) => {
-            if t[FLAG] != 0 {
-                return Gate::Shut(Refusal::FlagSet);
-            }
-            Gate::Open(h)
-        }
+    if t[FLAG] != 0 {
+        return Err(Refusal::FlagSet);
     }
+    Ok(h)
 }
 
 pub fn change_gate(t: &[u64], n: usize) -> Gate
     ensures { (result ≡ gate_of t.now (changing_tests t.now n)) × Ready t.now result }
 {
-    unflagged(t, recover_gate(t, n))
+    let h = recover_gate(t, n)?;
+    unflagged(t, h)
 }
 
 pub fn query_gate(t: &[u64]) -> Gate
     ensures { (result ≡ gate_of t.now (query_tests t.now)) × Ready t.now result }
 {
-    unflagged(t, header_gate(t))
+    let h = header_gate(t)?;
+    unflagged(t, h)
 }

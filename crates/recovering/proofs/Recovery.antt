@@ -18,12 +18,12 @@ use Rattle.rules.specs.declared.Record.{Record}
 use Rattle.rules.specs.declared.Finding.{Finding}
 use Rattle.rules.specs.declared.Finding.TheVariants.{Sound, Doubled, Flagged, Neither}
 use Rattle.rules.specs.declared.Refusal.TheVariants.{NoKind}
-use Rattle.rules.specs.declared.Change.TheVariants.{Listed}
+use Rattle.std.specs.Prelude.{Ok}
 use Rattle.rules.specs.contracts.Finding.{the_type}
 use Rattle.listing.specs.Promises.{Did}
 
 -- "sound: no stores"
-pub did_nothing : (l : List ℕ) → Did (listed []) l (Listed 0) l
+pub did_nothing : (l : List ℕ) → Did (listed []) l (Ok 0) l
 unfolding written
 did_nothing l = record { answer = refl; list = refl }
 

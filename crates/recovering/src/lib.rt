@@ -16,7 +16,7 @@ ghost use Rattle.recovering.specs.Found.{ScanWithin, FindingWithin, target_means
 
 use levels::{tokens_tidy, unused_empty};
 use listing::{clear, redo};
-use reading::gate::{Gate, recover_gate};
+use reading::gate::recover_gate;
 use reading::slots::{record_at, token};
 use rules::layout::{FLAG, LOGGED_FUNCTION, LOGGED_PLACE};
 use rules::{Change, Finding, Header, Record, Refusal};
@@ -91,10 +91,10 @@ fn recover_at(t: &[u64], list: &mut [u64], h: Header) -> Change
 {
     let found = finding(t, h);
     match found {
-        Finding::Sound => Change::Listed(0),
+        Finding::Sound => Ok(0),
         Finding::Doubled(_, later) => {
             let cleared = clear(list, 0, h, token(t, later.bucket), later);
-            Change::Listed(cleared as u64)
+            Ok(cleared as u64)
         }
         Finding::Flagged(x) => {
             let logged = Record {
@@ -102,9 +102,9 @@ fn recover_at(t: &[u64], list: &mut [u64], h: Header) -> Change
                 place: t[LOGGED_PLACE],
             };
             let redone = redo(list, 0, x, logged);
-            Change::Listed(redone as u64)
+            Ok(redone as u64)
         }
-        Finding::Neither => Change::Refused(Refusal::NoKind),
+        Finding::Neither => Err(Refusal::NoKind),
     }
 }
 
@@ -112,9 +112,6 @@ fn recover_at(t: &[u64], list: &mut [u64], h: Header) -> Change
 pub fn recover(t: &[u64], list: &mut [u64]) -> Change
     ensures { Changed recover_call t.now list.old result t.now list.new }
 {
-    let gate = recover_gate(t, list.len());
-    match gate {
-        Gate::Shut(refusal) => Change::Refused(refusal),
-        Gate::Open(h) => recover_at(t, list, h),
-    }
+    let h = recover_gate(t, list.len())?;
+    recover_at(t, list, h)
 }

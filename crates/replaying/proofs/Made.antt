@@ -9,8 +9,8 @@ use Rattle.rules.specs.Results.{change_result, query_result, make_result}
 use Rattle.rules.specs.Histories.{reported, after}
 use Rattle.rules.specs.declared.ScriptCall.{ScriptCall}
 use Rattle.rules.specs.declared.ScriptCall.TheVariants.{Query}
-use Rattle.rules.specs.declared.Change.{Change}
-use Rattle.rules.specs.declared.Query.{Query as QueryAnswer}
+use Rattle.rules.specs.Answers.{Change}
+use Rattle.rules.specs.Answers.{Query as QueryAnswer}
 use Rattle.rules.proofs.Calls.Meanings.{change-one, query-one}
 use Rattle.listing.specs.Promises.{Changed as ChangedBy}
 use Rattle.querying.specs.Promises.{Queried}

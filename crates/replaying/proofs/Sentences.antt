@@ -8,13 +8,12 @@ use Rattle.rules.specs.Words.{word, words_for}
 use Rattle.rules.specs.Answers.{Meaning, change_means, verdict_means}
 use Rattle.rules.specs.Results.{change_result, query_result, create_tests, created as created_words, create_result}
 use Rattle.rules.specs.Histories.{reported}
-use Rattle.rules.specs.declared.Change.{Change}
-use Rattle.rules.specs.declared.Change.TheVariants.{Listed, Refused}
+use Rattle.rules.specs.Answers.{Change}
+use Rattle.std.specs.Prelude.{Ok, Err}
 use Rattle.rules.specs.declared.ScriptCall.{ScriptCall}
 use Rattle.rules.specs.declared.ScriptCall.TheVariants.{Query, Insert, Update, Delete, Begin, Shrink, Back, Step, End, Recover}
 use Rattle.rules.specs.declared.Refusal.TheVariants.{BadCreation}
-use Rattle.rules.specs.declared.Verdict.{Verdict}
-use Rattle.rules.specs.declared.Verdict.TheVariants.{Done, Denied}
+use Rattle.rules.specs.Answers.{Verdict}
 use Rattle.rules.proofs.Calls.Meanings.{verdict_one}
 use Rattle.following.specs.Sentences.{Changing}
 use Rattle.following.specs.declared.Cut.{Cut}
@@ -34,8 +33,8 @@ use Rattle.replaying.proofs.Made.{after_event}
 -- ---- changes
 
 reported-value : (r : Change) → reported r ≡ get_or (change_means r).values 0 0
-reported-value (Listed s) = refl
-reported-value (Refused e) = refl
+reported-value (Ok s) = refl
+reported-value (Err e) = refl
 
 no_query : (q : ScriptCall) → Changing q → queried q ≡ none
 no_query (Query key) c = absurd c
@@ -113,7 +112,7 @@ module _ (room : List ℕ) (p : Replay) (next : Script) (c k mul1 mul2 : ℕ) wh
 
 pub table_made : TableMade
 table_made room p next c k mul1 mul2 small e =
-    let same = answered_by room p next c k mul1 mul2 small Done e in (
+    let same = answered_by room p next c k mul1 mul2 small (Ok tt) e in (
       ap (λ (t : Turned). t.answer) same,
       ap (λ (t : Turned). t.replay.words) same,
       ap (λ (t : Turned). t.replay.script) same,
@@ -131,9 +130,9 @@ scripts_make_form1 room p next c k mul1 mul2 e = go (leb c 8) (all (create_tests
 
     told : Bool → Bool → Turned
     told small good =
-        cond small (created p next room c (cond good (Done, created_words 1 c k mul1 mul2) (Denied BadCreation, fit))) (too_large p next room)
+        cond small (created p next room c (cond good (Ok tt, created_words 1 c k mul1 mul2) (Err BadCreation, fit))) (too_large p next room)
 
-    go : (small good : Bool) → (told small good).answer ≡ Created Done → word (told small good).room 0 ≡ 1
+    go : (small good : Bool) → (told small good).answer ≡ Created (Ok tt) → word (told small good).room 0 ≡ 1
     go true true e = refl
     go true false e = let z : ◌≡◌ {A = ℕ} 0 1 = cc in absurd (omega arith)
     go false good e = let z : ◌≡◌ {A = ℕ} 0 1 = cc in absurd (omega arith)
@@ -141,13 +140,13 @@ scripts_make_form1 room p next c k mul1 mul2 e = go (leb c 8) (all (create_tests
 pub table_not_made : TableNotMade
 table_not_made room p next c k mul1 mul2 h = ⊎_elim large denied h
   where
-    large : 8 < c → ((asked_of room p next (ask_table c k mul1 mul2)).answer ≡ Created (Denied BadCreation))
+    large : 8 < c → ((asked_of room p next (ask_table c k mul1 mul2)).answer ≡ Created (Err BadCreation))
         × ((asked_of room p next (ask_table c k mul1 mul2)).replay.script.due ≡ no_more)
     large l = (rw (lt-leb c 8 l), rw (lt-leb c 8 l))
 
     denied : (c ≤ 8) × Verdicts room c k mul1 mul2 13
-        → ((asked_of room p next (ask_table c k mul1 mul2)).answer ≡ Created (Denied BadCreation))
+        → ((asked_of room p next (ask_table c k mul1 mul2)).answer ≡ Created (Err BadCreation))
         × ((asked_of room p next (ask_table c k mul1 mul2)).replay.script.due ≡ no_more)
     denied d =
-        let same = answered_by room p next c k mul1 mul2 d.0 (Denied BadCreation) d.1 in
+        let same = answered_by room p next c k mul1 mul2 d.0 (Err BadCreation) d.1 in
         (ap (λ (t : Turned). t.answer) same, ap (λ (t : Turned). t.replay.script.due) same)

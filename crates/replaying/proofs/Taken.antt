@@ -7,8 +7,8 @@ use Rattle.rules.specs.Results.{create_result}
 use Rattle.rules.specs.declared.ScriptCall.{ScriptCall}
 use Rattle.rules.specs.declared.Refusal.{Refusal}
 use Rattle.rules.specs.declared.Refusal.TheVariants.{BadCreation}
-use Rattle.rules.specs.declared.Verdict.{Verdict}
-use Rattle.rules.specs.declared.Verdict.TheVariants.{Done, Denied}
+use Rattle.rules.specs.Answers.{Verdict}
+use Rattle.std.specs.Prelude.{Ok, Err}
 use Rattle.rules.proofs.Calls.Meanings.{verdict_one}
 use Rattle.making.specs.Promises.{Created}
 use Rattle.lines.specs.declared.Line.{Line}
@@ -59,7 +59,7 @@ finish_as p torn e q f = f ∙ ap (finished p) q
 -- ---- the table
 
 module _ (p : Replay) (next : Script) (room : List ℕ) (c k mul1 mul2 : ℕ) where
-  pub too_large_lem : {r : Turn} → 8 < c → (r.replay ≡ stopped p next) × (r.answer ≡ CreatedAs (Denied BadCreation))
+  pub too_large_lem : {r : Turn} → 8 < c → (r.replay ≡ stopped p next) × (r.answer ≡ CreatedAs (Err BadCreation))
       → TurnIs (asked_of room p next (ask_table c k mul1 mul2)) r room
   too_large_lem l e = rw (lt-leb c 8 l) (record { replay = e.0; answer = e.1; room = refl })
 
@@ -79,10 +79,10 @@ module _ (p : Replay) (next : Script) (room : List ℕ) (c k mul1 mul2 : ℕ) wh
     rest : drop n room ≡ drop (words_for c) room
     rest = ap (λ (j : ℕ). drop j room) lent ∙ drop_least (words_for c) room
 
-    pub table_taken : {r : Turn} → v ≡ Done → (r.replay ≡ record { script = next; words = words_for c; events = p.events })
-        → r.answer ≡ CreatedAs Done → TurnIs (asked_of room p next (ask_table c k mul1 mul2)) r (u ++ drop n room)
+    pub table_taken : {r : Turn} → v ≡ Ok tt → (r.replay ≡ record { script = next; words = words_for c; events = p.events })
+        → r.answer ≡ CreatedAs (Ok tt) → TurnIs (asked_of room p next (ask_table c k mul1 mul2)) r (u ++ drop n room)
     table_taken d a b = rw (asked-table, d) (record { replay = a; answer = b; room = rw rest })
 
-    pub table_denied : {r : Turn} {e : Refusal} → v ≡ Denied e → (r.replay ≡ stopped p next) × (r.answer ≡ CreatedAs (Denied e))
+    pub table_denied : {r : Turn} {e : Refusal} → v ≡ Err e → (r.replay ≡ stopped p next) × (r.answer ≡ CreatedAs (Err e))
         → TurnIs (asked_of room p next (ask_table c k mul1 mul2)) r (u ++ drop n room)
     table_denied d a = rw (asked-table, d) (record { replay = a.0; answer = a.1; room = rw rest })

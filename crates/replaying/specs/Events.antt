@@ -8,7 +8,7 @@ use Rattle.rules.specs.Results.{change_result, query_result, make_result}
 use Rattle.rules.specs.Histories.{Event, whole, cut, reported, after}
 use Rattle.rules.specs.declared.ScriptCall.{ScriptCall}
 use Rattle.rules.specs.declared.ScriptCall.TheVariants.{Query, Insert, Update, Delete, Begin, Shrink, Back, Step, End, Recover}
-use Rattle.rules.specs.declared.Change.{Change}
+use Rattle.rules.specs.Answers.{Change}
 use Rattle.following.specs.declared.Cut.{Cut}
 use Rattle.following.specs.declared.Cut.TheVariants.{None, After}
 use Rattle.replaying.specs.declared.Answer.{Answer}

@@ -5,8 +5,8 @@ use Rattle.rules.specs.Words.{Table, words_for}
 use Rattle.rules.specs.Results.{create_result}
 use Rattle.rules.specs.declared.ScriptCall.TheVariants.{Begin}
 use Rattle.rules.specs.declared.Refusal.TheVariants.{BadCreation}
-use Rattle.rules.specs.declared.Verdict.{Verdict}
-use Rattle.rules.specs.declared.Verdict.TheVariants.{Done, Denied}
+use Rattle.rules.specs.Answers.{Verdict}
+use Rattle.std.specs.Prelude.{Ok, Err}
 use Rattle.lines.specs.declared.Line.{Line}
 use Rattle.following.specs.Scripts.{start, reading_of, ending_of}
 use Rattle.following.specs.declared.Due.TheVariants.{Nothing as no_more}
@@ -53,13 +53,13 @@ stopped p next = moved p (record { due = no_more; event = Begin; first = 0; seco
 -- "Program cap is at most 8; a larger one gives `made=13`." "After `made=13` comes `events=0`, and no event line is read."
 -- The table's form is 1, below: document 02, request g), "scripts make form 1"
 abbrev pub created : Replay → Script → List ℕ → ℕ → Verdict × Table → Turned
-created p next room c (Done, t) =
-    record { replay = record { script = next; words = words_for c; events = p.events }; room = in_room (words_for c) room t; answer = Created Done }
-created p next room c (Denied e, t) =
-    record { replay = stopped p next; room = in_room (words_for c) room t; answer = Created (Denied e) }
+created p next room c (Ok tt, t) =
+    record { replay = record { script = next; words = words_for c; events = p.events }; room = in_room (words_for c) room t; answer = Created (Ok tt) }
+created p next room c (Err e, t) =
+    record { replay = stopped p next; room = in_room (words_for c) room t; answer = Created (Err e) }
 
 abbrev pub too_large : Replay → Script → List ℕ → Turned
-too_large p next room = record { replay = stopped p next; room = room; answer = Created (Denied BadCreation) }
+too_large p next room = record { replay = stopped p next; room = room; answer = Created (Err BadCreation) }
 
 -- ---- a line
 

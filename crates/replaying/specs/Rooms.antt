@@ -5,7 +5,7 @@ use Rattle.std.specs.Prelude.{◌≡◌, ℕ, ◌<◌, ◌≤◌, List, length, 
 use Rattle.rules.specs.Words.{words_for}
 use Rattle.rules.specs.Demands.{GoodCreation}
 use Rattle.rules.specs.declared.Refusal.TheVariants.{BadCreation}
-use Rattle.rules.specs.declared.Verdict.TheVariants.{Done, Denied}
+use Rattle.std.specs.Prelude.{Ok, Err}
 use Rattle.following.specs.declared.Script.{Script}
 use Rattle.following.specs.declared.Asked.TheVariants.{Table as ask_table}
 use Rattle.replaying.specs.Replays.{asked_of}
@@ -24,9 +24,9 @@ RoomIsEnough = (most : ℕ) (room : List ℕ) → words_for most ≤ length room
 abbrev pub RoomMakesAll : Type 0
 RoomMakesAll = (most : ℕ) (room : List ℕ) → most ≤ 8 → RoomFor most room → (p : Replay) (next : Script) (c k mul1 mul2 : ℕ) → c ≤ most
     → GoodCreation (words_for c) 1 c k mul1 mul2
-    → (asked_of room p next (ask_table c k mul1 mul2)).answer ≡ Created Done
+    → (asked_of room p next (ask_table c k mul1 mul2)).answer ≡ Created (Ok tt)
 
 -- "a larger one gives `made=13`", also where the largest cap is below 8: a room of just its words has none for a larger table
 abbrev pub LargerIsRefused : Type 0
 LargerIsRefused = (most : ℕ) (room : List ℕ) → length room ≡ words_for most → (p : Replay) (next : Script) (c k mul1 mul2 : ℕ) → most < c
-    → (asked_of room p next (ask_table c k mul1 mul2)).answer ≡ Created (Denied BadCreation)
+    → (asked_of room p next (ask_table c k mul1 mul2)).answer ≡ Created (Err BadCreation)

@@ -7,11 +7,11 @@ use Rattle.rules.specs.Answers.{change_means, query_means, verdict_means}
 use Rattle.rules.specs.Results.{change_result, query_result, create_result, make_result}
 use Rattle.rules.specs.declared.ScriptCall.{ScriptCall}
 use Rattle.rules.specs.declared.ScriptCall.TheVariants.{Query}
-use Rattle.rules.specs.declared.Change.{Change}
-use Rattle.rules.specs.declared.Query.{Query as QueryAnswer}
+use Rattle.rules.specs.Answers.{Change}
+use Rattle.rules.specs.Answers.{Query as QueryAnswer}
 use Rattle.rules.specs.declared.Refusal.{Refusal}
 use Rattle.rules.specs.declared.Refusal.TheVariants.{BadCreation}
-use Rattle.rules.specs.declared.Verdict.TheVariants.{Done, Denied}
+use Rattle.std.specs.Prelude.{Ok, Err}
 use Rattle.following.specs.Scripts.{ending_of}
 use Rattle.following.specs.Sentences.{Changing}
 use Rattle.following.specs.declared.Ending.TheVariants.{Whole, Bad as Torn, Over}
@@ -88,7 +88,7 @@ BadAnswered = (room : List ℕ) (p : Replay) (next : Script) (line : ℕ)
 -- an answer after which the script goes on: no line was bad, and no table was refused
 pub record GoesOn (a : Answer) : Type 0 where
   pub good : (n : ℕ) → a ≢ Bad n
-  pub made : (e : Refusal) → a ≢ Created (Denied e)
+  pub made : (e : Refusal) → a ≢ Created (Err e)
 
 -- "events=3": how many were answered, from none. A bad line at the end is told; after a bad line, and without a table, nothing is
 abbrev pub EndAnswered : Type 0
@@ -106,7 +106,7 @@ Verdicts room c k mul1 mul2 number = verdict_means (create_result (take (words_f
 -- `made=0`: the table has its words, and events are read
 abbrev pub TableMade : Type 0
 TableMade = (room : List ℕ) (p : Replay) (next : Script) (c k mul1 mul2 : ℕ) → c ≤ 8 → Verdicts room c k mul1 mul2 0
-    → ((asked_of room p next (ask_table c k mul1 mul2)).answer ≡ Created Done)
+    → ((asked_of room p next (ask_table c k mul1 mul2)).answer ≡ Created (Ok tt))
     × ((asked_of room p next (ask_table c k mul1 mul2)).replay.words ≡ words_for c)
     × ((asked_of room p next (ask_table c k mul1 mul2)).replay.script ≡ next)
     × ((asked_of room p next (ask_table c k mul1 mul2)).replay.events ≡ p.events)
@@ -115,10 +115,10 @@ TableMade = (room : List ℕ) (p : Replay) (next : Script) (c k mul1 mul2 : ℕ)
 -- "scripts make form 1": document 02, request g). It stands in the first word
 abbrev pub ScriptsMakeForm1 : Type 0
 ScriptsMakeForm1 = (room : List ℕ) (p : Replay) (next : Script) (c k mul1 mul2 : ℕ)
-    → (asked_of room p next (ask_table c k mul1 mul2)).answer ≡ Created Done → word (asked_of room p next (ask_table c k mul1 mul2)).room 0 ≡ 1
+    → (asked_of room p next (ask_table c k mul1 mul2)).answer ≡ Created (Ok tt) → word (asked_of room p next (ask_table c k mul1 mul2)).room 0 ≡ 1
 
 -- "Program cap is at most 8; a larger one gives `made=13`." "and no event line is read": nothing more is due
 abbrev pub TableNotMade : Type 0
 TableNotMade = (room : List ℕ) (p : Replay) (next : Script) (c k mul1 mul2 : ℕ) → (8 < c) ⊎ ((c ≤ 8) × Verdicts room c k mul1 mul2 13)
-    → ((asked_of room p next (ask_table c k mul1 mul2)).answer ≡ Created (Denied BadCreation))
+    → ((asked_of room p next (ask_table c k mul1 mul2)).answer ≡ Created (Err BadCreation))
     × ((asked_of room p next (ask_table c k mul1 mul2)).replay.script.due ≡ no_more)

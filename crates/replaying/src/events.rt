@@ -58,7 +58,7 @@ fn answer(cut: Cut, change: Change) -> Answer
 fn make_change(t: &mut [u64], list: &[u64], change: Change, cut: Cut) -> Answer
     ensures { ChangeMade change cut t.old list.now result t.new }
 {
-    make(t, list, kept(cut, reported(change)));
+    let _ = make(t, list, kept(cut, reported(change)));
     answer(cut, change)
 }
 

@@ -1,6 +1,5 @@
 // What a line makes of a replay.
 ghost use Rattle.std.specs.Prelude.{◌≡◌};
-ghost use Rattle.rules.specs.declared.Verdict.TheVariants.{Denied};
 ghost use Rattle.following.specs.declared.Asked.TheVariants.{Table as ask_table, Event as ask_event};
 ghost use Rattle.replaying.specs.declared.Answer.TheVariants.{Created};
 ghost use Rattle.replaying.specs.Replays.{begun as begun_of, stopped, counted, moved, asked_of, turn_of, finish_of, TurnIs};
@@ -12,7 +11,7 @@ use following::{Asked, Cut, Due, Ending, Script, finish as end_of, read, start};
 use lines::Line;
 use making::create;
 use reading::header::words_for;
-use rules::{Refusal, ScriptCall, Verdict};
+use rules::{Refusal, ScriptCall};
 use std::num::wrapping_add_u64;
 
 pub fn begun() -> Replay
@@ -27,7 +26,7 @@ pub fn begun() -> Replay
 
 // "After `made=13` comes `events=0`, and no event line is read."
 fn unmade(p: Replay, next: Script, refusal: Refusal) -> Turn
-    ensures { (result.replay ≡ stopped p next) × (result.answer ≡ Created (Denied refusal)) }
+    ensures { (result.replay ≡ stopped p next) × (result.answer ≡ Created (Err refusal)) }
 {
     Turn {
         replay: Replay {
@@ -43,7 +42,7 @@ fn unmade(p: Replay, next: Script, refusal: Refusal) -> Turn
             words: p.words,
             events: p.events,
         },
-        answer: Answer::Created(Verdict::Denied(refusal)),
+        answer: Answer::Created(Err(refusal)),
     }
 }
 
@@ -58,15 +57,15 @@ fn tabled(p: Replay, next: Script, room: &mut [u64], c: u64, k: u64, mul1: u64, 
     let lent = least(words, room.len());
     let verdict = create(&mut room[..lent], 1, c, k, mul1, mul2);
     match verdict {
-        Verdict::Done => Turn {
+        Ok(()) => Turn {
             replay: Replay {
                 script: next,
                 words,
                 events: p.events,
             },
-            answer: Answer::Created(Verdict::Done),
+            answer: Answer::Created(Ok(())),
         },
-        Verdict::Denied(refusal) => unmade(p, next, refusal),
+        Err(refusal) => unmade(p, next, refusal),
     }
 }
 

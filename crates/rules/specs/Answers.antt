@@ -1,8 +1,9 @@
 -- Document 01, "Refusal numbers": what each case of an answer means as this paper's number and values; with the numbers that document 02
 -- adds.
 -- Assumes nothing.
-use Rattle.std.specs.Prelude.{ℕ, ◌≡◌, List, [], ◌∷◌, ◌++◌}
+use Rattle.std.specs.Prelude.{ℕ, ◌≡◌, List, [], ◌∷◌, ◌++◌, Result, Ok, Err}
 use Rattle.rules.specs.Words.{top, spot_of}
+use Rattle.rules.specs.declared.Record.{Record}
 use Rattle.rules.specs.declared.Spot.{Spot}
 use Rattle.rules.specs.declared.Slot.{Slot}
 use Rattle.rules.specs.declared.Lookup.{Lookup}
@@ -15,20 +16,60 @@ use Rattle.rules.specs.declared.Refusal.{Refusal}
 use Rattle.rules.specs.declared.Refusal.TheVariants.{BadHeader, ShortList, FlagSet, KeyPresent, KeyAbsent, NoPlace, AlreadyResizing, NotResizing}
 use Rattle.rules.specs.declared.Refusal.TheVariants.{AtCapacity, InterimTaken, InterimEmpty, NoKind, BadCreation, BadMaking}
 use Rattle.rules.specs.declared.Refusal.TheVariants.{ShortRecords, BadPosition, TooSmall}
-use Rattle.rules.specs.declared.Change.{Change}
-use Rattle.rules.specs.declared.Change.TheVariants.{Listed, Refused}
 use Rattle.rules.specs.declared.Stepped.{Stepped}
 use Rattle.rules.specs.declared.SteppedFrom.{SteppedFrom}
-use Rattle.rules.specs.declared.Query.{Query}
-use Rattle.rules.specs.declared.Query.TheVariants.{Known, Unknown}
-use Rattle.rules.specs.declared.Chain.{Chain}
-use Rattle.rules.specs.declared.Chain.TheVariants.{Whole, Broken}
-use Rattle.rules.specs.declared.Conversion.{Conversion}
-use Rattle.rules.specs.declared.Conversion.TheVariants.{Converted, Stuck, Rejected}
-use Rattle.rules.specs.declared.Asked.{Asked}
-use Rattle.rules.specs.declared.Asked.TheVariants.{Hit, Miss}
-use Rattle.rules.specs.declared.Verdict.{Verdict}
-use Rattle.rules.specs.declared.Verdict.TheVariants.{Done, Denied}
+use Rattle.rules.specs.declared.Known.{Known}
+use Rattle.rules.specs.declared.Missed.{Missed}
+use Rattle.rules.specs.declared.Unconverted.{Unconverted}
+use Rattle.rules.specs.declared.Unconverted.TheVariants.{Stuck, Rejected}
+use Rattle.rules.specs.declared.Side.{Side}
+use Rattle.rules.specs.declared.Side.TheVariants.{Newer, Older}
+use Rattle.rules.specs.declared.Hit.{Hit}
+use Rattle.rules.specs.declared.Miss.{Miss}
+
+-- ---- the answers, each a success or a refusal
+
+-- insert, update, delete, begin, shrink, back, end and recover: the number of stores
+abbrev pub Change : Type 0
+Change = Result ℕ Refusal
+
+-- create and make
+abbrev pub Verdict : Type 0
+Verdict = Result (Unit {0}) Refusal
+
+abbrev pub Query : Type 0
+Query = Result Known Missed
+
+abbrev pub knows : Record → Spot → ℕ → Query
+knows r x n = Ok (record { what = r; spot = x; looked = n })
+
+abbrev pub missed_by : Refusal → ℕ → Missed
+missed_by r n = record { refusal = r; looked = n }
+
+abbrev pub misses : Refusal → ℕ → Query
+misses r n = Err (missed_by r n)
+
+-- the chain of inlined callers: its count
+abbrev pub Chain : Type 0
+Chain = Result ℕ Missed
+
+abbrev pub breaks : Refusal → ℕ → Chain
+breaks r n = Err (missed_by r n)
+
+abbrev pub Conversion : Type 0
+Conversion = Result (Unit {0}) Unconverted
+
+-- two tables asked as one
+abbrev pub Asked : Type 0
+Asked = Result Hit Miss
+
+abbrev pub hits : Side → ℕ → ℕ → Asked
+hits side w n = Ok (record { side = side; word = w; looked = n })
+
+abbrev pub lacks : Side → Refusal → ℕ → Asked
+lacks side r n = Err (record { side = side; refusal = r; looked = n })
+
+-- ---- what they mean
 
 -- "no. | given when | by"
 abbrev pub number_of : Refusal → ℕ
@@ -59,8 +100,8 @@ pub record Meaning : Type 0 where
 
 -- the number of stores: "A refusal .. reports 0 stores."
 abbrev pub change_means : Change → Meaning
-change_means (Listed stores) = record { number = 0; values = stores ∷ [] }
-change_means (Refused r) = record { number = number_of r; values = 0 ∷ [] }
+change_means (Ok stores) = record { number = 0; values = stores ∷ [] }
+change_means (Err r) = record { number = number_of r; values = 0 ∷ [] }
 
 -- document 02, request e): "the word index of the key found and whether it was top, bottom or interim; with any refusal, index 0 and top"
 abbrev pub spot_means : Spot → List ℕ
@@ -71,28 +112,32 @@ no_spot = record { word = 0; level = top }
 
 -- function, place and probe count: "Query returns zeros with 5 and the full probe count; with 1 or 3 zeros and count 0."; then the spot
 abbrev pub query_means : Query → Meaning
-query_means (Known r x count) = record { number = 0; values = r.function ∷ r.place ∷ count ∷ spot_means x }
-query_means (Unknown r count) = record { number = number_of r; values = 0 ∷ 0 ∷ count ∷ spot_means no_spot }
+query_means (Ok x) = record { number = 0; values = x.what.function ∷ x.what.place ∷ x.looked ∷ spot_means x.spot }
+query_means (Err x) = record { number = number_of x.refusal; values = 0 ∷ 0 ∷ x.looked ∷ spot_means no_spot }
 
--- the chain of inlined callers: its count
+-- its count
 abbrev pub chain_means : Chain → Meaning
-chain_means (Whole count) = record { number = 0; values = count ∷ [] }
-chain_means (Broken r count) = record { number = number_of r; values = count ∷ [] }
+chain_means (Ok count) = record { number = 0; values = count ∷ [] }
+chain_means (Err x) = record { number = number_of x.refusal; values = x.looked ∷ [] }
 
 -- document 02, request h): "answer 6 with its key"; else the key is 0
 abbrev pub conversion_means : Conversion → Meaning
-conversion_means Converted = record { number = 0; values = 0 ∷ [] }
-conversion_means (Stuck key) = record { number = number_of NoPlace; values = key ∷ [] }
-conversion_means (Rejected r) = record { number = number_of r; values = 0 ∷ [] }
+conversion_means (Ok tt) = record { number = 0; values = 0 ∷ [] }
+conversion_means (Err (Stuck key)) = record { number = number_of NoPlace; values = key ∷ [] }
+conversion_means (Err (Rejected r)) = record { number = number_of r; values = 0 ∷ [] }
 
 -- document 02, request i): "the refusal number, the table's name and the buckets looked at"
+abbrev pub name_of : Side → ℕ
+name_of Newer = 0
+name_of Older = 1
+
 abbrev pub asked_means : Asked → Meaning
-asked_means (Hit name word count) = record { number = 0; values = name ∷ count ∷ [] }
-asked_means (Miss name r count) = record { number = number_of r; values = name ∷ count ∷ [] }
+asked_means (Ok x) = record { number = 0; values = name_of x.side ∷ x.looked ∷ [] }
+asked_means (Err x) = record { number = number_of x.refusal; values = name_of x.side ∷ x.looked ∷ [] }
 
 abbrev pub verdict_means : Verdict → Meaning
-verdict_means Done = record { number = 0; values = [] }
-verdict_means (Denied r) = record { number = number_of r; values = [] }
+verdict_means (Ok tt) = record { number = 0; values = [] }
+verdict_means (Err r) = record { number = number_of r; values = [] }
 
 -- ---- what the calls' own searches answer: a slot is level, bucket and slot
 

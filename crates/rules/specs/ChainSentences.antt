@@ -1,7 +1,7 @@
 -- Document 02, request a), a second time: its sentences in facts about queries, words and the map, without the walk. They are types, as
 -- those of `Demands` are: a law of proofs/ that proves one bears its name, beginning with a small letter.
 -- Assumes nothing.
-use Rattle.std.specs.Prelude.{ℕ, ◌+◌, ◌-◌, ◌*◌, ◌^◌, ◌≤◌, ◌<◌, ◌≡◌, List, [], ◌∷◌, map, ◌⊎◌, length, drop}
+use Rattle.std.specs.Prelude.{ℕ, ◌+◌, ◌-◌, ◌*◌, ◌^◌, ◌≤◌, ◌<◌, ◌≡◌, List, [], ◌∷◌, map, ◌⊎◌, length, drop, Ok, Err}
 use Rattle.std.proofs.Math.Option.{none, some}
 use Rattle.rules.specs.Choice.{from}
 use Rattle.rules.specs.Words.{Table, word}
@@ -15,10 +15,7 @@ use Rattle.rules.specs.Demands.{AtRest, Held, bad_header, flag_not_zero, FirstRe
 use Rattle.rules.specs.declared.Record.{Record}
 use Rattle.rules.specs.declared.Refusal.{Refusal}
 use Rattle.rules.specs.declared.Refusal.TheVariants.{KeyAbsent, ShortRecords, BadPosition}
-use Rattle.rules.specs.declared.Query.{Query}
-use Rattle.rules.specs.declared.Query.TheVariants.{Unknown}
-use Rattle.rules.specs.declared.Chain.{Chain}
-use Rattle.rules.specs.declared.Chain.TheVariants.{Whole, Broken}
+use Rattle.rules.specs.Answers.{Query, misses, Chain}
 
 -- the key of an address at a depth, and what a query of it answers
 abbrev pub key_at : ℕ → ℕ → ℕ
@@ -37,8 +34,8 @@ chain_reasons t address d n =
 
 -- an accepted chain lists no stores: so no cut can come into it
 abbrev pub chain_outcome : Chain → Outcome
-chain_outcome (Whole n) = listed []
-chain_outcome (Broken r n) = refused r
+chain_outcome (Ok n) = listed []
+chain_outcome (Err x) = refused x.refusal
 
 abbrev pub ChainRefusals : Type 0
 ChainRefusals =
@@ -76,22 +73,22 @@ counts_from t address e n = map (λ (i : ℕ). count_of (asked t address i)) (fr
 -- depth e is missing, and every depth above it, up to d, is there
 pub record FirstMissing (t : Table) (address d e : ℕ) : Type 0 where
   pub within : e ≤ d
-  pub gap : (n : ℕ) × (asked t address e ≡ Unknown KeyAbsent n)
+  pub gap : (n : ℕ) × (asked t address e ≡ misses KeyAbsent n)
   pub above : (i : ℕ) → e < i → i ≤ d → (r : Record) × AnswersRecord (asked t address i) r
 
 abbrev pub ChainCountBy : Table → ℕ → ℕ → Chain → Type 0
-ChainCountBy t address d (Whole n) = n ≡ total (counts_from t address 0 (d + 1))
-ChainCountBy t address d (Broken r n) =
-    ((r ≡ KeyAbsent) × ((e : ℕ) × FirstMissing t address d e × (n ≡ total (counts_from t address e (d - e + 1)))))
-    ⊎ ((r ≡ KeyAbsent → ⊥) × (n ≡ 0))
+ChainCountBy t address d (Ok n) = n ≡ total (counts_from t address 0 (d + 1))
+ChainCountBy t address d (Err x) =
+    ((x.refusal ≡ KeyAbsent) × ((e : ℕ) × FirstMissing t address d e × (x.looked ≡ total (counts_from t address e (d - e + 1)))))
+    ⊎ ((x.refusal ≡ KeyAbsent → ⊥) × (x.looked ≡ 0))
 
 abbrev pub ChainCounts : Type 0
 ChainCounts = (t : Table) (address d : ℕ) (l : List ℕ) → ChainCountBy t address d (chain_result t address d l).0
 
 -- "never more than 4(d + 1) at rest or 6(d + 1) otherwise"
 abbrev pub count_told : Chain → ℕ
-count_told (Whole n) = n
-count_told (Broken r n) = n
+count_told (Ok n) = n
+count_told (Err x) = x.looked
 
 abbrev pub ChainLooksAtFew : Type 0
 ChainLooksAtFew =

@@ -1,6 +1,6 @@
 -- Document 02, request a), "Show the inlined callers": the chain of an address, on every input.
 -- Assumes nothing.
-use Rattle.std.specs.Prelude.{ℕ, zero, suc, ◌+◌, ◌*◌, ◌^◌, Bool, ◌&&◌, List, [], ◌∷◌, ◌++◌, map, length, leb, ltb}
+use Rattle.std.specs.Prelude.{ℕ, zero, suc, ◌+◌, ◌*◌, ◌^◌, Bool, ◌&&◌, List, [], ◌∷◌, ◌++◌, map, length, leb, ltb, Ok, Err}
 use Rattle.rules.specs.Words.{Table, header_of}
 use Rattle.rules.specs.Places.{lookup}
 use Rattle.rules.specs.Stores.{written}
@@ -10,10 +10,7 @@ use Rattle.rules.specs.declared.Header.{Header}
 use Rattle.rules.specs.declared.Record.{Record}
 use Rattle.rules.specs.declared.Refusal.{Refusal}
 use Rattle.rules.specs.declared.Refusal.TheVariants.{KeyAbsent, ShortRecords, BadPosition}
-use Rattle.rules.specs.declared.Query.{Query}
-use Rattle.rules.specs.declared.Query.TheVariants.{Known, Unknown}
-use Rattle.rules.specs.declared.Chain.{Chain}
-use Rattle.rules.specs.declared.Chain.TheVariants.{Whole, Broken}
+use Rattle.rules.specs.Answers.{Query, Chain, breaks}
 
 -- document 01: "A key is address·256 + inlining depth"
 unfoldable pub key_of : ℕ → ℕ → ℕ
@@ -27,9 +24,9 @@ pub data Walk : Type 0 where
 -- the query of one depth, before what the smaller depths give. "The count is the sum of the queries' probe counts down to the last depth
 -- asked, the missing one included"
 abbrev pub before : Query → Walk → Walk
-before (Known r x n) (found rs m) = found (r ∷ rs) (n + m)
-before (Known r x n) (missing m) = missing (n + m)
-before (Unknown e n) below = missing n
+before (Ok x) (found rs m) = found (x.what ∷ rs) (x.looked + m)
+before (Ok x) (missing m) = missing (x.looked + m)
+before (Err x) below = missing x.looked
 
 -- "The walk takes the record of one depth and then does the same for the next smaller one", down to 0; asks gives each depth's query
 unfoldable pub walk : (ℕ → Query) → ℕ → Walk
@@ -60,10 +57,10 @@ chain_tests t address depth n = query_tests t ++ position_tests address depth n
 
 -- "The first missing depth gives 5 and nothing is written; success writes just those words." l is the lent words at entry
 abbrev pub chain_of : Walk → List ℕ → Chain × List ℕ
-chain_of (found rs n) l = (Whole n, written (map two_words rs) l)
-chain_of (missing n) l = (Broken KeyAbsent n, l)
+chain_of (found rs n) l = (Ok n, written (map two_words rs) l)
+chain_of (missing n) l = (breaks KeyAbsent n, l)
 
 -- the answer, and the lent words at exit. The count is "0 with other refusals". The table is only read, and there is no list
 unfoldable pub chain_result : Table → ℕ → ℕ → List ℕ → Chain × List ℕ
 chain_result t address depth l =
-    checked (λ (r : Refusal). (Broken r 0, l)) (chain_tests t address depth (length l)) (chain_of (walk (query_of t (header_of t) address) depth) l)
+    checked (λ (r : Refusal). (breaks r 0, l)) (chain_tests t address depth (length l)) (chain_of (walk (query_of t (header_of t) address) depth) l)

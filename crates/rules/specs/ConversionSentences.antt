@@ -17,9 +17,9 @@ use Rattle.rules.specs.declared.Slot.{Slot}
 use Rattle.rules.specs.declared.Header.{Header}
 use Rattle.rules.specs.declared.Refusal.{Refusal}
 use Rattle.rules.specs.declared.Refusal.TheVariants.{NoPlace, AlreadyResizing, NoKind, BadCreation}
-use Rattle.rules.specs.declared.Conversion.{Conversion}
-use Rattle.rules.specs.declared.Conversion.TheVariants.{Converted, Stuck, Rejected}
-use Rattle.rules.specs.declared.Verdict.TheVariants.{Done}
+use Rattle.rules.specs.Answers.{Conversion}
+use Rattle.rules.specs.declared.Unconverted.TheVariants.{Stuck, Rejected}
+use Rattle.std.specs.Prelude.{Ok, Err}
 
 -- ==== "create the other form there with the same c, k and multipliers, and insert every item in probe-level order, bucket and slot ascending"
 
@@ -68,9 +68,9 @@ convert_reasons t s =
     ∷ (((key : ℕ) × StuckAt t s key), NoPlace) ∷ []
 
 abbrev pub conversion_outcome : Conversion → Outcome
-conversion_outcome Converted = listed []
-conversion_outcome (Stuck key) = refused NoPlace
-conversion_outcome (Rejected r) = refused r
+conversion_outcome (Ok tt) = listed []
+conversion_outcome (Err (Stuck key)) = refused NoPlace
+conversion_outcome (Err (Rejected r)) = refused r
 
 abbrev pub ConvertRefusals : Type 0
 ConvertRefusals = (t s : Table) → FirstRefuses (convert_reasons t s) (conversion_outcome (convert_result t s).0)
@@ -80,10 +80,10 @@ abbrev pub Told : Conversion → ℕ → ℕ → Type 0
 Told a number key = conversion_means a ≡ record { number = number; values = key ∷ [] }
 
 abbrev pub LeavesBy : Table → Table → Conversion → Table → Type 0
-LeavesBy t s Converted u = Told Converted 0 0 × ((create_result s (3 - word t 0) (word t 1) (word t 4) (word t 2) (word t 3)).0 ≡ Done) × Built t s u
-LeavesBy t s (Stuck key) u =
-    Told (Stuck key) 6 key × StuckAt t s key × CreatedWords (length s) (3 - word t 0) (word t 1) (word t 4) (word t 2) (word t 3) u
-LeavesBy t s (Rejected r) u = Told (Rejected r) (number_of r) 0 × (r ≡ NoPlace → ⊥) × (u ≡ s)
+LeavesBy t s (Ok tt) u = Told (Ok tt) 0 0 × ((create_result s (3 - word t 0) (word t 1) (word t 4) (word t 2) (word t 3)).0 ≡ Ok tt) × Built t s u
+LeavesBy t s (Err (Stuck key)) u =
+    Told (Err (Stuck key)) 6 key × StuckAt t s key × CreatedWords (length s) (3 - word t 0) (word t 1) (word t 4) (word t 2) (word t 3) u
+LeavesBy t s (Err (Rejected r)) u = Told (Err (Rejected r)) (number_of r) 0 × (r ≡ NoPlace → ⊥) × (u ≡ s)
 
 abbrev pub ConvertLeaves : Type 0
 ConvertLeaves = (t s : Table) → LeavesBy t s (convert_result t s).0 (convert_result t s).1
@@ -107,15 +107,15 @@ pub record SameMaps (t u : Table) (h : Header) : Type 0 where
 
 abbrev pub ConvertKeepsTheMap : Type 0
 ConvertKeepsTheMap =
-    (t s u : Table) → convert_result t s ≡ (Converted, u) → SameMaps t u (other_header (header_of t))
+    (t s u : Table) → convert_result t s ≡ (Ok tt, u) → SameMaps t u (other_header (header_of t))
 
 -- "Where going and returning both succeed, the map is the original one.", and so are form, c, k and multipliers
 abbrev pub ThereAndBack : Type 0
 ThereAndBack =
-    (t s u r v : Table) → convert_result t s ≡ (Converted, u) → convert_result u r ≡ (Converted, v) → SameMaps t v (header_of t)
+    (t s u r v : Table) → convert_result t s ≡ (Ok tt, u) → convert_result u r ≡ (Ok tt, v) → SameMaps t v (header_of t)
 
 -- what the second table held before plays no part: only its length counts, and where it is written all of it is
 abbrev pub OldWordsPlayNoPart : Type 0
 OldWordsPlayNoPart =
     (t s r : Table) → length s ≡ length r → ((convert_result t s).0 ≡ (convert_result t r).0)
-    × (((e : Refusal) → (convert_result t s).0 ≡ Rejected e → ⊥) → (convert_result t s).1 ≡ (convert_result t r).1)
+    × (((e : Refusal) → (convert_result t s).0 ≡ Err (Rejected e) → ⊥) → (convert_result t s).1 ≡ (convert_result t r).1)

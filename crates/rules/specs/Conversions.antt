@@ -13,8 +13,9 @@ use Rattle.rules.specs.declared.Header.{Header}
 use Rattle.rules.specs.declared.Slot.{Slot}
 use Rattle.rules.specs.declared.Refusal.{Refusal}
 use Rattle.rules.specs.declared.Refusal.TheVariants.{BadHeader, AlreadyResizing, NoKind, BadCreation}
-use Rattle.rules.specs.declared.Conversion.{Conversion}
-use Rattle.rules.specs.declared.Conversion.TheVariants.{Converted, Stuck, Rejected}
+use Rattle.rules.specs.Answers.{Conversion}
+use Rattle.rules.specs.declared.Unconverted.TheVariants.{Stuck, Rejected}
+use Rattle.std.specs.Prelude.{Ok, Err}
 
 -- "A source that is not sound gives 12, one in phase 1 or 2 gives 7, a second table of another length 13; these change nothing, in that order after 1
 -- of the source. A set flag is 12 here, not 3.": flag 0 is part of soundness. n is the second table's length
@@ -49,9 +50,9 @@ filling t = foldl (with_item t) (filled (fresh_for (header_of t))) (taken_slots 
 
 -- "If an item finds no place, answer 6 with its key and leave the second table freshly created"
 abbrev pub filled_to : Header → Filling → Conversion × Table
-filled_to h (filled u) = (Converted, u)
-filled_to h (stuck key) = (Stuck key, fresh_for h)
+filled_to h (filled u) = (Ok tt, u)
+filled_to h (stuck key) = (Err (Stuck key), fresh_for h)
 
 -- the answer, and the second table at exit; at entry it is s
 unfoldable pub convert_result : Table → Table → Conversion × Table
-convert_result t s = checked (λ (r : Refusal). (Rejected r, s)) (convert_tests t (length s)) (filled_to (header_of t) (filling t))
+convert_result t s = checked (λ (r : Refusal). (Err (Rejected r), s)) (convert_tests t (length s)) (filled_to (header_of t) (filling t))

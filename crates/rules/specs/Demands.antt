@@ -33,11 +33,8 @@ use Rattle.rules.specs.declared.Finding.TheVariants.{Sound, Doubled, Flagged, Ne
 use Rattle.rules.specs.declared.Refusal.{Refusal}
 use Rattle.rules.specs.declared.Refusal.TheVariants.{BadHeader, ShortList, FlagSet, KeyPresent, KeyAbsent, NoPlace, AlreadyResizing, NotResizing}
 use Rattle.rules.specs.declared.Refusal.TheVariants.{AtCapacity, InterimTaken, InterimEmpty, NoKind, TooSmall}
-use Rattle.rules.specs.declared.Change.{Change}
-use Rattle.rules.specs.declared.Change.TheVariants.{Listed}
-use Rattle.rules.specs.declared.Query.{Query}
-use Rattle.rules.specs.declared.Query.TheVariants.{Known, Unknown}
-use Rattle.rules.specs.declared.Verdict.TheVariants.{Done}
+use Rattle.rules.specs.Answers.{Change, Query, knows, misses}
+use Rattle.std.specs.Prelude.{Ok, Err}
 
 -- ==== Demand 1. "Any words, keys and lengths may be handed in."
 
@@ -265,7 +262,7 @@ MapExists = (t : Table) → SoundTable t → (m : PlainMap) × HasMap t m × ((n
 -- a created table is sound, at rest with the form, c, k and multipliers asked for, and empty
 abbrev pub CreatedIsEmpty : Type 0
 CreatedIsEmpty =
-    (t u : Table) (form c k mul1 mul2 : ℕ) → create_result t form c k mul1 mul2 ≡ (Done, u)
+    (t u : Table) (form c k mul1 mul2 : ℕ) → create_result t form c k mul1 mul2 ≡ (Ok tt, u)
     → SoundTable u × (header_of u ≡ record { form = form; c = c; mul1 = mul1; mul2 = mul2; state = record { k = k; phase = 0 } })
     × HasMap u (λ (key : ℕ). none)
 
@@ -304,11 +301,11 @@ pub record Given (t : Table) (m : PlainMap) (n : ℕ) : Type 0 where
 
 -- query: the map's record for the map's keys, wherever they stand, and 5 for the others
 abbrev pub AnswersRecord : Query → Record → Type 0
-AnswersRecord a r = (x : Spot) × (n : ℕ) × (a ≡ Known r x n)
+AnswersRecord a r = (x : Spot) × (n : ℕ) × (a ≡ knows r x n)
 
 abbrev pub QueryBy : Option Record → Query → Type 0
 QueryBy (some r) a = AnswersRecord a r
-QueryBy none a = (n : ℕ) × (a ≡ Unknown KeyAbsent n)
+QueryBy none a = (n : ℕ) × (a ≡ misses KeyAbsent n)
 
 abbrev pub QueryAnswers : Type 0
 QueryAnswers = (t : Table) (m : PlainMap) → SoundTable t → HasMap t m → (key : ℕ) → QueryBy (m key) (query_result t key)
@@ -473,15 +470,15 @@ StoreNumbers = (t : Table) (n : ℕ) (q : Call) (xs : List Store) → outcome t 
 -- first n stores
 abbrev pub MakeTakesTheList : Type 0
 MakeTakesTheList =
-    (t : Table) (l : List ℕ) (q : Call) (s : ℕ) → (change_result t l q).0 ≡ Listed s → (n : ℕ) → n ≤ s
+    (t : Table) (l : List ℕ) (q : Call) (s : ℕ) → (change_result t l q).0 ≡ Ok s → (n : ℕ) → n ≤ s
     → (xs : List Store) × (outcome t (length l) q ≡ listed xs) × (length xs ≡ s)
-    × (make_result t (change_result t l q).1 n ≡ (Done, made t (take n xs)))
+    × (make_result t (change_result t l q).1 n ≡ (Ok tt, made t (take n xs)))
 
 -- recovery of u, with any list of 20 words or more, "lists at most three stores", and these, made, bring back the map m
 pub record Recovered (u : Table) (m : PlainMap) : Type 0 where
   pub stores : ℕ
   pub few : stores ≤ 3
-  pub answer : (l : List ℕ) → 20 ≤ length l → (change_result u l recover).0 ≡ Listed stores
+  pub answer : (l : List ℕ) → 20 ≤ length l → (change_result u l recover).0 ≡ Ok stores
   pub sound : (l : List ℕ) → 20 ≤ length l → SoundTable (after u (whole recover l))
   pub map : (l : List ℕ) → 20 ≤ length l → HasMap (after u (whole recover l)) m
 
@@ -533,16 +530,16 @@ pub record StoppedAt (t : Table) (key : ℕ) (r : Record) (x : Spot) (n : ℕ) :
   pub spot : x ≡ spot_of slot
 
 abbrev pub CountBy : Table → ℕ → Query → Type 0
-CountBy t key (Known r x n) = StoppedAt t key r x n
-CountBy t key (Unknown e n) = (e ≡ KeyAbsent) × (n ≡ length (places_of (header_of t) key)) × NoneHolds t key (places_of (header_of t) key)
+CountBy t key (Ok x) = StoppedAt t key x.what x.spot x.looked
+CountBy t key (Err x) = (x.refusal ≡ KeyAbsent) × (x.looked ≡ length (places_of (header_of t) key)) × NoneHolds t key (places_of (header_of t) key)
 
 abbrev pub QueryCounts : Type 0
 QueryCounts = (t : Table) (key : ℕ) → GoodHeader (length t) (header_of t) → flag_of t ≡ 0 → CountBy t key (query_result t key)
 
 -- the count that a query reports, whatever it answers
 abbrev pub count_of : Query → ℕ
-count_of (Known r x n) = n
-count_of (Unknown e n) = n
+count_of (Ok x) = x.looked
+count_of (Err x) = x.looked
 
 abbrev pub ProbesAreFew : Type 0
 ProbesAreFew =

@@ -27,7 +27,7 @@ use Rattle.rules.specs.Calls.{interim_items, interim_bucket, items_from, has_pla
 use Rattle.rules.specs.Calls.{delete, begin, step, recover, outcome}
 use Rattle.rules.specs.Results.{change_result, query_result, create_tests, created, create_result, make_tests, make_result}
 use Rattle.rules.specs.declared.Record.{Record}
-use Rattle.rules.specs.declared.Change.{Change}
+use Rattle.rules.specs.Answers.{Change}
 
 -- what a clause speaks of: the stores that a call lists, the number of its refusal, a query's number and values, or words
 pub data Shown : Type 0 where

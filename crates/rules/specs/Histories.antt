@@ -6,8 +6,8 @@ use Rattle.std.specs.Prelude.{ℕ, ◌+◌, ◌≤◌, min, ◌≡◌, List, [],
 use Rattle.rules.specs.Words.{Table}
 use Rattle.rules.specs.Calls.{Call, query, insert, update, delete, begin, shrink, back, step_from, end, recover}
 use Rattle.rules.specs.Results.{change_result, make_result}
-use Rattle.rules.specs.declared.Change.{Change}
-use Rattle.rules.specs.declared.Change.TheVariants.{Listed, Refused}
+use Rattle.rules.specs.Answers.{Change}
+use Rattle.std.specs.Prelude.{Ok, Err}
 
 -- a call with a lent list, whose stores are all made, or only the first n of them, "or all if there are fewer"
 pub data Event : Type 0 where
@@ -16,8 +16,8 @@ pub data Event : Type 0 where
 
 -- the stores that a call reports: "A refusal .. reports 0 stores."
 abbrev pub reported : Change → ℕ
-reported (Listed stores) = stores
-reported (Refused r) = 0
+reported (Ok stores) = stores
+reported (Err r) = 0
 
 -- the stores that are made
 abbrev pub kept : Table → Event → ℕ
@@ -75,8 +75,8 @@ spent t (e ∷ es) = cost t e + spent (after t e) es
 
 -- an accepted call
 abbrev pub Accepted : Change → Type 0
-Accepted (Listed stores) = Unit {0}
-Accepted (Refused r) = ⊥
+Accepted (Ok stores) = Unit {0}
+Accepted (Err r) = ⊥
 
 -- the end of a growth or of a shrink: an accepted end
 abbrev pub EndsResizing : Table → Event → Type 0

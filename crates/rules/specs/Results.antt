@@ -1,7 +1,7 @@
 -- The calls: what each answers, and what every buffer lent to it holds at exit, on every input, good or bad.
 -- A buffer that a call only reads holds at exit what it held at entry, and is not named in its result.
 -- Assumes nothing.
-use Rattle.std.specs.Prelude.{ℕ, ◌*◌, ◌-◌, Bool, cond, List, [], ◌∷◌, map, length, replicate, eqb, leb, ltb}
+use Rattle.std.specs.Prelude.{ℕ, ◌*◌, ◌-◌, Bool, cond, List, [], ◌∷◌, map, length, replicate, eqb, leb, ltb, Ok, Err}
 use Rattle.std.proofs.Math.Option.{Option, none, some}
 use Rattle.rules.specs.Choice.{all}
 use Rattle.rules.specs.Forms.{form_good}
@@ -18,20 +18,15 @@ use Rattle.rules.specs.declared.Placing.{Placing}
 use Rattle.rules.specs.declared.Placing.TheVariants.{Nowhere}
 use Rattle.rules.specs.declared.Refusal.{Refusal}
 use Rattle.rules.specs.declared.Refusal.TheVariants.{KeyAbsent, BadCreation, BadMaking}
-use Rattle.rules.specs.declared.Change.{Change}
-use Rattle.rules.specs.declared.Change.TheVariants.{Listed, Refused}
+use Rattle.rules.specs.Answers.{Change, Query, knows, misses, Verdict}
 use Rattle.rules.specs.declared.Stepped.{Stepped}
 use Rattle.rules.specs.declared.SteppedFrom.{SteppedFrom}
-use Rattle.rules.specs.declared.Query.{Query}
-use Rattle.rules.specs.declared.Query.TheVariants.{Known, Unknown}
-use Rattle.rules.specs.declared.Verdict.{Verdict}
-use Rattle.rules.specs.declared.Verdict.TheVariants.{Done, Denied}
 
 -- "A refusal changes no buffer and reports 0 stores. A changing call or recovery that succeeds writes only the list's
 -- first 2·stores words."
 abbrev pub change_of : Outcome → Change
-change_of (refused r) = Refused r
-change_of (listed stores) = Listed (length stores)
+change_of (refused r) = Err r
+change_of (listed stores) = Ok (length stores)
 
 abbrev pub list_after : Outcome → List ℕ → List ℕ
 list_after (refused r) l = l
@@ -68,11 +63,11 @@ step_result t l = ((step_from_result t 0 l).0.stepped, (step_from_result t 0 l).
 -- query: "Query returns zeros with 5 and the full probe count; with 1 or 3 zeros and count 0." Document 02, request e): "The inner lookup, and
 -- query with it, must also return the word index of the key found and whether it was top, bottom or interim". It writes no buffer
 abbrev pub query_at : Table → Lookup → Query
-query_at t (Stands x n) = Known (record_in t x) (spot_of x) n
-query_at t (Absent n) = Unknown KeyAbsent n
+query_at t (Stands x n) = knows (record_in t x) (spot_of x) n
+query_at t (Absent n) = misses KeyAbsent n
 
 unfoldable pub query_result : Table → ℕ → Query
-query_result t key = checked (λ (r : Refusal). Unknown r 0) (query_tests t) (query_at t (lookup t (header_of t) key))
+query_result t key = checked (λ (r : Refusal). misses r 0) (query_tests t) (query_at t (lookup t (header_of t) key))
 
 -- create: "13 | c, first k (1 to c), length or a multiplier bad"; document 02, request g): "Creation is told the form; any but 1 and 2 gives 13".
 -- The lent words are the table at entry and at exit
@@ -84,11 +79,11 @@ unfoldable pub created : ℕ → ℕ → ℕ → ℕ → ℕ → Table
 created form c k mul1 mul2 = form ∷ c ∷ mul1 ∷ mul2 ∷ state_word (record { k = k; phase = 0 }) ∷ replicate (words_for c - 5) 0
 
 unfoldable pub create_result : Table → ℕ → ℕ → ℕ → ℕ → ℕ → Verdict × Table
-create_result t form c k mul1 mul2 = cond (all (create_tests (length t) form c k mul1 mul2)) (Done, created form c k mul1 mul2) (Denied BadCreation, t)
+create_result t form c k mul1 mul2 = cond (all (create_tests (length t) form c k mul1 mul2)) (Ok tt, created form c k mul1 mul2) (Err BadCreation, t)
 
 -- make: "14 | n pairs are not in the list, or an index among them is outside the table". The list is only read
 unfoldable pub make_tests : Table → List ℕ → ℕ → List Bool
 make_tests t l n = leb (2 * n) (length l) ∷ all (map (λ (x : Store). ltb x.0 (length t)) (pairs n l)) ∷ []
 
 unfoldable pub make_result : Table → List ℕ → ℕ → Verdict × Table
-make_result t l n = cond (all (make_tests t l n)) (Done, made t (pairs n l)) (Denied BadMaking, t)
+make_result t l n = cond (all (make_tests t l n)) (Ok tt, made t (pairs n l)) (Err BadMaking, t)

@@ -22,7 +22,7 @@ use Rattle.rules.specs.declared.Record.{Record}
 use Rattle.rules.specs.declared.Slot.{Slot}
 use Rattle.rules.specs.declared.Refusal.{Refusal}
 use Rattle.rules.specs.declared.Refusal.TheVariants.{NoPlace, InterimEmpty}
-use Rattle.rules.specs.declared.Change.TheVariants.{Listed}
+use Rattle.std.specs.Prelude.{Ok}
 
 -- ==== "in every statement about cuts and maps that the step has": its answer and its list are those of the call that they speak of
 
@@ -46,7 +46,7 @@ pub record Takes (t : Table) (b : ℕ) (l : List ℕ) (x : Slot) : Type 0 where
   pub stores : List Store
   pub list : outcome t (length l) (step_from b) ≡ listed stores
   pub written : StepWritten t (header_of t) x stores
-  pub answer : (step_from_result t b l).0.stepped ≡ record { change = Listed (length stores); placing = placing t (header_of t) (key_in t x) }
+  pub answer : (step_from_result t b l).0.stepped ≡ record { change = Ok (length stores); placing = placing t (header_of t) (key_in t x) }
   pub bucket : interim_size t - 1 + (step_from_result t b l).0.bucket ≡ x.bucket
 
 abbrev pub TakesTheFirstFrom : Type 0

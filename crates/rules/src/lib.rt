@@ -6,6 +6,10 @@
 pub mod layout;
 mod phases;
 
+ghost use Rattle.std.specs.Prelude.{◌≡◌};
+ghost use Rattle.rules.specs.Answers.{missed_by};
+ghost use Rattle.rules.specs.declared.Unconverted.TheVariants.{Rejected};
+
 // Word 4, decoded: "k + 256·phase; phase 0 at rest, 1 growing"; 2 shrinking.
 #[derive(Clone, Copy)]
 pub struct State {
@@ -130,11 +134,7 @@ pub enum Refusal {
 }
 
 // What insert, update, delete, begin, shrink, back, end and recover answer: how many stores they listed, or why they listed none.
-#[derive(Clone, Copy)]
-pub enum Change {
-    Listed(u64),
-    Refused(Refusal),
-}
+pub type Change = Result<u64, Refusal>;
 
 // What a step answers: the change, and the placing of the item that it takes; nothing where it was refused.
 #[derive(Clone, Copy)]
@@ -151,41 +151,80 @@ pub struct SteppedFrom {
     pub bucket: u64,
 }
 
-// What query answers: the record and where its key stands, or why there is none; and the number of buckets looked at.
+// A key that is known: what it leads to, where it stands, and the number of buckets looked at.
 #[derive(Clone, Copy)]
-pub enum Query {
-    Known(Record, Spot, u64),
-    Unknown(Refusal, u64),
+pub struct Known {
+    pub what: Record,
+    pub spot: Spot,
+    pub looked: u64,
 }
 
-// What the chain of inlined callers answers: that every depth has its record, or why no record was written; and the number of buckets
-// looked at.
+// Why a query or a chain has no answer, and the number of buckets looked at.
 #[derive(Clone, Copy)]
-pub enum Chain {
-    Whole(u64),
-    Broken(Refusal, u64),
+pub struct Missed {
+    pub refusal: Refusal,
+    pub looked: u64,
 }
 
-// What a conversion answers: that the second table is the other form of the first; the key of the item that found no place in it; or why
-// nothing was converted.
+// A refusal of the tests that come first: no bucket was looked at.
+impl From<Refusal> for Missed {
+    ghost from_gives = { λ r m. m ≡ missed_by r 0 };
+
+    fn from(refusal: Refusal) -> Missed {
+        Missed { refusal, looked: 0 }
+    }
+}
+
+// What query answers: the record and where its key stands, or why there is none.
+pub type Query = Result<Known, Missed>;
+
+// What the chain of inlined callers answers: how many buckets were looked at where every depth has its record, or why no record was written.
+pub type Chain = Result<u64, Missed>;
+
+// Why a table is not converted: an item, with that key, found no place in the second table; or one of the tests refused.
 #[derive(Clone, Copy)]
-pub enum Conversion {
-    Converted,
+pub enum Unconverted {
     Stuck(u64),
     Rejected(Refusal),
 }
 
-// What asking two tables answers: the table that holds the key, 0 the newer or 1 the older, and the index of its key word there; or the table that
-// is told of, and why there is no record; and the number of buckets looked at.
-#[derive(Clone, Copy)]
-pub enum Asked {
-    Hit(u64, u64, u64),
-    Miss(u64, Refusal, u64),
+// A refusal of the tests, of which none is about an item.
+impl From<Refusal> for Unconverted {
+    ghost from_gives = { λ r u. u ≡ Rejected r };
+
+    fn from(refusal: Refusal) -> Unconverted {
+        Unconverted::Rejected(refusal)
+    }
 }
 
-// What create and make answer.
+// What a conversion answers: that the second table is the other form of the first, or why it is not.
+pub type Conversion = Result<(), Unconverted>;
+
+// One of two tables that are asked as one.
 #[derive(Clone, Copy)]
-pub enum Verdict {
-    Done,
-    Denied(Refusal),
+pub enum Side {
+    Newer,
+    Older,
 }
+
+// A key that one of two tables holds: the table, the index of its key word there, and the number of buckets looked at.
+#[derive(Clone, Copy)]
+pub struct Hit {
+    pub side: Side,
+    pub word: u64,
+    pub looked: u64,
+}
+
+// Why neither table has a record to tell: the table that is told of, the refusal, and the number of buckets looked at.
+#[derive(Clone, Copy)]
+pub struct Miss {
+    pub side: Side,
+    pub refusal: Refusal,
+    pub looked: u64,
+}
+
+// What asking two tables answers.
+pub type Asked = Result<Hit, Miss>;
+
+// What create and make answer.
+pub type Verdict = Result<(), Refusal>;

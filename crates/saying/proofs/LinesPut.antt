@@ -10,11 +10,10 @@ use lib.ListN.{length, take, drop}
 use lib.Seq.{sets-eq, take-take, take-append_seam, drop-append_seam}
 use Rattle.rules.specs.Answers.{Meaning, change_means, verdict_means}
 use Rattle.rules.specs.Histories.{reported}
-use Rattle.rules.specs.declared.Change.{Change}
-use Rattle.rules.specs.declared.Change.TheVariants.{Listed, Refused}
+use Rattle.rules.specs.Answers.{Change}
+use Rattle.std.specs.Prelude.{Ok, Err}
 use Rattle.rules.specs.declared.Refusal.{Refusal}
-use Rattle.rules.specs.declared.Verdict.{Verdict}
-use Rattle.rules.specs.declared.Verdict.TheVariants.{Done, Denied}
+use Rattle.rules.specs.Answers.{Verdict}
 use Rattle.numbering.specs.Told.{told}
 use Rattle.replaying.specs.declared.Answer.{Answer}
 use Rattle.replaying.specs.declared.Answer.TheVariants.{Nothing, Changed}
@@ -66,17 +65,17 @@ found-put {l = l} {m} {r} e p = subst (λ (z : Meaning). PutAll (found_lines z.n
 -- ---- a change, and creation
 
 pub change-lines : (r : Change) → lines_of (Changed r) ≡ ("answer", (change_means r).number) ∷ ("stores", reported r) ∷ []
-change-lines (Listed stores) = refl
-change-lines (Refused e) = refl
+change-lines (Ok stores) = refl
+change-lines (Err e) = refl
 
 told_as : {v w : Verdict} {n : ℕ} → told n ≡ verdict_means v → v ≡ w → n ≡ (verdict_means w).number
 told_as number e = ap (λ (x : Meaning). x.number) number ∙ ap (λ (x : Verdict). (verdict_means x).number) e
 
 module _ {v : Verdict} {n : ℕ} (number : told n ≡ verdict_means v) {at r : ℕ} {l m : List ℕ} where
-  pub created_done : v ≡ Done → Put (named ("made", n)) at l r m → Put (flat_map line_text (created_lines v)) at l r m
+  pub created_done : v ≡ Ok tt → Put (named ("made", n)) at l r m → Put (flat_map line_text (created_lines v)) at l r m
   created_done e p = rw e (last_line _ (rw (told_as number e) at p))
 
-  pub created_denied : {d : Refusal} → v ≡ Denied d → Put (named ("made", n)) at l r m → {r₂ : ℕ} {m₂ : List ℕ}
+  pub created_denied : {d : Refusal} → v ≡ Err d → Put (named ("made", n)) at l r m → {r₂ : ℕ} {m₂ : List ℕ}
       → Put (named ("events", 0)) r m r₂ m₂
       → Put (flat_map line_text (created_lines v)) at l r₂ m₂
   created_denied e p q = rw e (line_before _ _ (rw (told_as number e) at p) (last_line _ q))

@@ -7,8 +7,8 @@ use mathlib.Core.List.{List, [], ◌∷◌, ◌++◌, flat_map}
 use Rattle.lines.specs.Lines.{bytes}
 use Rattle.lines.specs.Texts.{decimal_text}
 use Rattle.rules.specs.Answers.{number_of, change_means, query_means}
-use Rattle.rules.specs.declared.Verdict.{Verdict}
-use Rattle.rules.specs.declared.Verdict.TheVariants.{Done, Denied}
+use Rattle.rules.specs.Answers.{Verdict}
+use Rattle.std.specs.Prelude.{Ok, Err}
 use Rattle.replaying.specs.declared.Answer.{Answer}
 use Rattle.replaying.specs.declared.Answer.TheVariants.{Nothing, Created, Changed, Kept, Found, Events, Bad}
 
@@ -36,8 +36,8 @@ found_lines = answer_lines ("fn" ∷ "at" ∷ "probes" ∷ "word" ∷ "level" �
 
 -- a made table "made=0", and one that is not made its refusal: "After `made=13` comes `events=0`"
 abbrev pub created_lines : Verdict → List Line
-created_lines Done = ("made", 0) ∷ []
-created_lines (Denied e) = ("made", number_of e) ∷ ("events", 0) ∷ []
+created_lines (Ok tt) = ("made", 0) ∷ []
+created_lines (Err e) = ("made", number_of e) ∷ ("events", 0) ∷ []
 
 -- an answer's lines. "An event under a cut line adds `kept=`, the stores made, after `stores=`". At the end "events=3", or "First bad
 -- line: `bad=` its number"

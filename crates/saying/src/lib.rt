@@ -85,8 +85,8 @@ fn created(verdict: Verdict, out: &mut [u8; TEXT_BYTES]) -> usize
 {
     let second = line(b"made=", verdict_number(verdict), out, 0);
     match verdict {
-        Verdict::Done => second,
-        Verdict::Denied(_) => line(b"events=", 0, out, second),
+        Ok(()) => second,
+        Err(_) => line(b"events=", 0, out, second),
     }
 }
 

@@ -10,7 +10,7 @@ use Rattle.chaining.proofs.chain_at.Goals as goal
 use Rattle.chaining.proofs.chain_at.Goals.{Else-not-position_good}
 
 pub returns-then-not-position_good : goal.returns-then-not-position_good
-returns-then-not-position_good c = no_position _ _ _ _ c.position_good.ensures (c.if-not-position_good.true)
+returns-then-not-position_good c = rw c.from.ensures (no_position _ _ _ _ c.position_good.ensures c.if-not-position_good.true)
 
 -- the address and the depth have a key
 good : (c : Else-not-position_good) →
@@ -25,7 +25,8 @@ pub overflow_mul-depth : goal.overflow_mul-depth
 overflow_mul-depth c = let p = position-means _ _ (good (goal.at.overflow_mul-depth c).Else-not-position_good) in omega (arith, p.1)
 
 pub returns-then-records-depth : goal.returns-then-records-depth
-returns-then-records-depth c = no_room _ _ _ _ (good (goal.at.returns-then-records-depth c).Else-not-position_good) c.if-records-depth.true
+returns-then-records-depth c =
+    rw c.from-then-records-depth.ensures (no_room _ _ _ _ (good (goal.at.returns-then-records-depth c).Else-not-position_good) c.if-records-depth.true)
 
 pub overflow_mul-address : goal.overflow_mul-address
 overflow_mul-address c = let p = position-means _ _ (good (goal.at.overflow_mul-address c).Else-not-position_good) in omega (arith, p.0)

@@ -1,23 +1,15 @@
 -- `changing::update` meets its contract.
 -- Assumes nothing.
 use Rattle.rules.specs.Calls.{update}
+use Rattle.reading.proofs.Gated.{passed_on}
 use Rattle.listing.proofs.Outcomes.{changed_shut, changed_open, change-long}
 use Rattle.changing.proofs.update.Goals as goal
 
 pub update_at-requires : goal.update_at-requires
-update_at-requires c =
-    let q = c.change_gate-gate.ensures in
-    let y = rw c.in-Open.is at q.1 in
-    (change-long _ _ q.0 c.in-Open.is, y.1)
+update_at-requires c = (change-long _ _ c.change_gate.ensures.0 c.in_ok-h.was, c.in_ok-h.ensures.1.1)
 
-pub returns-in-Shut : goal.returns-in-Shut
-returns-in-Shut c =
-    let a = c.args in
-    changed_shut (update a.key a.r) _ _ c.change_gate-gate.ensures.0 c.in-Shut.is
+pub returns-in_err-h : goal.returns-in_err-h
+returns-in_err-h c = rw (passed_on c.from_residual.ensures.1) (changed_shut (update c.args.key c.args.r) _ _ c.change_gate.ensures.0 c.in_err-h.was)
 
-pub returns-in-Open : goal.returns-in-Open
-returns-in-Open c =
-    let a = c.args in
-    let q = c.change_gate-gate.ensures in
-    let y = rw c.in-Open.is at q.1 in
-    changed_open (update a.key a.r) _ _ q.0 c.in-Open.is y.0 c.update_at.ensures
+pub returns : goal.returns
+returns c = changed_open (update c.args.key c.args.r) _ _ c.change_gate.ensures.0 c.in_ok-h.was c.in_ok-h.ensures.1.0 c.update_at.ensures

@@ -3,8 +3,8 @@
 use Rattle.collector.proofs.Tellings.{chain_whole, chain_broken}
 use Rattle.collector.proofs.ragansils_chain.Goals as goal
 
-pub returns-in-Whole : goal.returns-in-Whole
-returns-in-Whole c = chain_whole c.chain-found.ensures c.in-Whole.is
+pub returns-in-Ok : goal.returns-in-Ok
+returns-in-Ok c = chain_whole c.chain.ensures c.in-Ok.is
 
-pub returns-in-Broken : goal.returns-in-Broken
-returns-in-Broken c = chain_broken c.chain-found.ensures c.in-Broken.is c.number.ensures
+pub returns-in-Err : goal.returns-in-Err
+returns-in-Err c = chain_broken c.chain.ensures c.in-Err.is c.number.ensures

@@ -6,5 +6,5 @@ use mathlib.Core.List.{[], ◌∷◌}
 use Rattle.numbering.specs.Told.{told_with}
 use Rattle.collector.proofs.report.Goals as goal
 
-pub returns-in-Refused : goal.returns-in-Refused
-returns-in-Refused c = rw c.in-Refused.is (ap (λ (n : ℕ). told_with n (0 ∷ [])) c.number.ensures)
+pub returns-in-Err : goal.returns-in-Err
+returns-in-Err c = rw c.in-Err.is (ap (λ (n : ℕ). told_with n (0 ∷ [])) c.number.ensures)

@@ -4,8 +4,8 @@ use mathlib.Core.Path.{refl}
 use Rattle.collector.proofs.Tellings.{step-listed, step-refused}
 use Rattle.collector.proofs.report_step.Goals as goal
 
-pub returns-in-Listed : goal.returns-in-Listed
-returns-in-Listed c = step-listed c.step_from-taken.ensures refl c.in-Listed.is
+pub returns-in-Ok : goal.returns-in-Ok
+returns-in-Ok c = step-listed c.step_from-taken.ensures refl c.in-Ok.is
 
-pub returns-in-Refused : goal.returns-in-Refused
-returns-in-Refused c = step-refused c.step_from-taken.ensures refl c.in-Refused.is c.number.ensures
+pub returns-in-Err : goal.returns-in-Err
+returns-in-Err c = step-refused c.step_from-taken.ensures refl c.in-Err.is c.number.ensures

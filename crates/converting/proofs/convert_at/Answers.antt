@@ -10,16 +10,16 @@ use Rattle.converting.proofs.convert_at.Goals.{After-at_rest, Else-not-at_rest}
 
 -- behind the first tests the source is sound; behind the next it is at rest
 sound : (c : After-at_rest) → SoundTable c.args.t.now
-sound c = found-sound _ _ c.finding-found.ensures.0 c.in-Sound.in-Sound-own.keys1
+sound c = found-sound _ _ c.finding.ensures.0 c.in-Sound.in-Sound-own.keys1
 
 source : (c : Else-not-at_rest) → Source c.args.t.now
-source c = source_of _ _ c.requires ((found-sound _ _ c.finding-found.ensures.0 c.in-Sound.in-Sound-own.keys1)) _ c.at_rest.ensures (c.if-not-at_rest.false)
+source c = source_of _ _ c.requires ((found-sound _ _ c.finding.ensures.0 c.in-Sound.in-Sound-own.keys1)) _ c.at_rest.ensures (c.if-not-at_rest.false)
 
-pub finding-found-requires : goal.finding-found-requires
-finding-found-requires c = (c.requires.good, c.requires.own)
+pub finding-requires : goal.finding-requires
+finding-requires c = (c.requires.good, c.requires.own)
 
 pub returns-in_default : goal.returns-in_default
-returns-in_default c = unsound-refused _ _ c.requires _ (found-unsound _ _ c.finding-found.ensures.0 (opened c.in_default.in_default-own.keys2))
+returns-in_default c = unsound-refused _ _ c.requires _ (found-unsound _ _ c.finding.ensures.0 (opened c.in_default.in_default-own.keys2))
 
 pub returns-then-not-at_rest : goal.returns-then-not-at_rest
 returns-then-not-at_rest c = resizing-refused _ _ c.requires _ (sound (goal.at.returns-then-not-at_rest c).After-at_rest) _ c.at_rest.ensures (c.if-not-at_rest.true)

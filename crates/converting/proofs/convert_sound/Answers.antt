@@ -19,14 +19,14 @@ pub decode-to-requires : goal.decode-to-requires
 unfolding words_for
 decode-to-requires c = omega (arith, (fresh-good _ _ c.requires.0 (source (goal.at.decode-to-requires c).Start) _ c.create_fresh.ensures).long)
 
-pub fill_table-filled-requires : goal.fill_table-filled-requires
-fill_table-filled-requires c = (c.requires.0.good, fresh_takes _ _ c.requires.0 (source (goal.at.fill_table-filled-requires c).Start) _ c.create_fresh.ensures _ c.decode-to.ensures)
+pub fill_table-requires : goal.fill_table-requires
+fill_table-requires c = (c.requires.0.good, fresh_takes _ _ c.requires.0 (source (goal.at.fill_table-requires c).Start) _ c.create_fresh.ensures _ c.decode-to.ensures)
 
-pub returns-in-Going : goal.returns-in-Going
-returns-in-Going c = all-filled _ _ c.requires.0 (source (goal.at.returns-in-Going c).Start) _ c.create_fresh.ensures _ _ c.fill_table-filled.ensures c.in-Going.in-Going-own.keys1
+pub returns-in-Ok : goal.returns-in-Ok
+returns-in-Ok c = all-filled _ _ c.requires.0 (source (goal.at.returns-in-Ok c).Start) _ c.create_fresh.ensures _ _ c.fill_table.ensures c.in-Ok.is
 
-pub returns-in-Stuck : goal.returns-in-Stuck
-returns-in-Stuck c = one-stuck _ _ c.requires.0 (source (goal.at.returns-in-Stuck c).Start) _ c.create_fresh.ensures _ _ c.fill_table-filled.ensures _ c.in-Stuck.is _ c.create_fresh-in-Stuck.ensures
+pub returns-in-Err : goal.returns-in-Err
+returns-in-Err c = one-stuck _ _ c.requires.0 (source (goal.at.returns-in-Err c).Start) _ c.create_fresh.ensures _ _ c.fill_table.ensures _ c.in-Err.is _ c.create_fresh-in-Err.ensures
 
-pub create_fresh-requires-in-Stuck : goal.create_fresh-requires-in-Stuck
-create_fresh-requires-in-Stuck c = (rw (filled-long _ _ c.requires.0 (source (goal.at.create_fresh-requires-in-Stuck c).Start) _ c.create_fresh.ensures _ _ c.fill_table-filled.ensures) c.requires.0.good, c.requires.2)
+pub create_fresh-requires-in-Err : goal.create_fresh-requires-in-Err
+create_fresh-requires-in-Err c = (rw (filled-long _ _ c.requires.0 (source (goal.at.create_fresh-requires-in-Err c).Start) _ c.create_fresh.ensures _ _ c.fill_table.ensures) c.requires.0.good, c.requires.2)

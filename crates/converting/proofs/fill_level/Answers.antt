@@ -9,6 +9,7 @@ use Rattle.rules.proofs.Words.Headers.{next-bucket-fits}
 use Rattle.reading.specs.Within.{BucketWithin}
 use Rattle.converting.proofs.Filling.{all_left, none_left, slots_along, along_next, along_end, places_on, level-whole, bucket-next, bucket-end}
 use Rattle.converting.proofs.Filling.{block_may, block_done, block_stuck}
+use Rattle.reading.proofs.Gated.{passed_on}
 use Rattle.converting.proofs.fill_level.Goals as goal
 use Rattle.converting.proofs.fill_level.Goals.{In-loop-i}
 
@@ -38,13 +39,14 @@ overflow_sub-p c = omega arith
 pub overflow_add-p : goal.overflow_add-p
 overflow_add-p c = omega (arith, fits (goal.at.overflow_add-p c).In-loop-i)
 
-pub fill_bucket-filled-requires : goal.fill_bucket-filled-requires
+pub fill_bucket-requires : goal.fill_bucket-requires
 unfolding place_at
-fill_bucket-filled-requires c = (fits (goal.at.fill_bucket-filled-requires c).In-loop-i, block_may _ _ _ _ _ _ _ _ _ (next (goal.at.fill_bucket-filled-requires c).In-loop-i) c.loop-i.invariant)
+fill_bucket-requires c = (fits (goal.at.fill_bucket-requires c).In-loop-i, block_may _ _ _ _ _ _ _ _ _ (next (goal.at.fill_bucket-requires c).In-loop-i) c.loop-i.invariant)
 
-pub returns-in_default : goal.returns-in_default
+pub returns-in_err-fill_bucket : goal.returns-in_err-fill_bucket
 unfolding place_at
-returns-in_default c = block_stuck _ _ _ _ _ _ _ _ _ (next (goal.at.returns-in_default c).In-loop-i) c.loop-i.invariant _ _ c.fill_bucket-filled.ensures c.in_default.in_default-own.keys2
+returns-in_err-fill_bucket c = rw (passed_on c.from_residual.ensures.1)
+    (block_stuck _ _ _ _ _ _ _ _ _ (next (goal.at.returns-in_err-fill_bucket c).In-loop-i) c.loop-i.invariant _ _ c.in_err-fill_bucket.ensures)
 
 pub overflow_step-i : goal.overflow_step-i
 overflow_step-i c = omega arith
@@ -54,7 +56,7 @@ loop-i-smaller c = omega arith
 
 pub loop-i-preserved : goal.loop-i-preserved
 unfolding place_at
-loop-i-preserved c = block_done _ _ _ _ _ _ _ _ _ (next (goal.at.loop-i-preserved c).In-loop-i) c.loop-i.invariant _ _ c.fill_bucket-filled.ensures c.in-Going.in-Going-own.keys1
+loop-i-preserved c = block_done _ _ _ _ _ _ _ _ _ (next (goal.at.loop-i-preserved c).In-loop-i) c.loop-i.invariant _ c.in_ok-fill_bucket.ensures
 
 pub returns : goal.returns
 returns c = none_left _ _ _ _ _ _ _ (along_end _ _ _ (bucket-end _ _ _ c.loop-i-test.false)) c.loop-i.invariant

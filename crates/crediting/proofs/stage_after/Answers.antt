@@ -4,8 +4,8 @@ use borrow.Enum.Refused.{opened}
 use Rattle.crediting.proofs.Stages.{script_goes_on}
 use Rattle.crediting.proofs.stage_after.Goals as goal
 
-pub returns-in-Denied : goal.returns-in-Denied
-returns-in-Denied c = rw (c.in-Created.is, c.in-Denied.is)
+pub returns-in-Err : goal.returns-in-Err
+returns-in-Err c = rw (c.in-Created.is, c.in-Err.is)
 
 pub returns-in-Bad : goal.returns-in-Bad
 returns-in-Bad c = rw c.in-Bad.is

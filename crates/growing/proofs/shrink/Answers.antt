@@ -2,20 +2,15 @@
 -- Assumes nothing.
 use Rattle.rules.specs.Calls.{shrink}
 use Rattle.rules.proofs.Words.Headers.{header-state}
+use Rattle.reading.proofs.Gated.{passed_on}
 use Rattle.listing.proofs.Outcomes.{changed_shut, changed_open, change-long}
 use Rattle.growing.proofs.shrink.Goals as goal
 
 pub shrink_at-requires : goal.shrink_at-requires
-shrink_at-requires c =
-    let q = c.change_gate-gate.ensures in
-    let y = rw c.in-Open.is at q.1 in
-    (change-long _ _ q.0 c.in-Open.is, header-state _ _ y.1)
+shrink_at-requires c = (change-long _ _ c.change_gate.ensures.0 c.in_ok-h.was, header-state _ _ c.in_ok-h.ensures.1.1)
 
-pub returns-in-Shut : goal.returns-in-Shut
-returns-in-Shut c = changed_shut shrink _ _ c.change_gate-gate.ensures.0 c.in-Shut.is
+pub returns-in_err-h : goal.returns-in_err-h
+returns-in_err-h c = rw (passed_on c.from_residual.ensures.1) (changed_shut shrink _ _ c.change_gate.ensures.0 c.in_err-h.was)
 
-pub returns-in-Open : goal.returns-in-Open
-returns-in-Open c =
-    let q = c.change_gate-gate.ensures in
-    let y = rw c.in-Open.is at q.1 in
-    changed_open shrink _ _ q.0 c.in-Open.is y.0 c.shrink_at.ensures
+pub returns : goal.returns
+returns c = changed_open shrink _ _ c.change_gate.ensures.0 c.in_ok-h.was c.in_ok-h.ensures.1.0 c.shrink_at.ensures

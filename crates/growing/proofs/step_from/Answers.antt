@@ -7,14 +7,14 @@ use Rattle.growing.proofs.step_from.Goals as goal
 
 pub step_at-requires : goal.step_at-requires
 step_at-requires c =
-    let q = c.change_gate-gate.ensures in
-    (change-long _ _ q.0 c.in-Open.is, open_headed _ _ q.1 c.in-Open.is)
+    let q = c.change_gate.ensures in
+    (change-long _ _ q.0 c.in-Ok.is, open_headed _ _ q.1 c.in-Ok.is)
 
-pub returns-in-Shut : goal.returns-in-Shut
-returns-in-Shut c = step_shut _ _ _ c.change_gate-gate.ensures.0 c.in-Shut.is c.unplaced.ensures
+pub returns-in-Err : goal.returns-in-Err
+returns-in-Err c = step_shut _ _ _ c.change_gate.ensures.0 c.in-Err.is c.unplaced.ensures
 
-pub returns-in-Open : goal.returns-in-Open
-returns-in-Open c =
-    let q = c.change_gate-gate.ensures in
-    let y = rw c.in-Open.is at q.1 in
-    step_open _ _ _ q.0 c.in-Open.is y.0 c.step_at.ensures
+pub returns-in-Ok : goal.returns-in-Ok
+returns-in-Ok c =
+    let q = c.change_gate.ensures in
+    let y = rw c.in-Ok.is at q.1 in
+    step_open _ _ _ q.0 c.in-Ok.is y.0 c.step_at.ensures

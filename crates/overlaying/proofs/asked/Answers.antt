@@ -1,25 +1,19 @@
 -- `overlaying::asked` meets its contract.
 -- Assumes nothing.
+use mathlib.Core.Path.{◌∙◌}
 use Rattle.overlaying.proofs.Gated.{newer_shut, older_shut, both_open}
 use Rattle.overlaying.proofs.Asking.{asks, asks-behind}
 use Rattle.overlaying.proofs.asked.Goals as goal
 
-pub in_either-requires : goal.in_either-requires
-in_either-requires c =
-    let x = rw c.in-Open.is at c.query_gate-first.ensures.1 in
-    let y = rw c.in-Open-second.is at c.query_gate-second.ensures.1 in
-    (x.1, y.1)
+pub returns-in-Err : goal.returns-in-Err
+returns-in-Err c = asks _ _ _ (c.refused_by.ensures ∙ newer_shut _ _ _ c.query_gate.ensures.0 c.in-Err.is)
 
-pub returns-in-Shut : goal.returns-in-Shut
-returns-in-Shut c = asks _ _ _ (newer_shut _ _ _ c.query_gate-first.ensures.0 c.in-Shut.is)
+pub returns-in-Err-query_gate : goal.returns-in-Err-query_gate
+returns-in-Err-query_gate c =
+    asks _ _ _
+    (c.refused_by-in-Err-query_gate.ensures ∙ older_shut _ _ _ c.query_gate.ensures.0 c.in-Ok.is c.query_gate-2.ensures.0 c.in-Err-query_gate.is)
 
-pub returns-in-Shut-second : goal.returns-in-Shut-second
-returns-in-Shut-second c = asks _ _ _ (older_shut _ _ _ c.query_gate-first.ensures.0 c.in-Open.is c.query_gate-second.ensures.0 c.in-Shut-second.is)
-
-pub returns-in-Open-second : goal.returns-in-Open-second
-returns-in-Open-second c =
-    let g = c.query_gate-first.ensures in
-    let x = rw c.in-Open.is at g.1 in
-    let y = rw c.in-Open-second.is at c.query_gate-second.ensures.1 in
+pub returns : goal.returns
+returns c =
     asks-behind _ _ _ _ _ c.in_either.ensures
-    (both_open _ _ _ g.0 c.in-Open.is c.query_gate-second.ensures.0 c.in-Open-second.is x.0 y.0)
+    (both_open _ _ _ c.query_gate.ensures.0 c.in-Ok.is c.query_gate-2.ensures.0 c.in-Ok-query_gate.is c.in-Ok.ensures.1.0 c.in-Ok-query_gate.ensures.1.0)

@@ -20,10 +20,9 @@ use Rattle.rules.specs.declared.Lookup.{Lookup}
 use Rattle.rules.specs.declared.Lookup.TheVariants.{Stands, Absent}
 use Rattle.rules.specs.declared.Refusal.{Refusal}
 use Rattle.rules.specs.declared.Refusal.TheVariants.{KeyAbsent, ShortRecords, BadPosition}
-use Rattle.rules.specs.declared.Query.{Query}
-use Rattle.rules.specs.declared.Query.TheVariants.{Known, Unknown}
-use Rattle.rules.specs.declared.Chain.{Chain}
-use Rattle.rules.specs.declared.Chain.TheVariants.{Broken}
+use Rattle.rules.specs.Answers.{Query, breaks}
+use Rattle.rules.specs.Answers.{Chain}
+use Rattle.std.specs.Prelude.{Ok, Err}
 use Rattle.rules.proofs.Basics.Lists.{never}
 use Rattle.rules.proofs.Basics.Tests.{Tells, tells_lt, tells_le, tells_and}
 use Rattle.rules.proofs.Calls.Checked.{checked_as}
@@ -33,8 +32,8 @@ use Rattle.rules.proofs.Calls.ChainWalks.{WalkBy, walk_by}
 module _ (t : Table) (address d : ℕ) (l : List ℕ) where
   -- a query finds a key exactly where it stands in a probed bucket
   abbrev Finds : ℕ → Query → Type 0
-  Finds key (Known r x n) = Held t key
-  Finds key (Unknown x n) = Held t key → ⊥
+  Finds key (Ok x) = Held t key
+  Finds key (Err x) = Held t key → ⊥
 
   lookup-finds : (key : ℕ) (f : Lookup) → lookup t (header_of t) key ≡ f → Finds key (query_at t f)
   lookup-finds key (Stands x n) e = held t key x n e
@@ -84,7 +83,7 @@ module _ (t : Table) (address d : ℕ) (l : List ℕ) where
   unfolding chain_result chain_tests position_tests query_tests
   by_first =
       let asks = query_of t (header_of t) address in
-      rw (checked_as (λ (a : Chain × List ℕ). chain_outcome a.0) (λ (r : Refusal). (Broken r 0, l)) (chain_tests t address d (length l)) _)
+      rw (checked_as (λ (a : Chain × List ℕ). chain_outcome a.0) (λ (r : Refusal). (breaks r 0, l)) (chain_tests t address d (length l)) _)
       (good-header_or t _ _ (clear_flag_or t _ _ (position_or _ _ (records_or _ _ (walk-refuses (walk asks d) (walk_by asks d))))))
 
 pub chain_refusals : ChainRefusals

@@ -13,8 +13,8 @@ use Rattle.rules.specs.Demands.{AnswersRecord, count_of}
 use Rattle.rules.specs.ChainSentences.{total, StandsAt}
 use Rattle.rules.specs.declared.Record.{Record}
 use Rattle.rules.specs.declared.Refusal.{Refusal}
-use Rattle.rules.specs.declared.Query.{Query}
-use Rattle.rules.specs.declared.Query.TheVariants.{Known, Unknown}
+use Rattle.rules.specs.Answers.{Query, misses}
+use Rattle.std.specs.Prelude.{Ok, Err}
 
 -- numbers from e on, with one more at the end
 total-last : (f : ℕ → ℕ) (e n : ℕ) → total (map f (from e (suc n))) ≡ total (map f (from e n)) + f (e + n)
@@ -39,7 +39,7 @@ module _ (asks : ℕ → Query) where
   pub record MissingWalk (d n : ℕ) : Type 0 where
     pub depth : ℕ
     pub within : depth ≤ d
-    pub gap : (x : Refusal) × (c : ℕ) × (asks depth ≡ Unknown x c)
+    pub gap : (x : Refusal) × (c : ℕ) × (asks depth ≡ misses x c)
     pub above : (i : ℕ) → depth < i → i ≤ d → (r : Record) × AnswersRecord (asks i) r
     pub count : n ≡ total (counts depth (suc (d - depth)))
 
@@ -48,7 +48,7 @@ module _ (asks : ℕ → Query) where
   WalkBy d (missing n) = MissingWalk d n
 
   -- at depth d itself
-  gap_here : (d : ℕ) (x : Refusal) (n : ℕ) → asks d ≡ Unknown x n → MissingWalk d n
+  gap_here : (d : ℕ) (x : Refusal) (n : ℕ) → asks d ≡ misses x n → MissingWalk d n
   gap_here d x n e =
       let k : d - d ≡ 0 = omega arith in
       record { depth = d; within = omega arith; gap = (x, n, e); above = λ i a b. absurd (omega arith); count = rw (k, e) (omega arith) }
@@ -58,17 +58,17 @@ module _ (asks : ℕ → Query) where
   walk_by zero = go (asks 0) refl
     where
       go : (q : Query) → asks 0 ≡ q → WalkBy 0 (before q (found [] 0))
-      go (Known r x n) e =
+      go (Ok q) e =
           record {
             many = refl;
             count = rw e;
-            records = λ i h k. let z : i ≡ 0 = omega arith in rw z (r, (x, n, e), (refl, refl));
+            records = λ i h k. let z : i ≡ 0 = omega arith in rw z (q.what, (q.spot, q.looked, e), (refl, refl));
           }
-      go (Unknown x n) e = gap_here 0 x n e
+      go (Err q) e = gap_here 0 q.refusal q.looked e
   walk_by (suc d) = go (asks (suc d)) refl (walk asks d) (walk_by d)
     where
       go : (q : Query) → asks (suc d) ≡ q → (w : Walk) → WalkBy d w → WalkBy (suc d) (before q w)
-      go (Known r x n) e (found rs m) k =
+      go (Ok q) e (found rs m) k =
           record {
             many = omega (arith, k.many);
             count =
@@ -79,7 +79,7 @@ module _ (asks : ℕ → Query) where
           }
         where
           at_depth : (i : ℕ) → Dec (i ≤ d) → i ≤ suc d → (l : List ℕ)
-              → (v : Record) × AnswersRecord (asks i) v × StandsAt (flat (map two_words (r ∷ rs)) ++ l) (suc d) i v
+              → (v : Record) × AnswersRecord (asks i) v × StandsAt (flat (map two_words (q.what ∷ rs)) ++ l) (suc d) i v
           at_depth i (yes s) h l =
               let b = k.records i s l in
               let y : 2 * (suc d - i) ≡ suc (suc (2 * (d - i))) = omega arith in
@@ -88,8 +88,8 @@ module _ (asks : ℕ → Query) where
           at_depth i (no s) h l =
               let y : i ≡ suc d = omega arith in
               let z : suc d - suc d ≡ 0 = omega arith in
-              rw (y, z) (r, (x, n, e), (refl, refl))
-      go (Known r x n) e (missing m) k =
+              rw (y, z) (q.what, (q.spot, q.looked, e), (refl, refl))
+      go (Ok q) e (missing m) k =
           let p = k.depth in
           let y : suc d - p ≡ suc (d - p) = omega (arith, k.within) in
           let z : p + suc (d - p) ≡ suc d = omega (arith, k.within) in
@@ -104,8 +104,8 @@ module _ (asks : ℕ → Query) where
         where
           over : (i : ℕ) → Dec (i ≤ d) → k.depth < i → i ≤ suc d → (v : Record) × AnswersRecord (asks i) v
           over i (yes s) a b = k.above i a s
-          over i (no s) a b = let y : i ≡ suc d = omega arith in rw y (r, (x, n, e))
-      go (Unknown x n) e w k = gap_here (suc d) x n e
+          over i (no s) a b = let y : i ≡ suc d = omega arith in rw y (q.what, (q.spot, q.looked, e))
+      go (Err q) e w k = gap_here (suc d) q.refusal q.looked e
 
 -- a walk sees the queries alone
 pub walk_same : (f g : ℕ → Query) → ((e : ℕ) → f e ≡ g e) → (d : ℕ) → walk f d ≡ walk g d

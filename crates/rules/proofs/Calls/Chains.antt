@@ -16,7 +16,7 @@ use Rattle.rules.specs.Words.{Table, header_of, flag_of, GoodHeader}
 use Rattle.rules.specs.Places.{lookup}
 use Rattle.rules.specs.Soundness.{SoundTable, PlainMap, HasMap}
 use Rattle.rules.specs.Stores.{written}
-use Rattle.rules.specs.Answers.{number_of, chain_means}
+use Rattle.rules.specs.Answers.{number_of, chain_means, breaks, misses}
 use Rattle.rules.specs.Calls.{header_good, flag_clear, query_tests}
 use Rattle.rules.specs.Results.{query_at}
 use Rattle.rules.specs.Chains.{key_of, Walk, found, missing, walk, query_of, two_words, records_long, position_good, position_tests, chain_tests}
@@ -29,10 +29,9 @@ use Rattle.rules.specs.declared.Lookup.{Lookup}
 use Rattle.rules.specs.declared.Lookup.TheVariants.{Stands, Absent}
 use Rattle.rules.specs.declared.Refusal.{Refusal}
 use Rattle.rules.specs.declared.Refusal.TheVariants.{BadHeader, FlagSet, KeyAbsent, ShortRecords, BadPosition}
-use Rattle.rules.specs.declared.Query.{Query}
-use Rattle.rules.specs.declared.Query.TheVariants.{Known, Unknown}
-use Rattle.rules.specs.declared.Chain.{Chain}
-use Rattle.rules.specs.declared.Chain.TheVariants.{Whole, Broken}
+use Rattle.rules.specs.Answers.{Query}
+use Rattle.rules.specs.Answers.{Chain}
+use Rattle.std.specs.Prelude.{Ok, Err}
 use Rattle.rules.proofs.Words.Headers.{good-header, header_passes}
 use Rattle.rules.proofs.Calls.Meanings.{number_not_zero}
 use Rattle.rules.proofs.Calls.Queries.{query_by_lookup, query_answers, probes_are_few}
@@ -58,9 +57,9 @@ module _ (t : Table) (address d : ℕ) (l : List ℕ) where
   -- an answer is refused by a test, with count 0 and the lent words as they were; or the tests pass, and it is that of the walk
   abbrev Ways : Chain × List ℕ → Type 0
   Ways a =
-      ((r : Refusal) × (r ≡ KeyAbsent → ⊥) × (a ≡ (Broken r 0, l))) ⊎ (Passed t d l × (a ≡ chain_of (walk (query_of t (header_of t) address) d) l))
+      ((r : Refusal) × (r ≡ KeyAbsent → ⊥) × (a ≡ (breaks r 0, l))) ⊎ (Passed t d l × (a ≡ chain_of (walk (query_of t (header_of t) address) d) l))
 
-  other : (r : Refusal) → (number_of r ≡ 5 → ⊥) → Ways (Broken r 0, l)
+  other : (r : Refusal) → (number_of r ≡ 5 → ⊥) → Ways (breaks r 0, l)
   other r n = inl (r, λ e. n (ap number_of e), refl)
 
   ways : Ways (chain_result t address d l)
@@ -68,8 +67,8 @@ module _ (t : Table) (address d : ℕ) (l : List ℕ) where
   ways = go (header_good t) (flag_clear t) (position_good address d) (records_long d (length l)) refl refl refl
     where
       go : (a b c e : Bool) → header_good t ≡ a → flag_clear t ≡ b → records_long d (length l) ≡ e
-          → Ways (cond a (cond b (cond c (cond e (chain_of (walk (query_of t (header_of t) address) d) l) (Broken ShortRecords 0, l)) (Broken BadPosition 0, l))
-          (Broken FlagSet 0, l)) (Broken BadHeader 0, l))
+          → Ways (cond a (cond b (cond c (cond e (chain_of (walk (query_of t (header_of t) address) d) l) (breaks ShortRecords 0, l)) (breaks BadPosition 0, l))
+          (breaks FlagSet 0, l)) (breaks BadHeader 0, l))
       go true true true true p q r = inr (record { header = good-header _ _ p; flag = eqb-true _ _ q; long = leb-true _ _ r }, refl)
       go true true true false p q r = other ShortRecords (λ n. absurd (omega arith))
       go true true false e p q r = other BadPosition (λ n. absurd (omega arith))
@@ -77,7 +76,7 @@ module _ (t : Table) (address d : ℕ) (l : List ℕ) where
       go false b c e p q r = other BadHeader (λ n. absurd (omega arith))
 
   -- so what holds of both holds of the chain; the walk goes by the queries of its depths
-  by_ways : (P : Chain × List ℕ → Type 0) → ((r : Refusal) → (r ≡ KeyAbsent → ⊥) → P (Broken r 0, l))
+  by_ways : (P : Chain × List ℕ → Type 0) → ((r : Refusal) → (r ≡ KeyAbsent → ⊥) → P (breaks r 0, l))
       → (Passed t d l → (w : Walk) → WalkBy (asked t address) d w → P (chain_of w l)) → P (chain_result t address d l)
   by_ways P refuse pass =
       ⊎_elim (λ p. rw p.2 (refuse p.0 p.1))
@@ -108,10 +107,15 @@ chain_writes t address d l = by_ways t address d l Written (λ r n. inr (number_
 
 -- ---- what it counts
 
+-- why a query has no record
+abbrev why : Query → Refusal
+why (Ok x) = KeyAbsent
+why (Err x) = x.refusal
+
 -- a query that the tests let pass is refused by 5 alone
-absent-alone : (t : Table) (f : Lookup) (x : Refusal) (n : ℕ) → query_at t f ≡ Unknown x n → x ≡ KeyAbsent
+absent-alone : (t : Table) (f : Lookup) (x : Refusal) (n : ℕ) → query_at t f ≡ misses x n → x ≡ KeyAbsent
 absent-alone t (Stands y m) x n e = absurd (let z : ◌≡◌ {A = ℕ} 0 1 = cc in omega arith)
-absent-alone t (Absent m) x n e = cc
+absent-alone t (Absent m) x n e = sym (ap why e)
 
 pub chain_counts : ChainCounts
 chain_counts t address d l = by_ways t address d l (λ (a : Chain × List ℕ). ChainCountBy t address d a.0) (λ r n. inr (n, refl)) go
@@ -133,9 +137,9 @@ total-few f b h e (suc n) = let k : b * suc n ≡ b + b * n = omega arith in ome
 module _ (t : Table) (address d : ℕ) (l : List ℕ) (b : ℕ) (few : (i : ℕ) → count_of (asked t address i) ≤ b) where
   -- of so many depths, at most b buckets each
   few_of : (c : Chain) → ChainCountBy t address d c → (n : ℕ) × (n ≤ d + 1) × (count_told c ≤ b * n)
-  few_of (Whole n) k = (d + 1, omega arith, rw k (total-few _ b few 0 (d + 1)))
-  few_of (Broken r n) (inl k) = (d - k.1.0 + 1, omega arith, rw k.1.2 (total-few _ b few k.1.0 (d - k.1.0 + 1)))
-  few_of (Broken r n) (inr k) = (0, omega arith, rw k.1 (omega arith))
+  few_of (Ok n) k = (d + 1, omega arith, rw k (total-few _ b few 0 (d + 1)))
+  few_of (Err x) (inl k) = (d - k.1.0 + 1, omega arith, rw k.1.2 (total-few _ b few k.1.0 (d - k.1.0 + 1)))
+  few_of (Err x) (inr k) = (0, omega arith, rw k.1 (omega arith))
 
   few-counts : (n : ℕ) × (n ≤ d + 1) × (count_told (chain_result t address d l).0 ≤ b * n)
   few-counts = few_of (chain_result t address d l).0 (chain_counts t address d l)
@@ -153,8 +157,8 @@ chain_looks_at_few t address d l = (
 
 -- what a query tells of the map
 abbrev Says : Query → Option Record → Type 0
-Says (Known r x n) o = o ≡ some r
-Says (Unknown x n) o = o ≡ none
+Says (Ok x) o = o ≡ some x.what
+Says (Err x) o = o ≡ none
 
 says : (o : Option Record) (q : Query) → QueryBy o q → Says q o
 says (some v) q k = rw k.2

@@ -31,10 +31,9 @@ use Rattle.rules.specs.declared.Slot.{Slot}
 use Rattle.rules.specs.declared.Record.{Record}
 use Rattle.rules.specs.declared.Refusal.{Refusal}
 use Rattle.rules.specs.declared.Refusal.TheVariants.{BadHeader, NoPlace, AlreadyResizing, NoKind, BadCreation}
-use Rattle.rules.specs.declared.Conversion.{Conversion}
-use Rattle.rules.specs.declared.Conversion.TheVariants.{Converted, Stuck, Rejected}
-use Rattle.rules.specs.declared.Verdict.{Verdict}
-use Rattle.rules.specs.declared.Verdict.TheVariants.{Done}
+use Rattle.rules.specs.Answers.{Conversion}
+use Rattle.std.specs.Prelude.{Ok, Err}
+use Rattle.rules.specs.Answers.{Verdict}
 use Rattle.rules.proofs.Basics.Lists.{not_some, ascending-tells, ascending-told, ascending-inside, ascending-one, ascending-parts}
 use Rattle.rules.proofs.Basics.Tests.{Tells, tells_eq}
 use Rattle.rules.proofs.Words.HeaderWords.{header-words}
@@ -45,6 +44,7 @@ use Rattle.rules.proofs.Calls.Checked.{checked_as}
 use Rattle.rules.proofs.Calls.Refusals.{ByFirst, unless_then}
 use Rattle.rules.proofs.Calls.Creating.{good_creation, created_is_empty, created-words}
 use Rattle.rules.proofs.Calls.Filling.{Apart, Took, Filled, Unplaced, FillsTo, fill_all, item-taken, stuck-stays, later-absent}
+use Rattle.rules.specs.declared.Unconverted.TheVariants.{Rejected, Stuck}
 
 -- ---- the other form
 
@@ -80,7 +80,7 @@ module _ (size : ℕ) (h : Header) (good : GoodHeader size h) (rest : h.state.ph
   }
 
   pub created-fresh : (s : Table) → length s ≡ size
-      → create_result s (other_form h.form) h.c h.state.k h.mul1 h.mul2 ≡ (Done, fresh_for h)
+      → create_result s (other_form h.form) h.c h.state.k h.mul1 h.mul2 ≡ (Ok tt, fresh_for h)
   unfolding create_result fresh_for
   created-fresh s e = rw (e, (good_creation size (other_form h.form) h.c h.state.k h.mul1 h.mul2).1 creation_good)
 
@@ -121,9 +121,9 @@ module _ (t : Table) (source : Source t) where
   own-words P p = rw (state-word, ← other_is (word t 0) source.sound.orderly.header.form) p
 
   module _ (s : Table) (long : length s ≡ length t) where
-    pub created_there : create_result s (3 - word t 0) (word t 1) (word t 4) (word t 2) (word t 3) ≡ (Done, fresh_for (header_of t))
+    pub created_there : create_result s (3 - word t 0) (word t 1) (word t 4) (word t 2) (word t 3) ≡ (Ok tt, fresh_for (header_of t))
     created_there =
-        own-words (λ form c k mul1 mul2. create_result s form c k mul1 mul2 ≡ (Done, fresh_for (header_of t)))
+        own-words (λ form c k mul1 mul2. create_result s form c k mul1 mul2 ≡ (Ok tt, fresh_for (header_of t)))
         (created-fresh (length t) (header_of t) source.sound.orderly.header source.rest s long)
 
     fresh_there : fresh_in t s ≡ fresh_for (header_of t)
@@ -277,14 +277,14 @@ module _ (t s : Table) where
   -- all tests pass, or one refuses, and none by 6
   pub data Tested (a : Answer) : Type 0 where
     passes : Source t → length s ≡ length t → a ≡ filled_to (header_of t) (filling t) → Tested a
-    refuses : (r : Refusal) → (r ≡ NoPlace → ⊥) → a ≡ (Rejected r, s) → Tested a
+    refuses : (r : Refusal) → (r ≡ NoPlace → ⊥) → a ≡ (Err (Rejected r), s) → Tested a
 
   tested : Tested (convert_result t s)
   unfolding convert_result convert_tests
   tested = go (header_good t) (all (sound_tests t)) (at_rest (header_of t).state) (eqb (length s) (length t)) sound-tells rest-tells (tells_eq _ _)
     where
       go : (a b c d : Bool) → Tells b (SoundTable t) → Tells c (AtRest t) → Tells d (length s ≡ length t)
-          → Tested (checked (λ (r : Refusal). (Rejected r, s)) ((a, BadHeader) ∷ (b, NoKind) ∷ (c, AlreadyResizing) ∷ (d, BadCreation) ∷ [])
+          → Tested (checked (λ (r : Refusal). (Err (Rejected r), s)) ((a, BadHeader) ∷ (b, NoKind) ∷ (c, AlreadyResizing) ∷ (d, BadCreation) ∷ [])
           (filled_to (header_of t) (filling t)))
       go false b c d f g h = refuses BadHeader (other-number BadHeader (λ e. omega (arith, e))) refl
       go true false c d f g h = refuses NoKind (other-number NoKind (λ e. omega (arith, e))) refl
@@ -293,16 +293,16 @@ module _ (t s : Table) where
       go true true true true f g h = passes (record { sound = f.0 refl; rest = g.0 refl }) (h.0 refl) refl
 
   -- each refusal where its own test is the first that fails
-  pub refuses-unsound : GoodHeader (length t) (header_of t) → (SoundTable t → ⊥) → convert_result t s ≡ (Rejected NoKind, s)
+  pub refuses-unsound : GoodHeader (length t) (header_of t) → (SoundTable t → ⊥) → convert_result t s ≡ (Err (Rejected NoKind), s)
   unfolding convert_result convert_tests header_good
   refuses-unsound good unsound = rw (header_passes (length t) (header_of t) good, tells_not (all (sound_tests t)) sound-tells unsound)
 
-  pub refuses-resizing : SoundTable t → (AtRest t → ⊥) → convert_result t s ≡ (Rejected AlreadyResizing, s)
+  pub refuses-resizing : SoundTable t → (AtRest t → ⊥) → convert_result t s ≡ (Err (Rejected AlreadyResizing), s)
   unfolding convert_result convert_tests header_good
   refuses-resizing sound resizing =
       rw (header_passes (length t) (header_of t) sound.orderly.header, sound-tells.1 sound, tells_not (at_rest (header_of t).state) rest-tells resizing)
 
-  pub refuses_length : Source t → (length s ≡ length t → ⊥) → convert_result t s ≡ (Rejected BadCreation, s)
+  pub refuses_length : Source t → (length s ≡ length t → ⊥) → convert_result t s ≡ (Err (Rejected BadCreation), s)
   unfolding convert_result convert_tests header_good
   refuses_length source other =
       let good = header_passes (length t) (header_of t) source.sound.orderly.header in
@@ -349,7 +349,7 @@ module _ (t s : Table) where
   by_first : ByFirst (convert_reasons t s) (conversion_outcome (convert_result t s).0)
   unfolding convert_result convert_tests header_good
   by_first =
-      rw (checked_as (λ (a : Answer). conversion_outcome a.0) (λ (r : Refusal). (Rejected r, s)) (convert_tests t (length s))
+      rw (checked_as (λ (a : Answer). conversion_outcome a.0) (λ (r : Refusal). (Err (Rejected r), s)) (convert_tests t (length s))
       (filled_to (header_of t) (filling t)))
       (unless_then (header_good t) BadHeader _ _ (HeaderWords t) (Iff.trans (header-tells (length t) (header_of t)) (header-words t)) (λ h.
       unless_then (all (sound_tests t)) NoKind _ _ (SoundTable t) sound-tells (λ sound.
@@ -376,20 +376,20 @@ flag_is_twelve t s words set =
 -- ---- "Otherwise the two maps are equal."
 
 -- a source that was converted, and what it was filled with
-converted-from : (t s u : Table) → convert_result t s ≡ (Converted, u)
+converted-from : (t s u : Table) → convert_result t s ≡ (Ok tt, u)
     → (source : Source t) × Filled t (fresh_for (header_of t)) (λ (key : ℕ). none) (taken_slots t) u
 converted-from t s u e = go (convert_result t s) (tested t s) e
   where
     inside : (source : Source t) (f : Filling) → FillsTo t (fresh_for (header_of t)) (λ (key : ℕ). none) (taken_slots t) f
-        → filled_to (header_of t) f ≡ (Converted, u) → Filled t (fresh_for (header_of t)) (λ (key : ℕ). none) (taken_slots t) u
+        → filled_to (header_of t) f ≡ (Ok tt, u) → Filled t (fresh_for (header_of t)) (λ (key : ℕ). none) (taken_slots t) u
     inside source (filled v) k q = rw (ap (λ (a : Conversion × Table). a.1) q) at k
-    inside source (stuck key) k q = absurd (let z : ◌≡◌ {A = Conversion} (Stuck key) Converted = ap (λ (a : Conversion × Table). a.0) q in
+    inside source (stuck key) k q = absurd (let z : ◌≡◌ {A = Conversion} (Err (Stuck key)) (Ok tt) = ap (λ (a : Conversion × Table). a.0) q in
         let y : ◌≡◌ {A = ℕ} 6 0 = ap (λ (c : Conversion). (conversion_means c).number) z in omega arith)
 
-    go : (a : Conversion × Table) → Tested t s a → a ≡ (Converted, u)
+    go : (a : Conversion × Table) → Tested t s a → a ≡ (Ok tt, u)
         → (source : Source t) × Filled t (fresh_for (header_of t)) (λ (key : ℕ). none) (taken_slots t) u
     go a (passes source long p) q = (source, inside source (filling t) (filling_fills t source) (sym p ∙ q))
-    go a (refuses r d p) q = absurd (let z : ◌≡◌ {A = Conversion} (Rejected r) Converted = ap (λ (a : Conversion × Table). a.0) (sym p ∙ q) in
+    go a (refuses r d p) q = absurd (let z : ◌≡◌ {A = Conversion} (Err (Rejected r)) (Ok tt) = ap (λ (a : Conversion × Table). a.0) (sym p ∙ q) in
         let y : ◌≡◌ {A = ℕ} 0 1 = cc in omega arith)
 
 pub convert_keeps_the_map : ConvertKeepsTheMap
@@ -423,17 +423,17 @@ there_and_back t s u r v going returning =
 
 -- ---- what the second table held before
 
-answer_by_length : (t s : Table) → (convert_result t s).0 ≡ checked Rejected (convert_tests t (length s)) (filled_to (header_of t) (filling t)).0
+answer_by_length : (t s : Table) → (convert_result t s).0 ≡ checked (λ (r : Refusal). Err (Rejected r)) (convert_tests t (length s)) (filled_to (header_of t) (filling t)).0
 unfolding convert_result
 answer_by_length t s =
-    checked_as (λ (a : Conversion × Table). a.0) (λ (r : Refusal). (Rejected r, s)) (convert_tests t (length s)) (filled_to (header_of t) (filling t))
+    checked_as (λ (a : Conversion × Table). a.0) (λ (r : Refusal). (Err (Rejected r), s)) (convert_tests t (length s)) (filled_to (header_of t) (filling t))
 
 pub old_words_play_no_part : OldWordsPlayNoPart
 old_words_play_no_part t s r long = (
-  answer_by_length t s ∙ ap (λ (n : ℕ). checked Rejected (convert_tests t n) (filled_to (header_of t) (filling t)).0) long ∙ sym (answer_by_length t r),
+  answer_by_length t s ∙ ap (λ (n : ℕ). checked (λ (r : Refusal). Err (Rejected r)) (convert_tests t n) (filled_to (header_of t) (filling t)).0) long ∙ sym (answer_by_length t r),
   λ z. go (tested t s) z,
 )
   where
-    go : Tested t s (convert_result t s) → ((e : Refusal) → (convert_result t s).0 ≡ Rejected e → ⊥) → (convert_result t s).1 ≡ (convert_result t r).1
+    go : Tested t s (convert_result t s) → ((e : Refusal) → (convert_result t s).0 ≡ Err (Rejected e) → ⊥) → (convert_result t s).1 ≡ (convert_result t r).1
     go (passes source l p) z = ap (λ (a : Conversion × Table). a.1) (p ∙ sym (all_pass t r source (sym long ∙ l)))
     go (refuses e d p) z = absurd (z e (ap (λ (a : Conversion × Table). a.0) p))

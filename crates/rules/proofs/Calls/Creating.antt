@@ -20,8 +20,8 @@ use Rattle.rules.specs.Soundness.{SoundTable, TakenSlot, HasMap}
 use Rattle.rules.specs.Demands.{GoodCreation, CreatedWords, CreateAnswers, CreatedIsEmpty}
 use Rattle.rules.specs.declared.Slot.{Slot}
 use Rattle.rules.specs.declared.Refusal.TheVariants.{BadCreation}
-use Rattle.rules.specs.declared.Verdict.{Verdict}
-use Rattle.rules.specs.declared.Verdict.TheVariants.{Done, Denied}
+use Rattle.rules.specs.Answers.{Verdict}
+use Rattle.std.specs.Prelude.{Ok, Err}
 use Rattle.rules.proofs.Basics.Lists.{never, not_some}
 use Rattle.rules.proofs.Words.Forms.{good-form, form_passes}
 use Rattle.rules.proofs.Words.Tokens.{zero_meant, zero_free}
@@ -92,7 +92,7 @@ unfolding create_result
 create_answers t form c k mul1 mul2 = go (all (create_tests (length t) form c k mul1 mul2)) (good_creation (length t) form c k mul1 mul2)
   where
     go : (b : Bool) → Tells b (GoodCreation (length t) form c k mul1 mul2)
-        → CreatedBy t form c k mul1 mul2 (cond b (Done, created form c k mul1 mul2) (Denied BadCreation, t))
+        → CreatedBy t form c k mul1 mul2 (cond b (Ok tt, created form c k mul1 mul2) (Err BadCreation, t))
     go true tells = let g = tells.0 refl in inl (g, refl, created-words (length t) form c k mul1 mul2 g)
     go false tells = inr (λ g. never (tells.1 g) refl, refl, refl)
 
@@ -167,11 +167,11 @@ created_is_empty t u form c k mul1 mul2 e = go (all (create_tests (length t) for
         )
 
     go : (b : Bool) → Tells b (GoodCreation (length t) form c k mul1 mul2)
-        → cond {A = Verdict × Table} b (Done, created form c k mul1 mul2) (Denied BadCreation, t) ≡ (Done, u)
+        → cond {A = Verdict × Table} b (Ok tt, created form c k mul1 mul2) (Err BadCreation, t) ≡ (Ok tt, u)
         → Begun
     go true tells e =
         let g = tells.0 refl in
         let f : CreatedWords (length t) form c k mul1 mul2 u = rw (ap (λ (r : Verdict × Table). r.1) e) at (created-words (length t) form c k mul1 mul2 g) in
         empty (length t) (sym f.long) g f
-    go false tells e = absurd (let z : ◌≡◌ {A = Verdict} (Denied BadCreation) Done = ap (λ (r : Verdict × Table). r.0) e in let y : ◌≡◌ {A = ℕ} 0 1 =
+    go false tells e = absurd (let z : ◌≡◌ {A = Verdict} (Err BadCreation) (Ok tt) = ap (λ (r : Verdict × Table). r.0) e in let y : ◌≡◌ {A = ℕ} 0 1 =
         cc in omega arith)

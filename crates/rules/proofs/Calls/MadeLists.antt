@@ -17,9 +17,8 @@ use Rattle.rules.specs.Calls.{Outcome, refused, listed, Call, outcome}
 use Rattle.rules.specs.Results.{change_of, list_after, change_result, make_result}
 use Rattle.rules.specs.Histories.{whole, cut, reported, kept, after, Accepted}
 use Rattle.rules.specs.Demands.{Outside, MakeTakesTheList}
-use Rattle.rules.specs.declared.Change.TheVariants.{Listed}
-use Rattle.rules.specs.declared.Verdict.{Verdict}
-use Rattle.rules.specs.declared.Verdict.TheVariants.{Done}
+use Rattle.std.specs.Prelude.{Ok}
+use Rattle.rules.specs.Answers.{Verdict}
 use Rattle.rules.proofs.Calls.StoreNumbers.{stores_fit}
 use Rattle.rules.proofs.Words.Pairs.{in_pairs}
 use Rattle.rules.proofs.Calls.LentLists.{written-pairs, written_length}
@@ -33,7 +32,7 @@ take_in (suc n) (y ∷ ys) x i = ⊎_elim (λ (e : x ≡ y). here e) (λ (j : In
 
 module _ (t : Table) (l : List ℕ) (q : Call) (xs : List Store) (e : outcome t (length l) q ≡ listed xs) where
   -- the first n stores of the list, made
-  made-from-list : (n : ℕ) → n ≤ length xs → make_result t (written xs l) n ≡ (Done, made t (take n xs))
+  made-from-list : (n : ℕ) → n ≤ length xs → make_result t (written xs l) n ≡ (Ok tt, made t (take n xs))
   made-from-list n few = make_passes t (written xs l) n inside ∙ rw (written-pairs xs l n few)
     where
       room : 2 * n ≤ length (written xs l)
@@ -48,8 +47,8 @@ pub make_takes_the_list : MakeTakesTheList
 unfolding change_result
 make_takes_the_list t l q s a n few = go (outcome t (length l) q) refl a
   where
-    go : (o : Outcome) → outcome t (length l) q ≡ o → change_of o ≡ Listed s
-        → (xs : List Store) × (o ≡ listed xs) × (length xs ≡ s) × (make_result t (list_after o l) n ≡ (Done, made t (take n xs)))
+    go : (o : Outcome) → outcome t (length l) q ≡ o → change_of o ≡ Ok s
+        → (xs : List Store) × (o ≡ listed xs) × (length xs ≡ s) × (make_result t (list_after o l) n ≡ (Ok tt, made t (take n xs)))
     go (refused r) e b = absurd (let z : ◌≡◌ {A = ℕ} 0 1 = cc in omega arith)
     go (listed xs) e b = let number : length xs ≡ s = cc in (xs, refl, number, made-from-list t l q xs e n (rw number few))
 

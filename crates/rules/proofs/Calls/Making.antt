@@ -17,8 +17,8 @@ use Rattle.rules.specs.Answers.{verdict_means}
 use Rattle.rules.specs.Results.{make_tests, make_result}
 use Rattle.rules.specs.Demands.{Outside, MakeAnswers, MakesFirst}
 use Rattle.rules.specs.declared.Refusal.TheVariants.{BadMaking}
-use Rattle.rules.specs.declared.Verdict.{Verdict}
-use Rattle.rules.specs.declared.Verdict.TheVariants.{Done, Denied}
+use Rattle.rules.specs.Answers.{Verdict}
+use Rattle.std.specs.Prelude.{Ok, Err}
 use Rattle.rules.proofs.Basics.Lists.{never}
 use Rattle.rules.proofs.Words.Pairs.{pairs-number, pairs-stand, in_pairs, pairs_in}
 use Rattle.rules.proofs.Basics.Tests.{tells_le, tells_lt, tells_all, all_yes, all_fails}
@@ -49,12 +49,12 @@ module _ (t : Table) (l : List ℕ) (n : ℕ) where
       go true true p q e = never refl e
 
   -- where nothing is outside, the first n pairs are made
-  pub make_passes : (Outside t l n → ⊥) → make_result t l n ≡ (Done, made t (pairs n l))
+  pub make_passes : (Outside t l n → ⊥) → make_result t l n ≡ (Ok tt, made t (pairs n l))
   unfolding make_result
   make_passes inside = go (all (make_tests t l n)) refl
     where
       go : (b : Bool) → all (make_tests t l n) ≡ b
-          → ◌≡◌ {A = Verdict × Table} (cond b (Done, made t (pairs n l)) (Denied BadMaking, t)) (Done, made t (pairs n l))
+          → ◌≡◌ {A = Verdict × Table} (cond b (Ok tt, made t (pairs n l)) (Err BadMaking, t)) (Ok tt, made t (pairs n l))
       go true e = refl
       go false e = absurd (inside (outside e))
 
@@ -68,7 +68,7 @@ pub make_answers : MakeAnswers
 unfolding make_result make_tests
 make_answers t l n = go (all (make_tests t l n)) refl
   where
-    go : (b : Bool) → all (make_tests t l n) ≡ b → MadeBy t l n (cond b (Done, made t (pairs n l)) (Denied BadMaking, t))
+    go : (b : Bool) → all (make_tests t l n) ≡ b → MadeBy t l n (cond b (Ok tt, made t (pairs n l)) (Err BadMaking, t))
     go true e =
         let room = (tells_le (2 * n) (length l)).0 (all_yes (make_tests t l n) e 0) in
         inr (not_outside t l n e, refl, record { stores = pairs n l; number = pairs-number n l room; list = pairs-stand n l; result = refl })

@@ -13,7 +13,7 @@ use Rattle.rules.specs.Stores.{Store, clear_stores, redo_stores}
 use Rattle.rules.specs.Calls.{placed_by, recover_of}
 use Rattle.rules.specs.Results.{change_of, query_at}
 use Rattle.rules.specs.Answers.{number_of, Meaning, change_means, query_means, chain_means, verdict_means, lookup_means, placing_means, finding_means}
-use Rattle.rules.specs.Answers.{LookupTells}
+use Rattle.rules.specs.Answers.{LookupTells, breaks, knows, misses}
 use Rattle.rules.specs.Answers.{PlacingTells, FindingTells, stepped_means, stepped_from_means}
 use Rattle.rules.specs.declared.Header.{Header}
 use Rattle.rules.specs.declared.Slot.{Slot}
@@ -29,16 +29,13 @@ use Rattle.rules.specs.declared.Refusal.{Refusal}
 use Rattle.rules.specs.declared.Refusal.TheVariants.{BadHeader, ShortList, FlagSet, KeyPresent, KeyAbsent, NoPlace, AlreadyResizing, NotResizing}
 use Rattle.rules.specs.declared.Refusal.TheVariants.{AtCapacity, InterimTaken, InterimEmpty, NoKind, BadCreation, BadMaking}
 use Rattle.rules.specs.declared.Refusal.TheVariants.{ShortRecords, BadPosition, TooSmall}
-use Rattle.rules.specs.declared.Change.{Change}
-use Rattle.rules.specs.declared.Change.TheVariants.{Listed, Refused}
+use Rattle.rules.specs.Answers.{Change}
+use Rattle.std.specs.Prelude.{Ok, Err}
 use Rattle.rules.specs.declared.Stepped.{Stepped}
 use Rattle.rules.specs.declared.SteppedFrom.{SteppedFrom}
-use Rattle.rules.specs.declared.Query.{Query}
-use Rattle.rules.specs.declared.Query.TheVariants.{Known, Unknown}
-use Rattle.rules.specs.declared.Chain.{Chain}
-use Rattle.rules.specs.declared.Chain.TheVariants.{Whole, Broken}
-use Rattle.rules.specs.declared.Verdict.{Verdict}
-use Rattle.rules.specs.declared.Verdict.TheVariants.{Done, Denied}
+use Rattle.rules.specs.Answers.{Query}
+use Rattle.rules.specs.Answers.{Chain}
+use Rattle.rules.specs.Answers.{Verdict}
 use Rattle.rules.proofs.Basics.Lists.{never}
 
 -- what can be read back is one
@@ -117,12 +114,12 @@ by_number : {A : Type 0} → Meaning → A → (Refusal → A) → A
 by_number m a refuse = cond (eqb m.number 0) a (refuse (read_refusal m.number))
 
 read_change : Meaning → Change
-read_change m = by_number m (Listed (value m 0)) Refused
+read_change m = by_number m (Ok (value m 0)) Err
 
 change-back : (a : Change) → read_change (change_means a) ≡ a
 unfolding read_change by_number value
-change-back (Listed n) = refl
-change-back (Refused r) = rw (refusal-number r, refusal-back r)
+change-back (Ok n) = refl
+change-back (Err r) = rw (refusal-number r, refusal-back r)
 
 pub change-one : (a b : Change) → change_means a ≡ change_means b → a ≡ b
 change-one a b e = told change_means read_change change-back a b e
@@ -131,34 +128,34 @@ read_query : Meaning → Query
 read_query m =
     let r : Record = record { function = value m 0; place = value m 1 } in
     let x : Spot = record { word = value m 3; level = value m 4 } in
-    by_number m (Known r x (value m 2)) (λ (e : Refusal). Unknown e (value m 2))
+    by_number m (knows r x (value m 2)) (λ (e : Refusal). misses e (value m 2))
 
 query-back : (a : Query) → read_query (query_means a) ≡ a
 unfolding read_query by_number value
-query-back (Known r x n) = refl
-query-back (Unknown r n) = rw (refusal-number r, refusal-back r)
+query-back (Ok x) = refl
+query-back (Err x) = rw (refusal-number x.refusal, refusal-back x.refusal)
 
 pub query-one : (a b : Query) → query_means a ≡ query_means b → a ≡ b
 query-one a b e = told query_means read_query query-back a b e
 
 read_chain : Meaning → Chain
-read_chain m = by_number m (Whole (value m 0)) (λ (r : Refusal). Broken r (value m 0))
+read_chain m = by_number m (Ok (value m 0)) (λ (r : Refusal). breaks r (value m 0))
 
 chain_back : (a : Chain) → read_chain (chain_means a) ≡ a
 unfolding read_chain by_number value
-chain_back (Whole n) = refl
-chain_back (Broken r n) = rw (refusal-number r, refusal-back r)
+chain_back (Ok n) = refl
+chain_back (Err x) = rw (refusal-number x.refusal, refusal-back x.refusal)
 
 pub chain_one : (a b : Chain) → chain_means a ≡ chain_means b → a ≡ b
 chain_one a b e = told chain_means read_chain chain_back a b e
 
 read_verdict : Meaning → Verdict
-read_verdict m = by_number m Done Denied
+read_verdict m = by_number m (Ok tt) Err
 
 verdict_back : (a : Verdict) → read_verdict (verdict_means a) ≡ a
 unfolding read_verdict by_number
-verdict_back Done = refl
-verdict_back (Denied r) = rw (refusal-number r, refusal-back r)
+verdict_back (Ok tt) = refl
+verdict_back (Err r) = rw (refusal-number r, refusal-back r)
 
 pub verdict_one : (a b : Verdict) → verdict_means a ≡ verdict_means b → a ≡ b
 verdict_one a b e = told verdict_means read_verdict verdict_back a b e
@@ -209,8 +206,8 @@ read_stepped m = record { change = read_change m; placing = read_placing (drop 1
 
 stepped_of : (c : Change) (p : Placing) → read_stepped (stepped_means (record { change = c; placing = p })) ≡ record { change = c; placing = p }
 unfolding read_stepped stepped_means read_change by_number value
-stepped_of (Listed n) p = rw (placing-back p)
-stepped_of (Refused r) p = rw (refusal-number r, refusal-back r, placing-back p)
+stepped_of (Ok n) p = rw (placing-back p)
+stepped_of (Err r) p = rw (refusal-number r, refusal-back r, placing-back p)
 
 stepped-back : (a : Stepped) → read_stepped (stepped_means a) ≡ a
 stepped-back a = stepped_of a.change a.placing
@@ -224,8 +221,8 @@ read_stepped_from m = record { stepped = record { change = read_change m; placin
 stepped-from_of : (c : Change) (p : Placing) (n : ℕ) → let a : SteppedFrom = record { stepped = record { change = c; placing = p }; bucket = n } in
     read_stepped_from (stepped_from_means a) ≡ a
 unfolding read_stepped_from stepped_from_means read_change by_number value
-stepped-from_of (Listed s) p n = rw (placing-back p)
-stepped-from_of (Refused r) p n = rw (refusal-number r, refusal-back r, placing-back p)
+stepped-from_of (Ok s) p n = rw (placing-back p)
+stepped-from_of (Err r) p n = rw (refusal-number r, refusal-back r, placing-back p)
 
 pub stepped-from-one : (a b : SteppedFrom) → stepped_from_means a ≡ stepped_from_means b → a ≡ b
 stepped-from-one a b e = told stepped_from_means read_stepped_from (λ x. stepped-from_of x.stepped.change x.stepped.placing x.bucket) a b e

@@ -14,7 +14,7 @@ use borrow.Author.Tests.{eq-eqb, ne_eqb}
 use Rattle.rules.specs.Words.{Table, word, header_of, flag_of, key_word, token_word, function_word, place_word, spot_of, key_in, record_in}
 use Rattle.rules.specs.Places.{lookup}
 use Rattle.rules.specs.Soundness.{TakenSlot}
-use Rattle.rules.specs.Answers.{number_of, Meaning, query_means, asked_means}
+use Rattle.rules.specs.Answers.{number_of, Meaning, query_means, asked_means, knows, lacks, misses, hits, name_of}
 use Rattle.rules.specs.Calls.{header_good, flag_clear, query_tests}
 use Rattle.rules.specs.Results.{query_at, query_result}
 use Rattle.rules.specs.Overlays.{newer, older, named, in_either, asked_result, part_of, part_result, words_of}
@@ -28,10 +28,8 @@ use Rattle.rules.specs.declared.Lookup.{Lookup}
 use Rattle.rules.specs.declared.Lookup.TheVariants.{Stands, Absent}
 use Rattle.rules.specs.declared.Refusal.{Refusal}
 use Rattle.rules.specs.declared.Refusal.TheVariants.{KeyAbsent}
-use Rattle.rules.specs.declared.Query.{Query}
-use Rattle.rules.specs.declared.Query.TheVariants.{Known, Unknown}
-use Rattle.rules.specs.declared.Asked.{Asked}
-use Rattle.rules.specs.declared.Asked.TheVariants.{Hit, Miss}
+use Rattle.rules.specs.Answers.{Query}
+use Rattle.rules.specs.Answers.{Asked}
 use Rattle.rules.proofs.Words.Headers.{header_passes}
 use Rattle.rules.proofs.Words.HeaderWords.{header-words}
 use Rattle.rules.proofs.Places.PlacesInUse.{slot-within}
@@ -39,13 +37,16 @@ use Rattle.rules.proofs.Places.Lookups.{lookup-stands, holder_taken, lookup-know
 use Rattle.rules.proofs.Calls.Meanings.{number_not_zero}
 use Rattle.rules.proofs.Calls.Refusals.{held, not_held}
 use Rattle.rules.proofs.Calls.Queries.{Passes, Fails, through_tests, query_by_lookup, probes_are_few}
+use Rattle.rules.specs.declared.Side.{Side}
+use Rattle.rules.specs.declared.Side.TheVariants.{Newer, Older}
+use Rattle.std.specs.Prelude.{Ok, Err}
 
 -- ---- one table
 
 -- a query of a table that fails its tests
-query_fails : (s : Table) (key : ℕ) (r : Refusal) → Fails s r → query_result s key ≡ Unknown r 0
+query_fails : (s : Table) (key : ℕ) (r : Refusal) → Fails s r → query_result s key ≡ misses r 0
 unfolding query_result
-query_fails s key r f = through_tests s (λ (q : Query). q ≡ Unknown r 0) (λ (x : Refusal). Unknown x 0) _ same (λ p. absurd (neither f p))
+query_fails s key r f = through_tests s (λ (q : Query). q ≡ misses r 0) (λ (x : Refusal). misses x 0) _ same (λ p. absurd (neither f p))
   where
     neither : Fails s r → Passes s → ⊥
     neither (inl x) p = x.0 p.header
@@ -57,10 +58,10 @@ query_fails s key r f = through_tests s (λ (q : Query). q ≡ Unknown r 0) (λ 
     one x (inr a) (inl b) = absurd (b.0 a.0)
     one x (inr a) (inr b) = a.2 ∙ sym b.2
 
-    same : (x : Refusal) → Fails s x → Unknown x 0 ≡ Unknown r 0
-    same x g = ap (λ (y : Refusal). Unknown y 0) (one x g f)
+    same : (x : Refusal) → Fails s x → misses x 0 ≡ misses r 0
+    same x g = ap (λ (y : Refusal). misses y 0) (one x g f)
 
-unfit : (s : Table) (key : ℕ) (r : Refusal) → Fails s r → Unfit (query_means (Unknown r 0))
+unfit : (s : Table) (key : ℕ) (r : Refusal) → Fails s r → Unfit (query_means (misses r 0))
 unfit s key r (inl x) = rw x.1 (inl refl)
 unfit s key r (inr x) = rw x.2 (inr refl)
 
@@ -80,8 +81,8 @@ module _ (t u : Table) (key : ℕ) where
   behind = lookup u (header_of u) key
 
   -- either table fails its tests, or both pass and the lookups decide
-  pub asked-ways : (P : Asked → Type 0) → ((r : Refusal) → Fails t r → P (Miss newer r 0))
-      → (Passes t → (r : Refusal) → Fails u r → P (Miss older r 0))
+  pub asked-ways : (P : Asked → Type 0) → ((r : Refusal) → Fails t r → P (lacks Newer r 0))
+      → (Passes t → (r : Refusal) → Fails u r → P (lacks Older r 0))
       → (Passes t → Passes u → P (in_either in_newer behind)) → P (asked_result t u key)
   unfolding asked_result
   asked-ways P a b c = through_tests t P _ _ a (λ p. through_tests u P _ _ (b p) (c p))
@@ -100,12 +101,12 @@ module _ (t u : Table) (key : ℕ) where
   unfolding flag_of
   clear s p n = n p.flag
 
-  newer_fails : (r : Refusal) → Fails t r → Named (Miss newer r 0)
+  newer_fails : (r : Refusal) → Fails t r → Named (lacks Newer r 0)
   unfolding flag_of
   newer_fails r (inl x) = inl ((λ w. x.0 ((header-words t).1 w)), ap number_of x.1, refl)
   newer_fails r (inr x) = inr ((λ n. n ((header-words t).0 x.0)), inl (x.1, ap number_of x.2, refl))
 
-  older_fails : Passes t → (r : Refusal) → Fails u r → Named (Miss older r 0)
+  older_fails : Passes t → (r : Refusal) → Fails u r → Named (lacks Older r 0)
   unfolding flag_of
   older_fails p r (inl x) = inr (good t p, inr (clear t p, inl ((λ w. x.0 ((header-words u).1 w)), ap number_of x.1, refl)))
   older_fails p r (inr x) =
@@ -133,10 +134,10 @@ asked_answers t u key = asked-ways t u key By newer_fails older_fails both_pass
     By : Asked → Type 0
     By m = AskedBy (told t key) (told u key) (asked_means m)
 
-    newer_fails : (r : Refusal) → Fails t r → By (Miss newer r 0)
+    newer_fails : (r : Refusal) → Fails t r → By (lacks Newer r 0)
     newer_fails r f = rw (query_fails t key r f) (inl (unfit t key r f, refl))
 
-    older_fails : Passes t → (r : Refusal) → Fails u r → By (Miss older r 0)
+    older_fails : Passes t → (r : Refusal) → Fails u r → By (lacks Older r 0)
     older_fails p r f =
         rw (query_by_lookup t key p.header p.flag, query_fails u key r f)
         (inr (inl (found_or_absent t (lookup t (header_of t) key), unfit u key r f, refl)))
@@ -157,8 +158,8 @@ few : (s : Table) (key : ℕ) → buckets (told s key) ≤ bound s
 few s key = go (ℕ_discrete (header_of s).state.phase 0)
   where
     same : (q : Query) → buckets (query_means q) ≡ count_of q
-    same (Known r x n) = refl
-    same (Unknown r n) = refl
+    same (Ok x) = refl
+    same (Err x) = refl
 
     go : Dec (AtRest s) → buckets (told s key) ≤ bound s
     go (yes rest) = let p = probes_are_few s key in rw (eq-eqb _ _ rest, same (query_result s key)) (omega (arith, p.0, p.1 rest))
@@ -197,7 +198,7 @@ at_slot : (name : ℕ) (s : Table) (key : ℕ) (x : Slot) (n : ℕ) → Passes s
     → ThreeWords s key (record { name = name; start = key_word x; size = 3 }) (take 3 (drop (key_word x) s))
 unfolding spot_of key_word token_word key_in record_in function_word place_word
 at_slot name s key x n p e =
-    let q : query_result s key ≡ Known (record_in s x) (spot_of x) n = query_by_lookup s key p.header p.flag ∙ ap (query_at s) e in
+    let q : query_result s key ≡ knows (record_in s x) (spot_of x) n = query_by_lookup s key p.header p.flag ∙ ap (query_at s) e in
     let there = holder_taken s key x (lookup-stands s key x n e).0 in
     let fits = slot-fits s p x there.0 in
     record {
@@ -213,18 +214,18 @@ at_slot name s key x n p e =
 
 pub parts_agree : PartsAgree
 unfolding part_result words_of
-parts_agree t u key = asked-ways t u key Agrees (λ r f. missed newer r 0) (λ p r f. missed older r 0) both_pass
+parts_agree t u key = asked-ways t u key Agrees (λ r f. missed Newer r 0) (λ p r f. missed Older r 0) both_pass
   where
     Agrees : Asked → Type 0
     Agrees m = PartBy t u key (asked_means m).number (get_or (asked_means m).values 0 0) (part_of m) (words_of (part_of m) t u)
 
-    missed : (name : ℕ) (r : Refusal) (n : ℕ) → Agrees (Miss name r n)
-    missed name r n = (refl, inr (number_not_zero r, refl, refl, refl))
+    missed : (side : Side) (r : Refusal) (n : ℕ) → Agrees (lacks side r n)
+    missed side r n = (refl, inr (number_not_zero r, refl, refl, refl))
 
     go : Passes t → Passes u → (f g : Lookup) → lookup t (header_of t) key ≡ f → lookup u (header_of u) key ≡ g → Agrees (in_either f g)
     go p q (Stands x n) g e d = (refl, inl (refl, inl (refl, at_slot newer t key x n p e)))
     go p q (Absent n) (Stands y m) e d = (refl, inl (refl, inr (refl, at_slot older u key y m q d)))
-    go p q (Absent n) (Absent m) e d = missed older KeyAbsent (n + m)
+    go p q (Absent n) (Absent m) e d = missed Older KeyAbsent (n + m)
 
     both_pass : Passes t → Passes u → Agrees (in_either (lookup t (header_of t) key) (lookup u (header_of u) key))
     both_pass p q = go p q (lookup t (header_of t) key) (lookup u (header_of u) key) refl refl
@@ -238,11 +239,11 @@ module _ (t u : Table) (key : ℕ) (p : Passes t) (q : Passes u) where
       rw (header_passes (length t) (header_of t) p.header, eq-eqb _ _ p.flag, header_passes (length u) (header_of u) q.header, eq-eqb _ _ q.flag)
 
   -- the table s of that name has the key in the slot x, with the record r
-  hit_sees : (name : ℕ) (s : Table) (x : Slot) (n : ℕ) (r : Record) → asked_result t u key ≡ Hit name (key_word x) n → named name t u ≡ s → Passes s
+  hit_sees : (side : Side) (s : Table) (x : Slot) (n : ℕ) (r : Record) → asked_result t u key ≡ hits side (key_word x) n → named (name_of side) t u ≡ s → Passes s
       → key_in s x ≡ key → record_in s x ≡ r → key_word x + 3 ≤ length s
-      → (name_told t u key ≡ name) × Sees t u key 0 (key ∷ r.function ∷ r.place ∷ [])
+      → (name_told t u key ≡ name_of side) × Sees t u key 0 (key ∷ r.function ∷ r.place ∷ [])
   unfolding part_result words_of key_in record_in function_word place_word spot_of key_word token_word
-  hit_sees name s x n r e same pass k v fits = (
+  hit_sees side s x n r e same pass k v fits = (
     ap (λ (m : Asked). get_or (asked_means m).values 0 0) e,
     record {
       answer = ap (λ (m : Asked). (asked_means m).number) e;
@@ -266,17 +267,17 @@ overlay_answers t u m n sound map below mapBelow key = go (m key) (n key) refl r
     go : (a b : Option Record) → m key ≡ a → n key ≡ b → OverlayBy t u key a b
     go (some r) b e d =
         let f = lookup-known t m sound map key r e in
-        hit_sees t u key p q newer t f.slot f.count r (answer ∙ ap (λ (o : Lookup). in_either o (lookup u (header_of u) key)) f.answer) refl p
+        hit_sees t u key p q Newer t f.slot f.count r (answer ∙ ap (λ (o : Lookup). in_either o (lookup u (header_of u) key)) f.answer) refl p
         f.holding f.value (slot-fits t p f.slot f.item)
     go none (some r) e d =
         let g = lookup_unknown t m sound map key e in
         let f = lookup-known u n below mapBelow key r d in
-        hit_sees t u key p q older u f.slot (g.0 + f.count) r
+        hit_sees t u key p q Older u f.slot (g.0 + f.count) r
         (answer ∙ rw (g.1, f.answer) refl) refl q f.holding f.value (slot-fits u q f.slot f.item)
     go none none e d =
         let g = lookup_unknown t m sound map key e in
         let f = lookup_unknown u n below mapBelow key d in
-        let a : asked_result t u key ≡ Miss older KeyAbsent (g.0 + f.0) = answer ∙ rw (g.1, f.1) refl in (
+        let a : asked_result t u key ≡ lacks Older KeyAbsent (g.0 + f.0) = answer ∙ rw (g.1, f.1) refl in (
           ap (λ (x : Asked). get_or (asked_means x).values 0 0) a,
           record { answer = ap (λ (x : Asked). (asked_means x).number) a; part = rw a refl },
         )

@@ -14,7 +14,7 @@ use lib.ListN.{length, length-append}
 use borrow.Author.Tests.{eqb-true, eq-eqb}
 use Rattle.rules.specs.Words.{Table, header_of, GoodHeader, flag_of, at_rest, spot_of}
 use Rattle.rules.specs.Places.{hashes_of, places_of, lookup}
-use Rattle.rules.specs.Answers.{query_means}
+use Rattle.rules.specs.Answers.{query_means, misses}
 use Rattle.rules.specs.Calls.{header_good, flag_clear, checked, query_tests, refused, query_in, outcome}
 use Rattle.rules.specs.Results.{query_at, query_result}
 use Rattle.rules.specs.Demands.{CountBy, QueryCounts, QueryAs, QueryIsACall, QueryBy, QueryAnswers, count_of, ProbesAreFew, ProbesAreDistinct}
@@ -23,8 +23,7 @@ use Rattle.rules.specs.declared.Lookup.{Lookup}
 use Rattle.rules.specs.declared.Lookup.TheVariants.{Stands, Absent}
 use Rattle.rules.specs.declared.Refusal.{Refusal}
 use Rattle.rules.specs.declared.Refusal.TheVariants.{BadHeader, FlagSet}
-use Rattle.rules.specs.declared.Query.{Query}
-use Rattle.rules.specs.declared.Query.TheVariants.{Unknown}
+use Rattle.rules.specs.Answers.{Query}
 use Rattle.rules.proofs.Basics.Lists.{never, ascending-after}
 use Rattle.rules.proofs.Words.Headers.{good-header, header_passes}
 use Rattle.rules.proofs.Places.Few.{four_at_rest, six_at_most}
@@ -83,14 +82,14 @@ query_answers t m sound map key = go (m key) refl
 
 -- the tests refuse alike, and where they pass both go by the lookup
 query_as : (t : Table) (o : Lookup) (ts : List (Bool × Refusal))
-    → QueryAs (checked refused ts (query_in o)) (query_means (checked (λ (r : Refusal). Unknown r 0) ts (query_at t o)))
+    → QueryAs (checked refused ts (query_in o)) (query_means (checked (λ (r : Refusal). misses r 0) ts (query_at t o)))
 query_as t (Stands x n) [] = refl
 query_as t (Absent n) [] = (n, refl, inl refl)
 query_as t o (x ∷ ts) = go x.0 (query_as t o ts)
   where
-    go : (b : Bool) → QueryAs (checked refused ts (query_in o)) (query_means (checked (λ (r : Refusal). Unknown r 0) ts (query_at t o)))
+    go : (b : Bool) → QueryAs (checked refused ts (query_in o)) (query_means (checked (λ (r : Refusal). misses r 0) ts (query_at t o)))
         → QueryAs (cond b (checked refused ts (query_in o)) (refused x.1))
-        (query_means (cond b (checked (λ (r : Refusal). Unknown r 0) ts (query_at t o)) (Unknown x.1 0)))
+        (query_means (cond b (checked (λ (r : Refusal). misses r 0) ts (query_at t o)) (misses x.1 0)))
     go true k = k
     go false k = (0, refl, inr refl)
 
@@ -112,12 +111,12 @@ counts-within t key (Stands x n) e =
     omega (arith, s.1, whole)
 counts-within t key (Absent n) e = omega (arith, (lookup_absent t (header_of t) key n e).0)
 
-checked-count : (q : Query) (m : ℕ) (ts : List (Bool × Refusal)) → count_of q ≤ m → count_of (checked (λ (r : Refusal). Unknown r 0) ts q) ≤ m
+checked-count : (q : Query) (m : ℕ) (ts : List (Bool × Refusal)) → count_of q ≤ m → count_of (checked (λ (r : Refusal). misses r 0) ts q) ≤ m
 checked-count q m [] h = h
 checked-count q m (x ∷ ts) h = go x.0 (checked-count q m ts h)
   where
-    go : (b : Bool) → count_of (checked (λ (r : Refusal). Unknown r 0) ts q) ≤ m
-        → count_of (cond b (checked (λ (r : Refusal). Unknown r 0) ts q) (Unknown x.1 0)) ≤ m
+    go : (b : Bool) → count_of (checked (λ (r : Refusal). misses r 0) ts q) ≤ m
+        → count_of (cond b (checked (λ (r : Refusal). misses r 0) ts q) (misses x.1 0)) ≤ m
     go true k = k
     go false k = omega arith
 

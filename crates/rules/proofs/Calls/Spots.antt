@@ -14,7 +14,7 @@ use Rattle.rules.specs.Places.{fits, holds, lookup}
 use Rattle.rules.specs.Stores.{clear_stores, update_stores}
 use Rattle.rules.specs.Placing.{free_slot}
 use Rattle.rules.specs.Soundness.{TakenSlot}
-use Rattle.rules.specs.Answers.{query_means, lookup_means, chain_means}
+use Rattle.rules.specs.Answers.{query_means, lookup_means, chain_means, knows, misses}
 use Rattle.rules.specs.Calls.{insert_in, update_in, delete_in, outcome}
 use Rattle.rules.specs.Results.{query_at, query_result}
 use Rattle.rules.specs.Chains.{chain_result}
@@ -29,8 +29,7 @@ use Rattle.rules.specs.declared.Lookup.{Lookup}
 use Rattle.rules.specs.declared.Lookup.TheVariants.{Stands, Absent}
 use Rattle.rules.specs.declared.Refusal.{Refusal}
 use Rattle.rules.specs.declared.Refusal.TheVariants.{KeyAbsent}
-use Rattle.rules.specs.declared.Query.{Query}
-use Rattle.rules.specs.declared.Query.TheVariants.{Known, Unknown}
+use Rattle.rules.specs.Answers.{Query}
 use Rattle.rules.proofs.Basics.Lists.{never}
 use Rattle.rules.proofs.Basics.Tests.{Tells, tells_eq, tells_and}
 use Rattle.rules.proofs.Words.FreeSlots.{slot-place}
@@ -102,12 +101,12 @@ module _ (t : Table) (key : ℕ) where
           none-stands t key s.place y (s.first (slot_at s.place y) (slot-inside s.place y (omega arith)) l) (rw at at k)
 
   -- a query is refused by a test, with count 0, or the tests pass and it answers by the lookup
-  query-ways : (P : Query → Type 0) → ((r : Refusal) → P (Unknown r 0))
+  query-ways : (P : Query → Type 0) → ((r : Refusal) → P (misses r 0))
       → (GoodHeader (length t) (header_of t) → flag_of t ≡ 0 → (o : Lookup) → lookup t (header_of t) key ≡ o → P (query_at t o))
       → P (query_result t key)
   unfolding query_result
   query-ways P refuse pass =
-      through_tests t P (λ (r : Refusal). Unknown r 0) _ (λ r f. refuse r) (λ p. pass p.header p.flag (lookup t (header_of t) key) refl)
+      through_tests t P (λ (r : Refusal). misses r 0) _ (λ r f. refuse r) (λ p. pass p.header p.flag (lookup t (header_of t) key) refl)
 
   -- where it answers 0, the tests pass and the lookup finds the key
   pub record KeyFound : Type 0 where
@@ -116,7 +115,7 @@ module _ (t : Table) (key : ℕ) where
     pub slot : Slot
     pub count : ℕ
     pub found : lookup t (header_of t) key ≡ Stands slot count
-    pub answer : query_result t key ≡ Known (record_in t slot) (spot_of slot) count
+    pub answer : query_result t key ≡ knows (record_in t slot) (spot_of slot) count
 
   key-found : (told t key).number ≡ 0 → KeyFound
   key-found z = query-ways P (λ r e n. absurd (number_not_zero r n)) by refl z

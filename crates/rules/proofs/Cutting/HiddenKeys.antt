@@ -21,7 +21,7 @@ use Rattle.rules.specs.OverlaySentences.{number_told, name_told, Sees, OverlayBy
 use Rattle.rules.specs.declared.Record.{Record}
 use Rattle.rules.specs.declared.Refusal.{Refusal}
 use Rattle.rules.specs.declared.Refusal.TheVariants.{KeyPresent, KeyAbsent, NoPlace}
-use Rattle.rules.specs.declared.Query.{Query}
+use Rattle.rules.specs.Answers.{Query}
 use Rattle.rules.proofs.Tables.Maps.{map_exists}
 use Rattle.rules.proofs.Carrying.Putting.{SoundMap}
 use Rattle.rules.proofs.Calls.Queries.{query_answers}

@@ -3,8 +3,8 @@
 use Rattle.saying.proofs.LinesPut.{created_done, created_denied}
 use Rattle.saying.proofs.created.Goals as goal
 
-pub returns-in-Done : goal.returns-in-Done
-returns-in-Done c = created_done c.verdict_number.ensures c.in-Done.is c.line-second.ensures.0
+pub returns-in-Ok : goal.returns-in-Ok
+returns-in-Ok c = created_done c.verdict_number.ensures c.in-Ok.is c.line-second.ensures.0
 
-pub returns-in-Denied : goal.returns-in-Denied
-returns-in-Denied c = created_denied c.verdict_number.ensures c.in-Denied.is c.line-second.ensures.0 c.line.ensures.0
+pub returns-in-Err : goal.returns-in-Err
+returns-in-Err c = created_denied c.verdict_number.ensures c.in-Err.is c.line-second.ensures.0 c.line.ensures.0

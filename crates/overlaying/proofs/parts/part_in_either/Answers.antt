@@ -1,17 +1,10 @@
 -- `overlaying::parts::part_in_either` meets its contract.
 -- Assumes nothing.
 use mathlib.Core.Path.{sym, ◌∙◌}
-use Rattle.overlaying.proofs.Memory.{over_by}
 use Rattle.overlaying.proofs.parts.part_in_either.Goals as goal
 
-pub lookup_with-requires : goal.lookup_with-requires
-lookup_with-requires c = (c.requires.0, c.hashes.ensures, sym c.if-has_tags.true ∙ c.has_tags.ensures)
+pub newer_part_with-requires : goal.newer_part_with-requires
+newer_part_with-requires c = (c.requires.0, c.requires.1, sym c.if-has_tags.true ∙ c.has_tags.ensures)
 
-pub returns-then-has_tags : goal.returns-then-has_tags
-returns-then-has_tags c = over_by _ _ _ _ _ _ _ c.lookup_with.ensures.0 c.newer_part.ensures
-
-pub lookup_with-requires-2 : goal.lookup_with-requires-2
-lookup_with-requires-2 c = (c.requires.0, c.hashes-2.ensures, sym c.if-has_tags.false ∙ c.has_tags.ensures)
-
-pub returns : goal.returns
-returns c = over_by _ _ _ _ _ _ _ c.lookup_with-2.ensures.0 c.newer_part-2.ensures
+pub newer_part_with-requires-2 : goal.newer_part_with-requires-2
+newer_part_with-requires-2 c = (c.requires.0, c.requires.1, sym c.if-has_tags.false ∙ c.has_tags.ensures)

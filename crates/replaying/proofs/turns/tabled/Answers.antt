@@ -11,12 +11,12 @@ returns-then-c-gt8 c = too_large_lem c.args.p c.args.next _ _ _ _ _ c.if-c-gt8.t
 pub slice_bounds-create-end-2 : goal.slice_bounds-create-end-2
 slice_bounds-create-end-2 c = least_fits _ _ c.least-lent.ensures
 
-pub returns-in-Done : goal.returns-in-Done
-returns-in-Done c =
+pub returns-in-Ok : goal.returns-in-Ok
+returns-in-Ok c =
     table_taken c.args.p c.args.next _ _ _ _ _ (rw c.words_for-words.ensures at c.least-lent.ensures) c.if-c-gt8.false _ _
-    c.create-verdict.ensures c.in-Done.is (rw c.words_for-words.ensures) refl
+    c.create-verdict.ensures c.in-Ok.is (rw c.words_for-words.ensures) refl
 
-pub returns-in-Denied : goal.returns-in-Denied
-returns-in-Denied c =
+pub returns-in-Err : goal.returns-in-Err
+returns-in-Err c =
     table_denied c.args.p c.args.next _ _ _ _ _ (rw c.words_for-words.ensures at c.least-lent.ensures) c.if-c-gt8.false _ _
-    c.create-verdict.ensures c.in-Denied.is c.unmade-in-Denied.ensures
+    c.create-verdict.ensures c.in-Err.is c.unmade-in-Err.ensures
