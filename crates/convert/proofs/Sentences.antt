@@ -37,8 +37,8 @@ use Rattle.lines.proofs.Texts.{texts_say}
 use Rattle.following.specs.Scripts.{reading_of, ending_of}
 use Rattle.following.specs.declared.Ending.{Ending}
 use Rattle.following.specs.declared.Ending.TheVariants.{Whole, Bad as Torn, Over}
-use Rattle.following.specs.declared.Cut.{Cut}
-use Rattle.following.specs.declared.Cut.TheVariants.{None as no_cut, After as cut_after}
+use Rattle.following.specs.Scripts.{Under}
+use Rattle.std.specs.Prelude.{Some, None as no_cut}
 use Rattle.following.specs.declared.Due.TheVariants.{Number as a_number, Event as an_event}
 use Rattle.following.specs.declared.Script.{Script}
 use Rattle.following.specs.declared.Asked.{Asked}
@@ -128,15 +128,15 @@ module _ (room : List ℕ) (p : Replay) (next : Script) (e : Refusal) where
   made_13 c Done t f k = cc
   made_13 c (Denied d) t f k = f cc
 
-  event_13 : (q : ScriptCall) (under : Cut) (t : Table) → answer_to t q under ≡ Created (Denied e) → e ≡ BadCreation
+  event_13 : (q : ScriptCall) (under : Under) (t : Table) → answer_to t q under ≡ Created (Denied e) → e ≡ BadCreation
   unfolding answer_to
   event_13 q under t k = go (queried q) under k
     where
-      go : (o : Option ℕ) (c : Cut) → either o (λ key. Found (query_result t key)) (change_answer c (change_result t lent (call_of q)).0)
+      go : (o : Option ℕ) (c : Under) → either o (λ key. Found (query_result t key)) (change_answer c (change_result t lent (call_of q)).0)
           ≡ Created (Denied e) → e ≡ BadCreation
       go (some key) c k = cc
       go absent no_cut k = cc
-      go absent (cut_after n at) k = cc
+      go absent (Some cut) k = cc
 
   asked_13 : (a : Asked) → (asked_of room p next a).answer ≡ Created (Denied e) → e ≡ BadCreation
   unfolding create_result
