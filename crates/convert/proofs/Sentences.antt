@@ -36,8 +36,8 @@ use Rattle.lines.proofs.Texts.{texts_say}
 use Rattle.following.specs.Scripts.{reading_of, ending_of}
 use Rattle.following.specs.declared.Ending.{Ending}
 use Rattle.following.specs.declared.Ending.TheVariants.{Whole, Bad as Torn, Over}
-use Rattle.following.specs.declared.Cut.{Cut}
-use Rattle.following.specs.declared.Cut.TheVariants.{None as no_cut, After as cut_after}
+use Rattle.following.specs.Scripts.{Under}
+use Rattle.std.specs.Prelude.{Some, None as no_cut}
 use Rattle.following.specs.declared.Due.TheVariants.{Number as a_number, Event as an_event}
 use Rattle.following.specs.declared.Script.{Script}
 use Rattle.following.specs.declared.Asked.{Asked}
@@ -57,7 +57,6 @@ use Rattle.convert.specs.Outputs.{back_to, ways_from, Report, bad_line, unmade, 
 use Rattle.convert.specs.Outputs.{output_to}
 use Rattle.convert.specs.Sentences.{Read, nothing, line, Begins, BadLinesEnd, BadEnd, RefusedTablesEnd, WholeScriptsConvert, NothingElseTold}
 use Rattle.convert.specs.Sentences.{header_lines, Numbers, LargerCapsNotMade, CapsToSevenMade, RefusedWaysTold, BothWaysTold, WayToForm2}
-use Rattle.rules.specs.declared.Unconverted.TheVariants.{Rejected, Stuck}
 
 -- ---- lines that do not end a script
 
@@ -128,15 +127,15 @@ module _ (room : List ℕ) (p : Replay) (next : Script) (e : Refusal) where
   made_13 c (Ok tt) t f k = cc
   made_13 c (Err d) t f k = f cc
 
-  event_13 : (q : ScriptCall) (under : Cut) (t : Table) → answer_to t q under ≡ Created (Err e) → e ≡ BadCreation
+  event_13 : (q : ScriptCall) (under : Under) (t : Table) → answer_to t q under ≡ Created (Err e) → e ≡ BadCreation
   unfolding answer_to
   event_13 q under t k = go (queried q) under k
     where
-      go : (o : Option ℕ) (c : Cut) → either o (λ key. Found (query_result t key)) (change_answer c (change_result t lent (call_of q)).0)
+      go : (o : Option ℕ) (c : Under) → either o (λ key. Found (query_result t key)) (change_answer c (change_result t lent (call_of q)).0)
           ≡ Created (Err e) → e ≡ BadCreation
       go (some key) c k = cc
       go absent no_cut k = cc
-      go absent (cut_after n at) k = cc
+      go absent (Some cut) k = cc
 
   asked_13 : (a : Asked) → (asked_of room p next a).answer ≡ Created (Err e) → e ≡ BadCreation
   unfolding create_result

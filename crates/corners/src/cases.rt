@@ -1,7 +1,7 @@
 // One line of the input, carried out on the lent words.
-use crate::lines::{Line, parsed};
+use crate::lines::{Command, parsed};
 use printing::{UNWRITTEN, change, placing, query, say, verdict, words};
-use rules::{Change, Record};
+use rules::{Change, Record, ScriptCall};
 
 // How many words of the room and of the list's room the calls are lent.
 #[derive(Clone, Copy)]
@@ -10,123 +10,102 @@ pub struct Lent {
     pub list: usize,
 }
 
-fn fill(w: &mut [u64]) {
-    for i in 0..w.len() {
-        w[i] = UNWRITTEN;
-    }
-}
-
 // Outside the words nothing is put.
 fn put(w: &mut [u64], index: u64, value: u64) {
-    let at = index as usize;
-    if at < w.len() {
-        w[at] = value;
+    if let Some(word) = w.get_mut(index as usize) {
+        *word = value;
     }
 }
 
-// The calls that list stores, but step, whose answer holds a placing besides.
-fn changed(t: &[u64], list: &mut [u64], letter: u8, key: u64, r: Record) -> Change {
-    match letter {
-        b'i' => changing::insert(t, list, key, r),
-        b'u' => changing::update(t, list, key, r),
-        b'd' => changing::delete(t, list, key),
-        b'b' => growing::begin(t, list),
-        b'h' => growing::shrink(t, list),
-        b't' => growing::back(t, list),
-        b'e' => growing::end(t, list),
-        _ => recovering::recover(t, list),
-    }
+// A call that lists stores.
+fn listed<F: FnOnce(&mut [u64]) -> Change>(list: &mut [u64], call: F)
+    requires { F.IsAlwaysCallable call }
+{
+    list.fill(UNWRITTEN);
+    let answer = call(list);
+    change(list, answer);
 }
 
+// A step's answer holds a placing besides.
 fn step(t: &[u64], list: &mut [u64]) {
+    list.fill(UNWRITTEN);
     let answer = growing::step(t, list);
-    let taken = answer.change;
-    let place = answer.placing;
-    change(list, taken);
-    placing(place);
+    change(list, answer.change);
+    placing(answer.placing);
 }
 
 // "A changing call only reads the table."
-fn listed(t: &[u64], list: &mut [u64], letter: u8, key: u64, r: Record) {
-    fill(list);
-    if letter == b's' {
-        step(t, list);
-        return;
+fn called(t: &[u64], list: &mut [u64], call: ScriptCall) {
+    match call {
+        ScriptCall::Query(key) => query(querying::query(t, key)),
+        ScriptCall::Insert(key, r) => listed(list, |list| changing::insert(t, list, key, r)),
+        ScriptCall::Update(key, r) => listed(list, |list| changing::update(t, list, key, r)),
+        ScriptCall::Delete(key) => listed(list, |list| changing::delete(t, list, key)),
+        ScriptCall::Begin => listed(list, |list| growing::begin(t, list)),
+        ScriptCall::Shrink => listed(list, |list| growing::shrink(t, list)),
+        ScriptCall::Back => listed(list, |list| growing::back(t, list)),
+        ScriptCall::Step => step(t, list),
+        ScriptCall::End => listed(list, |list| growing::end(t, list)),
+        ScriptCall::Recover => listed(list, |list| recovering::recover(t, list)),
     }
-    let answer = changed(t, list, letter, key, r);
-    change(list, answer);
 }
 
 // Query and then each call that lists stores, all on the same table.
 fn every(t: &[u64], list: &mut [u64], key: u64, r: Record) {
-    query(querying::query(t, key));
-    let letters = b"iudbhtser";
-    for i in 0..letters.len() {
-        listed(t, list, letters[i], key, r);
+    let calls = [
+        ScriptCall::Query(key),
+        ScriptCall::Insert(key, r),
+        ScriptCall::Update(key, r),
+        ScriptCall::Delete(key),
+        ScriptCall::Begin,
+        ScriptCall::Shrink,
+        ScriptCall::Back,
+        ScriptCall::Step,
+        ScriptCall::End,
+        ScriptCall::Recover,
+    ];
+    for call in &calls {
+        called(t, list, *call);
     }
 }
 
-fn answered(t: &mut [u64], list: &mut [u64], line: Line) {
-    let r = Record {
-        function: line.b,
-        place: line.c,
-    };
-    let letter = line.letter;
-    match letter {
-        b'v' => words(t, line.a as usize, line.b as usize),
-        b'p' => words(list, 0, list.len()),
-        b'c' => verdict(making::create(t, line.a, line.b, line.c, line.d, line.e)),
-        b'm' => verdict(making::make(t, list, line.a)),
-        b'q' => query(querying::query(t, line.a)),
-        b'a' => every(t, list, line.a, r),
-        _ => listed(t, list, letter, line.a, r),
-    }
-}
-
-// A line with a capital letter sets words and has no answer; nor has a remark.
-fn carried_out(t: &mut [u64], list: &mut [u64], line: Line) {
-    let letter = line.letter;
-    match letter {
-        b'#' => {}
-        b'T' => fill(t),
-        b'L' => fill(list),
-        b'W' => put(t, line.a, line.b),
-        b'G' => put(list, line.a, line.b),
-        _ => answered(t, list, line),
+// What sets words has no answer; nor has a remark.
+fn carried_out(t: &mut [u64], list: &mut [u64], command: Command) {
+    match command {
+        Command::Remark => {}
+        Command::Table(_) => t.fill(UNWRITTEN),
+        Command::List(_) => list.fill(UNWRITTEN),
+        Command::Word(at, value) => put(t, at, value),
+        Command::Give(at, value) => put(list, at, value),
+        Command::View(from, to) => words(t, from, to),
+        Command::Pairs => words(list, 0, list.len()),
+        Command::Create(form, c, k, mul1, mul2) => {
+            verdict(making::create(t, form, c, k, mul1, mul2))
+        }
+        Command::Make(pairs) => verdict(making::make(t, list, pairs)),
+        Command::Call(call) => called(t, list, call),
+        Command::All(key, r) => every(t, list, key, r),
     }
 }
 
 // What a line and those after it are lent.
-fn next_lent(lent: Lent, line: Line) -> Lent {
-    if line.letter == b'T' {
-        return Lent {
-            table: line.a as usize,
-            list: lent.list,
-        };
+fn next_lent(lent: Lent, command: Command) -> Lent {
+    match command {
+        Command::Table(table) => Lent { table, ..lent },
+        Command::List(list) => Lent { list, ..lent },
+        _ => lent,
     }
-    if line.letter == b'L' {
-        return Lent {
-            table: lent.table,
-            list: line.a as usize,
-        };
-    }
-    lent
 }
 
 // A line that asks for more words than there are is passed over.
 pub fn one_line(room: &mut [u64], list: &mut [u64], lent: Lent, text: &[u8]) -> Lent {
-    let line = parsed(text);
-    let next = next_lent(lent, line);
-    let table = next.table;
-    let pairs = next.list;
-    if room.len() < table {
-        return lent;
-    }
-    if list.len() < pairs {
+    let command = parsed(text);
+    let next = next_lent(lent, command);
+    if room.len() < next.table || list.len() < next.list {
         return lent;
     }
     say(text);
-    carried_out(&mut room[..table], &mut list[..pairs], line);
+    carried_out(&mut room[..next.table], &mut list[..next.list], command);
     say(b"\n");
     next
 }

@@ -1,84 +1,79 @@
 // Lines of words and decimal numbers.
-ghost use Rattle.std.specs.Prelude.{◌≤◌, length};
+use rules::{Record, ScriptCall};
 
-// What a line says: the first letter of its word, and its numbers; a number that is missing is 0.
+// What a line asks for.
 #[derive(Clone, Copy)]
-pub struct Line {
-    pub letter: u8,
-    pub a: u64,
-    pub b: u64,
-    pub c: u64,
-    pub d: u64,
-    pub e: u64,
-}
-
-// A number, and the index of what follows the space after it.
-#[derive(Clone, Copy)]
-struct Numeral {
-    value: u64,
-    next: usize,
-}
-
-// Where the line that begins at `at` ends: at its newline, or where the text ends.
-pub fn line_end(text: &[u8], at: usize) -> usize
-    requires { at ≤ length text.now }
-    ensures { (at ≤ result) × (result ≤ length text.now) }
-{
-    let mut i = at;
-    while i < text.len() {
-        if text[i] == b'\n' {
-            return i;
-        }
-        i += 1;
-    }
-    i
+pub enum Command {
+    Remark,
+    Table(usize),
+    List(usize),
+    Word(u64, u64),
+    Give(u64, u64),
+    View(usize, usize),
+    Pairs,
+    Create(u64, u64, u64, u64, u64),
+    Make(u64),
+    Call(ScriptCall),
+    All(u64, Record),
 }
 
 // One digit more. A number of 2^64 or more is not meant to be asked for.
 fn with_digit(value: u64, digit: u8) -> u64 {
-    if digit < b'0' {
+    if digit < b'0' || value > 1844674407370955161 {
         return value;
     }
-    if value > 1844674407370955161 {
-        return value;
-    }
-    std::num::wrapping_add_u64(10 * value, (digit - b'0') as u64)
+    (10 * value).wrapping_add(u64::from(digit - b'0'))
 }
 
-fn number(line: &[u8], at: usize) -> Numeral {
+fn number(word: &[u8]) -> u64 {
     let mut value = 0;
-    let mut i = at;
-    while i < line.len() {
-        if line[i] == b' ' {
-            return Numeral { value, next: i + 1 };
-        }
-        value = with_digit(value, line[i]);
-        i += 1;
+    for digit in word {
+        value = with_digit(value, *digit);
     }
-    Numeral { value, next: i }
+    value
 }
 
-fn first_letter(line: &[u8]) -> u8 {
-    if line.len() == 0 {
-        return b'#';
+// Any letter but these asks for recover.
+fn asked(letter: u8, numbers: [u64; 5]) -> Command {
+    let [first, second, third, fourth, fifth] = numbers;
+    let record = Record {
+        function: second,
+        place: third,
+    };
+    match letter {
+        b'#' => Command::Remark,
+        b'T' => Command::Table(first as usize),
+        b'L' => Command::List(first as usize),
+        b'W' => Command::Word(first, second),
+        b'G' => Command::Give(first, second),
+        b'v' => Command::View(first as usize, second as usize),
+        b'p' => Command::Pairs,
+        b'c' => Command::Create(first, second, third, fourth, fifth),
+        b'm' => Command::Make(first),
+        b'a' => Command::All(first, record),
+        b'q' => Command::Call(ScriptCall::Query(first)),
+        b'i' => Command::Call(ScriptCall::Insert(first, record)),
+        b'u' => Command::Call(ScriptCall::Update(first, record)),
+        b'd' => Command::Call(ScriptCall::Delete(first)),
+        b'b' => Command::Call(ScriptCall::Begin),
+        b'h' => Command::Call(ScriptCall::Shrink),
+        b't' => Command::Call(ScriptCall::Back),
+        b's' => Command::Call(ScriptCall::Step),
+        b'e' => Command::Call(ScriptCall::End),
+        _ => Command::Call(ScriptCall::Recover),
     }
-    line[0]
 }
 
-// The word is passed over as a number would be.
-pub fn parsed(line: &[u8]) -> Line {
-    let word = number(line, 0);
-    let a = number(line, word.next);
-    let b = number(line, a.next);
-    let c = number(line, b.next);
-    let d = number(line, c.next);
-    let e = number(line, d.next);
-    Line {
-        letter: first_letter(line),
-        a: a.value,
-        b: b.value,
-        c: c.value,
-        d: d.value,
-        e: e.value,
+// The first letter of a line's word, and the numbers after it; a number that is missing is 0.
+pub fn parsed(line: &[u8]) -> Command {
+    let Some(letter) = line.first() else {
+        return Command::Remark;
+    };
+    let mut words = line.split(|byte| *byte == b' ');
+    words.next();
+    let mut numbers = [0; 5];
+    for (place, word) in numbers.iter_mut().zip(words) {
+        *place = number(word);
     }
+    asked(*letter, numbers)
 }

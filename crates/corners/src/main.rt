@@ -25,20 +25,15 @@ mod cases;
 mod lines;
 
 use cases::{Lent, one_line};
-use lines::line_end;
 
 // The room is that of a table of c = 4 and one word; the list has four words more than a call asks for.
 fn run(text: &[u8]) {
     let mut table = [0; 413];
     let mut stores = [0; 24];
-    let room: &mut [u64] = &mut table;
-    let list: &mut [u64] = &mut stores;
     let mut lent = Lent { table: 0, list: 0 };
-    let mut at = 0;
-    while at < text.len() {
-        let end = line_end(text, at);
-        lent = one_line(room, list, lent, &text[at..end]);
-        at = end + 1;
+    for line in text.split_inclusive(|byte| *byte == b'\n') {
+        let line = line.strip_suffix(b"\n").unwrap_or(line);
+        lent = one_line(&mut table, &mut stores, lent, line);
     }
 }
 

@@ -16,8 +16,8 @@ use Rattle.following.specs.Scripts.{next_line, waits, asks, stops_at, numbers_in
 use Rattle.following.specs.Scripts.{may_be_cut, event_read, cut_read, no_event_line, expected, reading_of}
 use Rattle.following.specs.declared.Due.{Due}
 use Rattle.following.specs.declared.Due.TheVariants.{Number as a_number, Event as an_event, Nothing as no_more}
-use Rattle.following.specs.declared.Cut.{Cut as CutLine}
-use Rattle.following.specs.declared.Cut.TheVariants.{None as no_cut, After as cut_after}
+use Rattle.following.specs.Scripts.{Under}
+use Rattle.std.specs.Prelude.{Some, None as no_cut}
 use Rattle.following.specs.declared.Script.{Script}
 use Rattle.following.specs.declared.Asked.{Asked}
 use Rattle.following.specs.declared.Asked.TheVariants.{Nothing as ask_nothing, Table as ask_table, Event as ask_event, Bad as ask_end}
@@ -66,13 +66,13 @@ module _ (s : Script) where
   begun-counts : (q : ScriptCall) → Counts s (event_begun s q)
   begun-counts q = by (eqb (numbers_in q) 0) (asking _) (record { lines = refl; over = λ e. numbers_due e })
 
-  event_counts : (c : CutLine) (q : ScriptCall) → Counts s (event_read s c q)
+  event_counts : (c : Under) (q : ScriptCall) → Counts s (event_read s c q)
   event_counts no_cut q = begun-counts q
-  event_counts (cut_after n l) q = by (may_be_cut q) (begun-counts q) (stopping l)
+  event_counts (Some under) q = by (may_be_cut q) (begun-counts q) (stopping under.line)
 
-  cut-counts : (c : CutLine) → Counts s (cut_read s c)
+  cut-counts : (c : Under) → Counts s (cut_read s c)
   cut-counts no_cut = waiting After 0 0 0
-  cut-counts (cut_after n l) = stopping l
+  cut-counts (Some under) = stopping under.line
 
   expected-counts : (d : Due) → (d ≡ no_more → ⊥) → (l : Line) → Counts s (expected s d l)
   expected-counts (a_number due) k (Number n v) = by (eqb (name_number due) (name_number n)) (number_counts due v) (stopping (next_line s))

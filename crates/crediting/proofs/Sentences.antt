@@ -32,8 +32,8 @@ use Rattle.following.specs.Scripts.{ending_of}
 use Rattle.following.specs.Sentences.{EventDue}
 use Rattle.following.specs.declared.Due.{Due}
 use Rattle.following.specs.declared.Due.TheVariants.{Number as a_number, Event as an_event, Nothing as no_more}
-use Rattle.following.specs.declared.Cut.{Cut}
-use Rattle.following.specs.declared.Cut.TheVariants.{None as no_cut, After as cut_after}
+use Rattle.following.specs.Scripts.{Under}
+use Rattle.std.specs.Prelude.{Some, None as no_cut}
 use Rattle.following.specs.declared.Script.{Script}
 use Rattle.replaying.specs.Events.{lent, answer_to, table_after}
 use Rattle.replaying.specs.Replays.{begun, table_of, turn_of, finish_of}
@@ -61,9 +61,9 @@ use Rattle.crediting.proofs.Whole.{false_true, either_way}
 due-means : (s : Script) → event_due s ≡ true → EventDue s
 due-means s e = let both = go s.due s.cut e in record { due = both.0; cut = both.1 }
   where
-    go : (d : Due) (c : Cut) → event_at d c ≡ true → (d ≡ an_event) × (c ≡ no_cut)
+    go : (d : Due) (c : Under) → event_at d c ≡ true → (d ≡ an_event) × (c ≡ no_cut)
     go an_event no_cut k = (refl, refl)
-    go an_event (cut_after n l) k = false_true k
+    go an_event (Some under) k = false_true k
     go (a_number name) c k = false_true k
     go no_more c k = false_true k
 

@@ -8,7 +8,7 @@ use Rattle.lines.specs.declared.Sample.TheVariants.{Key, Bad as BadSample, Other
 use Rattle.lines.specs.contracts.Sample.{the_type as sample-type}
 use Rattle.following.specs.declared.Due.{Due}
 use Rattle.following.specs.declared.Due.TheVariants.{Number as a_number, Event as an_event, Nothing as no_more}
-use Rattle.following.specs.declared.Cut.{Cut}
+use Rattle.following.specs.Scripts.{Under}
 use Rattle.following.specs.contracts.Due.{the_type as due-type}
 use Rattle.replaying.specs.declared.Answer.{Answer}
 use Rattle.replaying.specs.declared.Answer.TheVariants.{Nothing, Created, Changed, Kept, Found, Events, Bad as BadAnswer}
@@ -64,7 +64,7 @@ no_key_spoils BadSample k b = refl
 no_key_spoils Other k b = refl
 
 -- where no event is due
-pub no_event_lem : (x : Due) → OneOf (0 ∷ 2 ∷ []) (tag_of due-type x) → (c : Cut) → false ≡ event_at x c
+pub no_event_lem : (x : Due) → OneOf (0 ∷ 2 ∷ []) (tag_of due-type x) → (c : Under) → false ≡ event_at x c
 no_event_lem (a_number name) k c = refl
 no_event_lem an_event k c = absurd (miss (0 ∷ 2 ∷ []) 1 tt k)
 no_event_lem no_more k c = refl

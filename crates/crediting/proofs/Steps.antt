@@ -17,7 +17,7 @@ use Rattle.lines.specs.Lines.{line_of}
 use Rattle.lines.specs.declared.Line.{Line}
 use Rattle.lines.specs.Samples.{sample_of}
 use Rattle.lines.specs.declared.Sample.{Sample}
-use Rattle.following.specs.declared.Cut.TheVariants.{None as no_cut}
+use Rattle.std.specs.Prelude.{None as no_cut}
 use Rattle.following.specs.declared.Asked.TheVariants.{Event as ask_event}
 use Rattle.replaying.specs.Replays.{asked_of, turn_of, TurnIs}
 use Rattle.replaying.specs.declared.Answer.{Answer}

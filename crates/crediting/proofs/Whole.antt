@@ -20,7 +20,7 @@ use Rattle.lines.specs.Samples.{sample_of}
 use Rattle.lines.specs.declared.Sample.{Sample}
 use Rattle.lines.specs.declared.Sample.TheVariants.{Key, Bad as BadSample, Other}
 use Rattle.following.specs.Scripts.{ending_of}
-use Rattle.following.specs.declared.Cut.TheVariants.{None as no_cut}
+use Rattle.std.specs.Prelude.{None as no_cut}
 use Rattle.following.specs.declared.Ending.{Ending}
 use Rattle.following.specs.declared.Ending.TheVariants.{Whole, Bad as Torn, Over}
 use Rattle.replaying.specs.Events.{lent, answer_to, table_after}

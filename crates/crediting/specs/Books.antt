@@ -10,7 +10,7 @@ use Rattle.lines.specs.Lines.{line_of}
 use Rattle.lines.specs.Samples.{sample_of}
 use Rattle.lines.specs.declared.Sample.{Sample}
 use Rattle.lines.specs.declared.Sample.TheVariants.{Key, Bad as BadSample, Other}
-use Rattle.following.specs.declared.Cut.TheVariants.{None as no_cut}
+use Rattle.std.specs.Prelude.{None as no_cut}
 use Rattle.following.specs.declared.Asked.TheVariants.{Event as ask_event}
 use Rattle.replaying.specs.Replays.{begun, table_of, asked_of, turn_of, finish_of}
 use Rattle.replaying.specs.declared.Answer.{Answer}

@@ -18,8 +18,8 @@ use Rattle.lines.specs.declared.Sample.{Sample}
 use Rattle.lines.specs.declared.Sample.TheVariants.{Key, Bad as BadSample, Other}
 use Rattle.following.specs.declared.Due.{Due}
 use Rattle.following.specs.declared.Due.TheVariants.{Number as a_number, Event as an_event, Nothing as no_more}
-use Rattle.following.specs.declared.Cut.{Cut}
-use Rattle.following.specs.declared.Cut.TheVariants.{None as no_cut, After as cut_after}
+use Rattle.following.specs.Scripts.{Under}
+use Rattle.std.specs.Prelude.{Some, None as no_cut}
 use Rattle.following.specs.declared.Script.{Script}
 use Rattle.replaying.specs.Events.{answer_to, table_after}
 use Rattle.replaying.specs.Replays.{begun, table_of, turn_of, finish_of}
@@ -128,9 +128,9 @@ samples_report t lines ls torn =
 -- ---- the script before them
 
 -- "The sample lines begin at the first line that starts with `sample=` where an event line could stand"; "Behind a cut line it may not stand"
-abbrev pub event_at : Due → Cut → Bool
+abbrev pub event_at : Due → Under → Bool
 event_at an_event no_cut = true
-event_at an_event (cut_after n line) = false
+event_at an_event (Some cut) = false
 event_at (a_number name) under = false
 event_at no_more under = false
 

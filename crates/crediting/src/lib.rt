@@ -9,7 +9,7 @@ ghost use Rattle.crediting.specs.Books.{missed_one, figures_with, figures_in, bo
 ghost use Rattle.crediting.specs.Books.{first_sampled, stage_after, script_line, sample_where, script_read, sample_read, with_line, script_end, at_end};
 ghost use Rattle.crediting.specs.Books.{known_at, CountsAre, LedgerIs, Turned, empty_book};
 
-use following::{Cut, Due, Script};
+use following::{Due, Script};
 use lines::{Sample, parse, parse_sample};
 use numbering::query_words;
 use querying::query;
@@ -135,7 +135,7 @@ fn recovered(l: Ledger, room: &mut [u64]) -> Ledger
     let replay = l.replay;
     let script = replay.script;
     let counts = l.counts;
-    let turn = evented(replay, script, room, ScriptCall::Recover, Cut::None);
+    let turn = evented(replay, script, room, ScriptCall::Recover, None);
     let next = turn.replay;
     let answer = turn.answer;
     Ledger {
@@ -219,8 +219,8 @@ fn event_due(script: Script) -> bool
         return false;
     };
     match cut {
-        Cut::None => true,
-        Cut::After(_, _) => false,
+        None => true,
+        Some(_) => false,
     }
 }
 

@@ -1,3 +1,2 @@
-pub mod Readings
 pub mod Sentences
 pub mod Only

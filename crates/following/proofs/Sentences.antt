@@ -1,6 +1,6 @@
 -- The definitions of `Scripts` keep document 01's sentences, as `Sentences` says them.
 -- Assumes nothing.
-use Rattle.std.proofs.Common.{◌≡◌, ℕ, ◌+◌, ◌%◌, ◌^◌, ◌≤◌, Bool, true, false, cond, eqb, List, [], ◌∷◌, ◌++◌, length, get_or, drop, sym, refl, ap, ◌∙◌, subst, arith, drop_of_length-le, eqb-true}
+use Rattle.std.proofs.Common.{◌≡◌, ℕ, ◌+◌, ◌%◌, ◌^◌, ◌≤◌, Bool, true, false, cond, eqb, List, [], ◌∷◌, ◌++◌, length, get_or, drop, None as no_cut, sym, refl, ap, ◌∙◌, subst, arith, drop_of_length-le, eqb-true}
 use Rattle.rules.specs.declared.ScriptCall.{ScriptCall}
 use Rattle.rules.specs.declared.ScriptCall.TheVariants.{Query, Insert, Update, Delete, Begin, Shrink, Back, Step, End, Recover}
 use Rattle.lines.specs.Lines.{blank}
@@ -10,14 +10,12 @@ use Rattle.lines.specs.declared.Line.{Line}
 use Rattle.lines.specs.declared.Line.TheVariants.{Number, Event, Cut, Bad}
 use Rattle.following.specs.declared.Due.{Due}
 use Rattle.following.specs.declared.Due.TheVariants.{Number as a_number, Event as an_event, Nothing as no_more}
-use Rattle.following.specs.declared.Cut.{Cut as CutLine}
-use Rattle.following.specs.declared.Cut.TheVariants.{None as no_cut, After as cut_after}
 use Rattle.following.specs.declared.Script.{Script}
 use Rattle.following.specs.declared.Asked.{Asked}
 use Rattle.following.specs.declared.Asked.TheVariants.{Nothing as ask_nothing, Table as ask_table, Event as ask_event, Bad as ask_end}
 use Rattle.following.specs.declared.Reading.{Reading}
 use Rattle.following.specs.declared.Ending.TheVariants.{Bad as Torn}
-use Rattle.following.specs.Scripts.{start, next_line, onward, waits, stops_at, stops, numbers_in, number_read, name_number, event_begun, may_be_cut}
+use Rattle.following.specs.Scripts.{Under, cut_after, start, next_line, onward, waits, stops_at, stops, numbers_in, number_read, name_number, event_begun, may_be_cut}
 use Rattle.following.specs.Scripts.{expected, reading_of, ended_at, ending_of}
 use Rattle.following.specs.Sentences.{header_names, names_of, names_after, numbered, event_lines, call_lines, cut_lines, Changing, asking, read_all}
 use Rattle.following.specs.Sentences.{line_from, EventDue, Asks, BadAfter, EndsBad, NotNamed, NoEvent, NoChange, HeaderRead, EventsRead}
@@ -334,7 +332,7 @@ unfolding reading_of
 header_read c k mul1 mul2 = record { alone = refl; next = due-here _ refl refl; count = refl }
 
 pub events_read : EventsRead
-events_read s d q = subst (λ (under : CutLine). Asks s (call_lines q) (ask_event q under)) d.cut (call_asks s q (begins-free s d (blank q)))
+events_read s d q = subst (λ (under : Under). Asks s (call_lines q) (ask_event q under)) d.cut (call_asks s q (begins-free s d (blank q)))
 
 pub calls_named : CallsNamed
 calls_named s d = (

@@ -1,6 +1,6 @@
 -- Document 01, "Script program": what a script waits for, and what a line makes of it.
 -- Assumes nothing.
-use Rattle.std.specs.Prelude.{ℕ, ◌+◌, ◌%◌, ◌^◌, Bool, true, false, cond, ◌==◌}
+use Rattle.std.specs.Prelude.{ℕ, ◌+◌, ◌%◌, ◌^◌, Bool, true, false, cond, ◌==◌, Option, Some, None as no_cut}
 use Rattle.rules.specs.declared.ScriptCall.{ScriptCall}
 use Rattle.rules.specs.declared.ScriptCall.TheVariants.{Query, Insert, Update, Delete, Begin, Shrink, Back, Step, End, Recover}
 use Rattle.lines.specs.declared.Name.{Name}
@@ -9,14 +9,20 @@ use Rattle.lines.specs.declared.Line.{Line}
 use Rattle.lines.specs.declared.Line.TheVariants.{Number, Event, Cut, Bad}
 use Rattle.following.specs.declared.Due.{Due}
 use Rattle.following.specs.declared.Due.TheVariants.{Number as a_number, Event as an_event, Nothing as no_more}
-use Rattle.following.specs.declared.Cut.{Cut as CutLine}
-use Rattle.following.specs.declared.Cut.TheVariants.{None as no_cut, After as cut_after}
+use Rattle.following.specs.declared.CutLine.{CutLine}
 use Rattle.following.specs.declared.Script.{Script}
 use Rattle.following.specs.declared.Asked.{Asked}
 use Rattle.following.specs.declared.Asked.TheVariants.{Nothing as ask_nothing, Table as ask_table, Event as ask_event, Bad as ask_end}
 use Rattle.following.specs.declared.Reading.{Reading}
 use Rattle.following.specs.declared.Ending.{Ending}
 use Rattle.following.specs.declared.Ending.TheVariants.{Whole, Bad as Torn, Over}
+
+-- the cut line that an event stands under, or none
+abbrev pub Under : Type 0
+Under = Option CutLine
+
+abbrev pub cut_after : ℕ → ℕ → Under
+cut_after n line = Some (record { stores = n; line = line })
 
 -- "`cap`, `top` (the first k), `mul1`, `mul2`, then events"
 abbrev pub start : Script
@@ -28,8 +34,12 @@ start = record { due = a_number Cap; event = Begin; first = 0; second = 0; third
 abbrev pub next_line : Script → ℕ
 next_line s = (s.lines + 1) % 2 ^ 64
 
+-- it is read, and the numbers before it have been taken
+abbrev pub line_read : Script → Script
+line_read s = record s { first = 0; second = 0; third = 0; lines = next_line s }
+
 -- it is read: what is due after it, for which event, the numbers read for that, the cut line over that, and what it asks for
-abbrev pub onward : Script → Due → ScriptCall → ℕ → ℕ → ℕ → CutLine → Asked → Reading
+abbrev pub onward : Script → Due → ScriptCall → ℕ → ℕ → ℕ → Under → Asked → Reading
 onward s due q a b c under asked =
     record { script = record { due = due; event = q; first = a; second = b; third = c; cut = under; lines = next_line s }; asked = asked }
 
@@ -119,19 +129,19 @@ may_be_cut Step = true
 may_be_cut End = true
 may_be_cut Recover = true
 
-abbrev pub event_read : Script → CutLine → ScriptCall → Reading
+abbrev pub event_read : Script → Under → ScriptCall → Reading
 event_read s no_cut q = event_begun s q
-event_read s (cut_after n line) q = cond (may_be_cut q) (event_begun s q) (stops_at s line)
+event_read s (Some under) q = cond (may_be_cut q) (event_begun s q) (stops_at s under.line)
 
-abbrev pub cut_read : Script → CutLine → Reading
+abbrev pub cut_read : Script → Under → Reading
 cut_read s no_cut = waits s (a_number After) 0 0 0
-cut_read s (cut_after n line) = stops_at s line
+cut_read s (Some under) = stops_at s under.line
 
-abbrev pub no_event_line : Script → CutLine → ℕ
+abbrev pub no_event_line : Script → Under → ℕ
 no_event_line s no_cut = next_line s
-no_event_line s (cut_after n line) = line
+no_event_line s (Some under) = under.line
 
-abbrev pub no_event : Script → CutLine → Reading
+abbrev pub no_event : Script → Under → Reading
 no_event s under = stops_at s (no_event_line s under)
 
 -- ---- a line
@@ -154,10 +164,10 @@ reading_of s line = expected s s.due line
 
 -- "A number of 2^64 or more is bad, and so is the line missing where input ends too soon." A torn line, one that no newline ends, is
 -- bad too
-abbrev pub at_event : Script → CutLine → Bool → Ending
+abbrev pub at_event : Script → Under → Bool → Ending
 at_event s under true = Torn (no_event_line s under)
 at_event s no_cut false = Whole
-at_event s (cut_after n line) false = Torn line
+at_event s (Some under) false = Torn under.line
 
 abbrev pub ended_at : Script → Due → Bool → Ending
 ended_at s (a_number due) torn = Torn (next_line s)

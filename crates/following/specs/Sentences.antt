@@ -2,7 +2,7 @@
 -- may stand before, and which line is the bad one. No code leans on this. The definitions of `Scripts` are proved to keep it, so that
 -- a slip there is seen even where the code follows it.
 -- Assumes nothing.
-use Rattle.std.specs.Prelude.{◌≡◌, ℕ, ◌+◌, ◌%◌, ◌^◌, Bool, true, false, List, [], ◌∷◌, ◌++◌, length, drop, ◌≢◌}
+use Rattle.std.specs.Prelude.{◌≡◌, ℕ, ◌+◌, ◌%◌, ◌^◌, Bool, true, false, List, [], ◌∷◌, ◌++◌, length, drop, ◌≢◌, None as no_cut}
 use Rattle.rules.specs.declared.ScriptCall.{ScriptCall}
 use Rattle.rules.specs.declared.ScriptCall.TheVariants.{Query, Insert, Update, Delete, Begin, Shrink, Back, Step, End, Recover}
 use Rattle.lines.specs.Lines.{no_record, blank}
@@ -11,12 +11,11 @@ use Rattle.lines.specs.declared.Name.TheVariants.{Cap, Top, Mul1, Mul2, Key, Fn,
 use Rattle.lines.specs.declared.Line.{Line}
 use Rattle.lines.specs.declared.Line.TheVariants.{Number, Event, Cut, Bad}
 use Rattle.following.specs.declared.Due.TheVariants.{Event as an_event, Nothing as no_more}
-use Rattle.following.specs.declared.Cut.TheVariants.{None as no_cut, After as cut_after}
 use Rattle.following.specs.declared.Script.{Script}
 use Rattle.following.specs.declared.Asked.{Asked}
 use Rattle.following.specs.declared.Asked.TheVariants.{Nothing as ask_nothing, Table as ask_table, Event as ask_event, Bad as ask_end}
 use Rattle.following.specs.declared.Ending.TheVariants.{Whole, Bad as Torn, Over}
-use Rattle.following.specs.Scripts.{start, reading_of, ending_of}
+use Rattle.following.specs.Scripts.{cut_after, start, reading_of, ending_of}
 
 -- ---- the lines of a script, in their order
 

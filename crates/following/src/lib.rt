@@ -15,15 +15,15 @@ pub enum Due {
     Nothing,
 }
 
-// The cut line that the next event stands under: how many stores it lets be made, and its number.
+// A cut line: how many stores it lets the event under it make, and its own number.
 #[derive(Clone, Copy)]
-pub enum Cut {
-    None,
-    After(u64, u64),
+pub struct CutLine {
+    pub stores: u64,
+    pub line: u64,
 }
 
 // Where a script stands: what it waits for; the event that was begun last, and the numbers read for it, or for the header; the cut
-// line; and how many lines were read.
+// line that the next event stands under; and how many lines were read.
 #[derive(Clone, Copy)]
 pub struct Script {
     pub due: Due,
@@ -31,7 +31,7 @@ pub struct Script {
     pub first: u64,
     pub second: u64,
     pub third: u64,
-    pub cut: Cut,
+    pub cut: Option<CutLine>,
     pub lines: u64,
 }
 
@@ -41,7 +41,7 @@ pub struct Script {
 pub enum Asked {
     Nothing,
     Table(u64, u64, u64, u64),
-    Event(ScriptCall, Cut),
+    Event(ScriptCall, Option<CutLine>),
     Bad(u64),
 }
 

@@ -1,15 +1,14 @@
 // What a line makes of what a script waits for.
-ghost use Rattle.std.specs.Prelude.{◌≡◌, if◌then◌else◌, nat_eq};
+ghost use Rattle.std.specs.Prelude.{◌≡◌};
 ghost use Rattle.following.specs.declared.Due.TheVariants.{Number as a_number, Event as an_event};
-ghost use Rattle.following.specs.Scripts.{start as start_of, next_line, onward as onward_of, waits as waits_of, asks as asks_of};
-ghost use Rattle.following.specs.Scripts.{stops_at as stops_at_of, stops as stops_of, name_number, numbers_in, filled as filled_of, key_read};
+ghost use Rattle.following.specs.Scripts.{start as start_of, next_line, line_read, waits as waits_of, asks as asks_of};
+ghost use Rattle.following.specs.Scripts.{stops_at as stops_at_of, stops as stops_of, numbers_in, filled as filled_of, key_read};
 ghost use Rattle.following.specs.Scripts.{number_read, event_begun, may_be_cut, event_read, cut_read, expected, reading_of, no_event_line, at_event};
 ghost use Rattle.following.specs.Scripts.{ending_of};
 
-use crate::{Asked, Cut, Due, Ending, Reading, Script};
+use crate::{Asked, CutLine, Due, Ending, Reading, Script};
 use lines::{Line, Name};
 use rules::{Record, ScriptCall};
-use std::num::wrapping_add_u64;
 
 // "`cap`, `top` (the first k), `mul1`, `mul2`, then events"
 pub fn start() -> Script
@@ -21,81 +20,8 @@ pub fn start() -> Script
         first: 0,
         second: 0,
         third: 0,
-        cut: Cut::None,
+        cut: None,
         lines: 0,
-    }
-}
-
-fn next_line(s: Script) -> u64
-    ensures { result ≡ next_line s }
-{
-    wrapping_add_u64(s.lines, 1)
-}
-
-// A line is read: what is due after it, for this event with these numbers and under this cut line, and what it asks for.
-fn onward(
-    s: Script,
-    due: Due,
-    event: ScriptCall,
-    a: u64,
-    b: u64,
-    c: u64,
-    cut: Cut,
-    asked: Asked,
-) -> Reading
-    ensures { result ≡ onward_of s due event a b c cut asked }
-{
-    Reading {
-        script: Script {
-            due,
-            event,
-            first: a,
-            second: b,
-            third: c,
-            cut,
-            lines: next_line(s),
-        },
-        asked,
-    }
-}
-
-// More is to come for a header or an event.
-fn waits(s: Script, due: Due, a: u64, b: u64, c: u64) -> Reading
-    ensures { result ≡ waits_of s due a b c }
-{
-    let event = s.event;
-    let cut = s.cut;
-    onward(s, due, event, a, b, c, cut, Asked::Nothing)
-}
-
-// A header or an event is whole.
-fn asks(s: Script, asked: Asked) -> Reading
-    ensures { result ≡ asks_of s asked }
-{
-    let event = s.event;
-    onward(s, Due::Event, event, 0, 0, 0, Cut::None, asked)
-}
-
-// "First bad line: `bad=` its number, from 1, and stop."
-fn stops_at(s: Script, line: u64) -> Reading
-    ensures { result ≡ stops_at_of s line }
-{
-    let event = s.event;
-    onward(s, Due::Nothing, event, 0, 0, 0, Cut::None, Asked::Bad(line))
-}
-
-fn name_number(name: Name) -> u64
-    ensures { result ≡ name_number name }
-{
-    match name {
-        Name::Cap => 0,
-        Name::Top => 1,
-        Name::Mul1 => 2,
-        Name::Mul2 => 3,
-        Name::Key => 4,
-        Name::Fn => 5,
-        Name::At => 6,
-        Name::After => 7,
     }
 }
 
@@ -104,16 +30,9 @@ fn numbers_in(event: ScriptCall) -> u64
     ensures { result ≡ numbers_in event }
 {
     match event {
-        ScriptCall::Query(_) => 1,
-        ScriptCall::Insert(_, _) => 3,
-        ScriptCall::Update(_, _) => 3,
-        ScriptCall::Delete(_) => 1,
-        ScriptCall::Begin => 0,
-        ScriptCall::Shrink => 0,
-        ScriptCall::Back => 0,
-        ScriptCall::Step => 0,
-        ScriptCall::End => 0,
-        ScriptCall::Recover => 0,
+        ScriptCall::Insert(_, _) | ScriptCall::Update(_, _) => 3,
+        ScriptCall::Query(_) | ScriptCall::Delete(_) => 1,
+        _ => 0,
     }
 }
 
@@ -126,172 +45,206 @@ fn filled(event: ScriptCall, key: u64, function: u64, place: u64) -> ScriptCall
         ScriptCall::Insert(_, _) => ScriptCall::Insert(key, Record { function, place }),
         ScriptCall::Update(_, _) => ScriptCall::Update(key, Record { function, place }),
         ScriptCall::Delete(_) => ScriptCall::Delete(key),
-        ScriptCall::Begin => ScriptCall::Begin,
-        ScriptCall::Shrink => ScriptCall::Shrink,
-        ScriptCall::Back => ScriptCall::Back,
-        ScriptCall::Step => ScriptCall::Step,
-        ScriptCall::End => ScriptCall::End,
-        ScriptCall::Recover => ScriptCall::Recover,
+        _ => event,
     }
-}
-
-fn key_read(s: Script, key: u64) -> Reading
-    ensures { result ≡ key_read s key }
-{
-    let event = s.event;
-    let cut = s.cut;
-    if numbers_in(event) == 1 {
-        return asks(s, Asked::Event(filled(event, key, 0, 0), cut));
-    }
-    waits(s, Due::Number(Name::Fn), key, 0, 0)
-}
-
-// The cut line is the one before its `after`.
-fn number_read(s: Script, name: Name, v: u64) -> Reading
-    ensures { result ≡ number_read s name v }
-{
-    let event = s.event;
-    let cut = s.cut;
-    match name {
-        Name::Cap => waits(s, Due::Number(Name::Top), v, 0, 0),
-        Name::Top => waits(s, Due::Number(Name::Mul1), s.first, v, 0),
-        Name::Mul1 => waits(s, Due::Number(Name::Mul2), s.first, s.second, v),
-        Name::Mul2 => asks(s, Asked::Table(s.first, s.second, s.third, v)),
-        Name::Key => key_read(s, v),
-        Name::Fn => waits(s, Due::Number(Name::At), s.first, v, 0),
-        Name::At => asks(s, Asked::Event(filled(event, s.first, s.second, v), cut)),
-        Name::After => onward(
-            s,
-            Due::Event,
-            event,
-            0,
-            0,
-            0,
-            Cut::After(v, s.lines),
-            Asked::Nothing,
-        ),
-    }
-}
-
-fn event_begun(s: Script, event: ScriptCall) -> Reading
-    ensures { result ≡ event_begun s event }
-{
-    let cut = s.cut;
-    if numbers_in(event) == 0 {
-        return asks(s, Asked::Event(event, cut));
-    }
-    onward(
-        s,
-        Due::Number(Name::Key),
-        event,
-        0,
-        0,
-        0,
-        cut,
-        Asked::Nothing,
-    )
 }
 
 fn may_be_cut(event: ScriptCall) -> bool
     ensures { result ≡ may_be_cut event }
 {
-    match event {
-        ScriptCall::Query(_) => false,
-        ScriptCall::Insert(_, _) => true,
-        ScriptCall::Update(_, _) => true,
-        ScriptCall::Delete(_) => true,
-        ScriptCall::Begin => true,
-        ScriptCall::Shrink => true,
-        ScriptCall::Back => true,
-        ScriptCall::Step => true,
-        ScriptCall::End => true,
-        ScriptCall::Recover => true,
+    !matches!(event, ScriptCall::Query(_))
+}
+
+impl Script {
+    // The number of the next line, from 1.
+    fn next_line(self) -> u64
+        ensures { result ≡ next_line self }
+    {
+        self.lines.wrapping_add(1)
+    }
+
+    // A line more is read, and the numbers before it have been taken.
+    fn line_read(self) -> Script
+        ensures { result ≡ line_read self }
+    {
+        Script {
+            first: 0,
+            second: 0,
+            third: 0,
+            lines: self.next_line(),
+            ..self
+        }
+    }
+
+    // More is to come for a header or an event.
+    fn waits(self, due: Due, first: u64, second: u64, third: u64) -> Reading
+        ensures { result ≡ waits_of self due first second third }
+    {
+        Reading {
+            script: Script {
+                due,
+                first,
+                second,
+                third,
+                ..self.line_read()
+            },
+            asked: Asked::Nothing,
+        }
+    }
+
+    // A header or an event is whole.
+    fn asks(self, asked: Asked) -> Reading
+        ensures { result ≡ asks_of self asked }
+    {
+        Reading {
+            script: Script {
+                due: Due::Event,
+                cut: None,
+                ..self.line_read()
+            },
+            asked,
+        }
+    }
+
+    // "First bad line: `bad=` its number, from 1, and stop."
+    fn stops_at(self, line: u64) -> Reading
+        ensures { result ≡ stops_at_of self line }
+    {
+        Reading {
+            script: Script {
+                due: Due::Nothing,
+                cut: None,
+                ..self.line_read()
+            },
+            asked: Asked::Bad(line),
+        }
+    }
+
+    fn stops(self) -> Reading
+        ensures { result ≡ stops_of self }
+    {
+        self.stops_at(self.next_line())
+    }
+
+    fn key_read(self, key: u64) -> Reading
+        ensures { result ≡ key_read self key }
+    {
+        if numbers_in(self.event) == 1 {
+            return self.asks(Asked::Event(filled(self.event, key, 0, 0), self.cut));
+        }
+        self.waits(Due::Number(Name::Fn), key, 0, 0)
+    }
+
+    // The cut line is the one before its `after`.
+    fn number_read(self, name: Name, v: u64) -> Reading
+        ensures { result ≡ number_read self name v }
+    {
+        match name {
+            Name::Cap => self.waits(Due::Number(Name::Top), v, 0, 0),
+            Name::Top => self.waits(Due::Number(Name::Mul1), self.first, v, 0),
+            Name::Mul1 => self.waits(Due::Number(Name::Mul2), self.first, self.second, v),
+            Name::Mul2 => self.asks(Asked::Table(self.first, self.second, self.third, v)),
+            Name::Key => self.key_read(v),
+            Name::Fn => self.waits(Due::Number(Name::At), self.first, v, 0),
+            Name::At => self.asks(Asked::Event(
+                filled(self.event, self.first, self.second, v),
+                self.cut,
+            )),
+            Name::After => Reading {
+                script: Script {
+                    due: Due::Event,
+                    cut: Some(CutLine {
+                        stores: v,
+                        line: self.lines,
+                    }),
+                    ..self.line_read()
+                },
+                asked: Asked::Nothing,
+            },
+        }
+    }
+
+    fn event_begun(self, event: ScriptCall) -> Reading
+        ensures { result ≡ event_begun self event }
+    {
+        if numbers_in(event) == 0 {
+            return self.asks(Asked::Event(event, self.cut));
+        }
+        Reading {
+            script: Script {
+                due: Due::Number(Name::Key),
+                event,
+                ..self.line_read()
+            },
+            asked: Asked::Nothing,
+        }
+    }
+
+    // "which must stand right before a changing event or recover (else the cut line is the bad line)"
+    fn event_read(self, event: ScriptCall) -> Reading
+        ensures { result ≡ event_read self self.cut event }
+    {
+        match self.cut {
+            Some(cut) if !may_be_cut(event) => self.stops_at(cut.line),
+            _ => self.event_begun(event),
+        }
+    }
+
+    fn cut_read(self) -> Reading
+        ensures { result ≡ cut_read self self.cut }
+    {
+        match self.cut {
+            Some(cut) => self.stops_at(cut.line),
+            None => self.waits(Due::Number(Name::After), 0, 0, 0),
+        }
+    }
+
+    // The number of the bad line where no event begins.
+    fn no_event_line(self) -> u64
+        ensures { result ≡ no_event_line self self.cut }
+    {
+        match self.cut {
+            Some(cut) => cut.line,
+            None => self.next_line(),
+        }
+    }
+
+    fn number_line(self, due: Name, line: Line) -> Reading
+        ensures { result ≡ expected self (a_number due) line }
+    {
+        match line {
+            Line::Number(name, v) if due == name => self.number_read(due, v),
+            _ => self.stops(),
+        }
+    }
+
+    fn event_line(self, line: Line) -> Reading
+        ensures { result ≡ expected self an_event line }
+    {
+        match line {
+            Line::Event(event) => self.event_read(event),
+            Line::Cut => self.cut_read(),
+            Line::Number(_, _) | Line::Bad => self.stops_at(self.no_event_line()),
+        }
+    }
+
+    fn event_missing(self, torn: bool) -> Ending
+        ensures { result ≡ at_event self self.cut torn }
+    {
+        if torn || self.cut.is_some() {
+            return Ending::Bad(self.no_event_line());
+        }
+        Ending::Whole
     }
 }
 
-// "which must stand right before a changing event or recover (else the cut line is the bad line)"
-fn event_under(s: Script, line: u64, event: ScriptCall) -> Reading
-    ensures { result ≡ (if may_be_cut event then event_begun s event else stops_at_of s line) }
-{
-    if may_be_cut(event) {
-        return event_begun(s, event);
-    }
-    stops_at(s, line)
-}
-
-fn event_read(s: Script, cut: Cut, event: ScriptCall) -> Reading
-    ensures { result ≡ event_read s cut event }
-{
-    match cut {
-        Cut::None => event_begun(s, event),
-        Cut::After(_, line) => event_under(s, line, event),
-    }
-}
-
-fn cut_read(s: Script, cut: Cut) -> Reading
-    ensures { result ≡ cut_read s cut }
-{
-    match cut {
-        Cut::None => waits(s, Due::Number(Name::After), 0, 0, 0),
-        Cut::After(_, line) => stops_at(s, line),
-    }
-}
-
-fn stops(s: Script) -> Reading
-    ensures { result ≡ stops_of s }
-{
-    stops_at(s, next_line(s))
-}
-
-// The number of the bad line where no event begins.
-fn no_event_line(s: Script, cut: Cut) -> u64
-    ensures { result ≡ no_event_line s cut }
-{
-    match cut {
-        Cut::None => next_line(s),
-        Cut::After(_, line) => line,
-    }
-}
-
-fn number_named(s: Script, due: Name, name: Name, v: u64) -> Reading
-    ensures { result ≡ (if nat_eq (name_number due) (name_number name) then number_read s due v else stops_of s) }
-{
-    if name_number(due) == name_number(name) {
-        return number_read(s, due, v);
-    }
-    stops(s)
-}
-
-fn number_line(s: Script, due: Name, line: Line) -> Reading
-    ensures { result ≡ expected s (a_number due) line }
-{
-    match line {
-        Line::Number(name, v) => number_named(s, due, name, v),
-        Line::Event(_) => stops(s),
-        Line::Cut => stops(s),
-        Line::Bad => stops(s),
-    }
-}
-
-fn event_line(s: Script, line: Line) -> Reading
-    ensures { result ≡ expected s an_event line }
-{
-    let cut = s.cut;
-    match line {
-        Line::Number(_, _) => stops_at(s, no_event_line(s, cut)),
-        Line::Event(event) => event_read(s, cut, event),
-        Line::Cut => cut_read(s, cut),
-        Line::Bad => stops_at(s, no_event_line(s, cut)),
-    }
-}
-
+#[tactic(auto, unfolding(crate::specs::Scripts::reading_of))]
 pub fn read(s: Script, line: Line) -> Reading
     ensures { result ≡ reading_of s line }
 {
-    let due = s.due;
-    match due {
-        Due::Number(name) => number_line(s, name, line),
-        Due::Event => event_line(s, line),
+    match s.due {
+        Due::Number(name) => s.number_line(name, line),
+        Due::Event => s.event_line(line),
         Due::Nothing => Reading {
             script: s,
             asked: Asked::Nothing,
@@ -299,27 +252,14 @@ pub fn read(s: Script, line: Line) -> Reading
     }
 }
 
-fn event_missing(s: Script, cut: Cut, torn: bool) -> Ending
-    ensures { result ≡ at_event s cut torn }
-{
-    if torn {
-        return Ending::Bad(no_event_line(s, cut));
-    }
-    match cut {
-        Cut::None => Ending::Whole,
-        Cut::After(_, line) => Ending::Bad(line),
-    }
-}
-
 // What follows the last newline is a torn line where there is any of it.
+#[tactic(auto, unfolding(crate::specs::Scripts::ending_of))]
 pub fn finish(s: Script, torn: bool) -> Ending
     ensures { result ≡ ending_of s torn }
 {
-    let due = s.due;
-    let cut = s.cut;
-    match due {
-        Due::Number(_) => Ending::Bad(next_line(s)),
-        Due::Event => event_missing(s, cut, torn),
+    match s.due {
+        Due::Number(_) => Ending::Bad(s.next_line()),
+        Due::Event => s.event_missing(torn),
         Due::Nothing => Ending::Over,
     }
 }

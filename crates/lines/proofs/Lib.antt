@@ -1,4 +1,3 @@
-mod Beginnings
 mod Rows
 mod Digits
 pub mod Decimals

@@ -1,170 +1,88 @@
--- The rows of texts: the one that a line begins with tells what the line says.
+-- The texts that a line may begin with: the first that a line begins with tells what it says.
 -- Assumes nothing.
-use Prim.Native.Nat.{ℕ, zero, suc, ◌+◌, ◌-◌, ◌*◌, ◌/◌, ◌≤◌, ◌<◌}
+use Prim.Native.Nat.{ℕ, ◌+◌, ◌<◌, ◌≤◌}
 use mathlib.Core.Path.{◌≡◌, refl, sym, ap, ◌∙◌}
 use mathlib.Core.Bool.{Bool, true, false, cond}
-use mathlib.Core.List.{List, [], ◌∷◌, ◌++◌, map, flat_map}
+use mathlib.Core.List.{List, [], ◌∷◌}
 use mathlib.Core.Option.{Option, none, some}
-use mathlib.Core.Logic.{⊎_elim}
-use native.Mathlib.Nat.{eq-or-lt_of_le}
-use native.Mathlib.Omega.{arith}
-use lib.ListN.{length, take, drop, get_or, replicate, drop_of_length-le, get_or-eq_default}
-use lib.Seq.{drop-cons, get_or-drop, drop-drop}
-use types.Run.{OneOf, miss}
-use denote.Enum.Declared.{tag_of}
-use Rattle.lines.specs.Lines.{bytes, beginning, rows, row_at, begins, decimal_of, numbered, unless_more, whole_line, said_by, line_of}
-use Rattle.lines.specs.Promises.{Parsed}
-use Rattle.lines.specs.Found.{decimal_found, unfilled, start_found, start_of, filled_at, texts_from, texts_of, find_in}
-use Rattle.lines.specs.declared.Name.{Name}
+use native.Mathlib.Numerals.{add-one}
+use borrow.Author.Tests.{eqb-true, eq-eqb}
+use lib.ListN.{length, take, drop, get_or, drop_of_length-le}
+use lib.Seq.{drop-cons, take-append_seam}
+use lib.Dec.{eqb}
+use denote.Ref.{Bor}
+use Rattle.std.specs.Prelude.{Some, None}
+use Rattle.std.specs.Cmp.Lexicographic.{pointwise, other_text}
+use Rattle.lines.specs.Lines.{bytes, begins, decimal_of, whole_line}
+use Rattle.lines.specs.Samples.{sample_of}
+use Rattle.lines.specs.Found.{decimal_found}
 use Rattle.lines.specs.declared.Line.{Line}
-use Rattle.lines.specs.declared.Line.TheVariants.{Number, Event, Cut, Bad}
-use Rattle.lines.specs.declared.Decimal.{Decimal}
-use Rattle.lines.specs.declared.Decimal.TheVariants.{Value, Not as NoDecimal}
-use Rattle.lines.specs.declared.Start.{Start}
-use Rattle.lines.specs.declared.Start.TheVariants.{Bytes, Not as NoStart}
-use Rattle.lines.specs.declared.Found.{Found}
-use Rattle.lines.specs.declared.Found.TheVariants.{Row, Not as NoRow}
-use Rattle.lines.specs.contracts.Line.{the_type as line-type}
+use Rattle.lines.specs.declared.Line.TheVariants.{Bad}
+use Rattle.lines.specs.declared.Sample.TheVariants.{Key, Bad as BadSample, Other}
+use Rattle.lines.proofs.Decimals.{all_both}
+use Rattle.lines.proofs.Texts.{begins-split}
 
--- ---- what a row says
+-- ---- what `strip_prefix` tells
 
-pub row_is : (n m : ℕ) → OneOf (n ∷ []) m → row_at n ≡ row_at m
-row_is n m e = let same : n ≡ m = omega arith in ap row_at same
+pub begins_so : (text line : List ℕ) → pointwise eqb (take (length text) line) text ≡ true → begins text line ≡ true
+begins_so [] line e = refl
+begins_so (x ∷ xs) [] e = e
+begins_so (x ∷ xs) (y ∷ ys) e =
+    let t = all_both (eqb y x) (pointwise eqb (take (length xs) ys) xs) e in
+    rw (eq-eqb x y (sym (eqb-true y x t.0)), begins_so xs ys t.1)
 
--- a number that is none of the first n
-abbrev NoneOf : ℕ → ℕ → Type 0
-NoneOf zero m = Unit {0}
-NoneOf (suc n) m = NoneOf n m × (OneOf (n ∷ []) m → ⊥)
+pub begins-other : (text line : List ℕ) → pointwise eqb (take (length text) line) text ≡ false → begins text line ≡ false
+begins-other text line e = go (begins text line) refl
+  where
+    go : (b : Bool) → begins text line ≡ b → b ≡ false
+    go true h = absurd (other_text _ _ (sym e) (ap (take (length text)) (begins-split text line h) ∙ take-append_seam text (drop (length text) line)))
+    go false h = refl
 
-none_of : (n m : ℕ) → NoneOf n m → n ≤ m
-none_of zero m h = omega arith
-none_of (suc n) m h = ⊎_elim (λ e. absurd (h.1 (sym e))) (λ l. l) (eq-or-lt_of_le (none_of n m h.0))
+-- ---- the first of several texts
 
-pub no_row : (n : ℕ) → NoneOf 19 n → Bad ≡ row_at n
-no_row n h = sym (get_or-eq_default rows Bad (none_of 19 n h))
+-- as `said_by`, where the lines stand beside the texts that they begin with
+unfoldable pub first_said : List (Bor (List ℕ) × Line) → List ℕ → Line
+first_said [] line = Bad
+first_said ((text, says) ∷ rows) line = cond (begins text.now line) (whole_line says (drop (length text.now) line)) (first_said rows line)
 
--- ---- the search for a row
+module _ (rows : List (Bor (List ℕ) × Line)) (line : List ℕ) (i : ℕ) (more : i < length rows) (d : Bor (List ℕ) × Line) where
+  abbrev text : List ℕ
+  text = (get_or rows i d).0.now
 
--- n rows from this one on
-pub find_from : List ℕ → List ℕ → ℕ → ℕ → Found
-find_from filled line n row = find_in (texts_from n row filled) row line
+  pub row_hit : {rest : List ℕ} → pointwise eqb (take (length text) line) text ≡ true → rest ≡ drop (length text) line
+      → first_said (drop i rows) line ≡ whole_line (get_or rows i d).1 rest
+  unfolding first_said
+  row_hit e r = rw (drop-cons rows i d more, begins_so text line e, r)
 
-module _ (filled line : List ℕ) where
-  pub find_all : (n : ℕ) → n ≡ length filled / 10 → find_in (texts_of filled) 0 line ≡ find_from filled line n 0
-  unfolding texts_of find_from
-  find_all n e = rw e
+  pub row_passed : pointwise eqb (take (length text) line) text ≡ false → first_said (drop i rows) line ≡ first_said (drop (i + 1) rows) line
+  unfolding first_said
+  row_passed e = rw (add-one, drop-cons rows i d more, begins-other text line e)
 
-  pub find_none : (n row : ℕ) → n ≡ 0 → find_from filled line n row ≡ NoRow
-  unfolding find_from
-  find_none n row e = rw e
+pub rows_over : (rows : List (Bor (List ℕ) × Line)) (line : List ℕ) (i : ℕ) → length rows ≤ i → first_said (drop i rows) line ≡ Bad
+unfolding first_said
+rows_over rows line i h = rw (drop_of_length-le rows h)
 
-  module _ (n row m : ℕ) (more : n ≡ suc m) (start : Start)
-      (started : start ≡ start_of (take (10 * row + 10 - 10 * row) (drop (10 * row) filled)) line) where
-    abbrev test : Bool
-    test = begins (unfilled (filled_at filled row)) line
+-- ---- a sample
 
-    abbrev size : ℕ
-    size = length (unfilled (filled_at filled row))
+-- what a decimal is where the code has found it, or none
+decimal-some : {v : ℕ} (o : Option ℕ) → Some v ≡ decimal_found o → o ≡ some v
+decimal-some (some w) e = ap some (cc e)
+decimal-some none e = cc e
 
-    tested : start ≡ start_found test size
-    unfolding start_of
-    tested =
-        let ten : 10 * row + 10 - 10 * row ≡ 10 = omega arith in
-        started ∙ ap (λ (n : ℕ). start_of (take n (drop (10 * row) filled)) line) ten
-
-    hit : (b : Bool) (at : ℕ) (later : Found) → start_found b size ≡ Bytes at → cond b (Row row size) later ≡ Row row at
-    hit true at later e = cc
-    hit false at later e = let z : ◌≡◌ {A = ℕ} 0 1 = cc in absurd (omega arith)
-
-    passed : (b : Bool) (later : Found) → start_found b size ≡ NoStart → cond b (Row row size) later ≡ later
-    passed true later e = let z : ◌≡◌ {A = ℕ} 0 1 = cc in absurd (omega arith)
-    passed false later e = refl
-
-    pub find_hit : {at : ℕ} → start ≡ Bytes at → find_from filled line n row ≡ Row row at
-    unfolding find_from
-    find_hit {at} e = rw more (hit test at _ (sym tested ∙ e))
-
-    pub find_passed : start ≡ NoStart → find_from filled line n row ≡ find_from filled line m (row + 1)
-    unfolding find_from
-    find_passed e = rw more (passed test _ (sym tested ∙ e))
-
--- ---- a line by its row
-
-said_as : List ℕ → Found → Line
-said_as line (Row row at) = whole_line (row_at row) (drop at line)
-said_as line NoRow = Bad
-
-abbrev pub texts_in : List Line → List (List ℕ)
-texts_in ls = map (λ (l : Line). bytes (beginning l)) ls
+decimal-none : (o : Option ℕ) → None ≡ decimal_found o → o ≡ none
+decimal-none (some w) e = cc e
+decimal-none none e = refl
 
 module _ (line : List ℕ) where
-  said_as_lem : (ls : List Line) (n : ℕ) → drop n rows ≡ ls → said_by ls line ≡ said_as line (find_in (texts_in ls) n line)
-  unfolding said_as
-  said_as_lem [] n e = refl
-  said_as_lem (l ∷ ls) n e = go (begins text line) (said_as_lem ls (n + 1) (sym (drop-drop 1 n rows) ∙ ap (drop 1) e))
-    where
-      text : List ℕ
-      text = bytes (beginning l)
+  pub sample_other : pointwise eqb (take 7 line) (bytes "sample=") ≡ false → Other ≡ sample_of line
+  unfolding sample_of
+  sample_other e = rw (begins-other (bytes "sample=") line e)
 
-      here : l ≡ row_at n
-      here = let same : n + 0 ≡ n = omega arith in sym (ap (λ (xs : List Line). get_or xs 0 Bad) e) ∙ get_or-drop n rows 0 Bad ∙ ap row_at same
+  module _ (e : pointwise eqb (take 7 line) (bytes "sample=") ≡ true) {ds : List ℕ} (rest : ds ≡ drop 7 line) where
+    pub sample_key : {key : ℕ} → Some key ≡ decimal_found (decimal_of ds) → Key key ≡ sample_of line
+    unfolding sample_of
+    sample_key k = rw (begins_so (bytes "sample=") line e, ← rest, decimal-some (decimal_of ds) k)
 
-      go : (b : Bool) → said_by ls line ≡ said_as line (find_in (texts_in ls) (n + 1) line)
-          → cond b (whole_line l (drop (length text) line)) (said_by ls line) ≡ said_as line (cond b (Row n (length text)) (find_in (texts_in ls) (n + 1) line))
-      go true later = ap (λ (x : Line). whole_line x (drop (length text) line)) here
-      go false later = later
-
--- ---- the rest of a line, after its row's text
-
-module _ (says : Line) (rest : List ℕ) where
-  module _ {d : Decimal} (read : d ≡ decimal_found (decimal_of rest)) where
-    value-said : (n : Name) (v : ℕ) (o : Option ℕ) → decimal_found o ≡ Value v → Number n v ≡ numbered n o
-    value-said n v (some w) e = cc
-    value-said n v none e = let z : ◌≡◌ {A = ℕ} 0 1 = cc in absurd (omega arith)
-
-    bad_said : (n : Name) (o : Option ℕ) → decimal_found o ≡ NoDecimal → Bad ≡ numbered n o
-    bad_said n (some w) e = let z : ◌≡◌ {A = ℕ} 0 1 = cc in absurd (omega arith)
-    bad_said n none e = refl
-
-    pub whole-number : {n : Name} {v w : ℕ} → says ≡ Number n w → d ≡ Value v → Number n v ≡ whole_line says rest
-    whole-number {n} {v} e q = rw e (value-said n v (decimal_of rest) (sym read ∙ q))
-
-    pub whole-none : {n : Name} {w : ℕ} → says ≡ Number n w → d ≡ NoDecimal → Bad ≡ whole_line says rest
-    whole-none {n} e q = rw e (bad_said n (decimal_of rest) (sym read ∙ q))
-
-no_number : (l : Line) → OneOf (1 ∷ 2 ∷ 3 ∷ []) (tag_of line-type l) → (rest : List ℕ) → whole_line l rest ≡ unless_more rest l
-no_number (Number n v) e rest = absurd (miss (1 ∷ 2 ∷ 3 ∷ []) 0 tt e)
-no_number (Event q) e rest = refl
-no_number Cut e rest = refl
-no_number Bad e rest = refl
-
-module _ (line : List ℕ) (at : ℕ) (says : Line) (other : OneOf (1 ∷ 2 ∷ 3 ∷ []) (tag_of line-type says)) where
-  pub whole_more : at < length line → Bad ≡ whole_line says (drop at line)
-  whole_more h = sym (no_number says other (drop at line) ∙ rw (drop-cons line at 0 h))
-
-  pub whole-alone : length line ≤ at → says ≡ whole_line says (drop at line)
-  whole-alone h = sym (no_number says other (drop at line) ∙ rw (drop_of_length-le line h))
-
--- ---- each way through parse
-
--- the rows' texts, each filled up to 10 bytes
-abbrev filled_rows : List ℕ
-filled_rows = flat_map (λ (text : List ℕ). take 10 (text ++ replicate 10 32)) (texts_in rows)
-
-table : texts_of filled_rows ≡ texts_in rows
-unfolding texts_of flat_map
-table = refl
-
-module _ (line : List ℕ) {f : Found} (found : f ≡ find_in (texts_of filled_rows) 0 line) where
-  said : line_of line ≡ said_as line f
-  unfolding line_of
-  said = said_as_lem line rows 0 refl ∙ ap (λ (texts : List (List ℕ)). said_as line (find_in texts 0 line)) (sym table) ∙ ap (said_as line) (sym found)
-
-  pub by_row : {row at : ℕ} → f ≡ Row row at → {says : Line} → says ≡ row_at row → {r : Line} → r ≡ whole_line says (drop at line) → Parsed line r line
-  unfolding said_as
-  by_row {row} {at} e {says} q w =
-      record { answer = w ∙ ap (λ (l : Line). whole_line l (drop at line)) q ∙ sym (said ∙ ap (said_as line) e); stays = refl }
-
-  pub by_none : f ≡ NoRow → Parsed line Bad line
-  unfolding said_as
-  by_none e = record { answer = sym (said ∙ ap (said_as line) e); stays = refl }
+    pub sample_bad : None ≡ decimal_found (decimal_of ds) → BadSample ≡ sample_of line
+    unfolding sample_of
+    sample_bad k = rw (begins_so (bytes "sample=") line e, ← rest, decimal-none (decimal_of ds) k)

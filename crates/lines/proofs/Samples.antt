@@ -1,7 +1,7 @@
 -- A sample's text says its key, and no other bytes do.
 -- Assumes nothing.
 use Prim.Native.Nat.{ℕ, zero, suc, ◌^◌, ◌≤◌, ◌<◌}
-use mathlib.Core.Path.{◌≡◌, refl, sym, ap, ◌∙◌}
+use mathlib.Core.Path.{◌≡◌, refl, ap, ◌∙◌}
 use mathlib.Core.Bool.{Bool, true, false, cond, ◌&&◌}
 use mathlib.Core.List.{List, [], ◌∷◌, ◌++◌}
 use mathlib.Core.Option.{Option, none, some}
@@ -13,13 +13,7 @@ use lib.Seq.{take_all, length-take-le}
 use Rattle.lines.specs.Lines.{bytes, begins, decimal_of}
 use Rattle.lines.specs.Texts.{decimal_text}
 use Rattle.lines.specs.Samples.{key_found, sample_of, sample_text, SampleTextsSay, OnlySampleTextsSay, SamplesStart, OthersDoNot}
-use Rattle.lines.specs.Found.{decimal_found, start_found, start_of}
-use Rattle.lines.specs.declared.Sample.{Sample}
-use Rattle.lines.specs.declared.Sample.TheVariants.{Key, Bad, Other}
-use Rattle.lines.specs.declared.Decimal.{Decimal}
-use Rattle.lines.specs.declared.Decimal.TheVariants.{Value, Not as NoDecimal}
-use Rattle.lines.specs.declared.Start.{Start}
-use Rattle.lines.specs.declared.Start.TheVariants.{Bytes, Not as NoStart}
+use Rattle.lines.specs.declared.Sample.TheVariants.{Key, Other}
 use Rattle.lines.proofs.Decimals.{decimal_read, decimal_spelt, digits_few}
 use Rattle.lines.proofs.Texts.{begins-split}
 
@@ -90,43 +84,3 @@ sample_enough line = go (dec_le (length line) 28)
           decimal_few (drop 7 (take 28 line)) (omega (arith, length-drop 7 (take 28 line), long)),
           decimal_few (drop 7 line) (omega (arith, length-drop 7 line, l)),
         )
-
--- ---- as the parser finds it
-
-module _ (line : List ℕ) where
-  abbrev begun : Bool → Sample
-  begun b = cond b (key_found (decimal_of (drop 7 line))) Other
-
-  started : (b : Bool) (at : ℕ) → start_found b 7 ≡ Bytes at → (b ≡ true) × (at ≡ 7)
-  started true at e = (refl, cc e)
-  started false at e = let z : ◌≡◌ {A = ℕ} 0 1 = cc in absurd (omega (arith, z))
-
-  unstarted : (b : Bool) → (start_found b 7 ≡ NoStart) → b ≡ false
-  unstarted true e = let z : ◌≡◌ {A = ℕ} 0 1 = cc in absurd (omega (arith, z))
-  unstarted false e = refl
-
-  pub sample_other : {s : Start} → s ≡ start_of (bytes "sample=") line → s ≡ NoStart → Other ≡ sample_of line
-  unfolding sample_of start_of
-  sample_other e n = ap begun (sym (unstarted (begins (bytes "sample=") line) (sym e ∙ n)))
-
-  sample_found : {s : Start} {at : ℕ} → s ≡ start_of (bytes "sample=") line → s ≡ Bytes at → key_found (decimal_of (drop at line)) ≡ sample_of line
-  unfolding sample_of start_of
-  sample_found {s} {at} e b =
-      let t = started (begins (bytes "sample=") line) at (sym e ∙ b) in
-      ap (λ (n : ℕ). key_found (decimal_of (drop n line))) t.1 ∙ ap begun (sym t.0)
-
-  pub sample_key : {s : Start} {at key : ℕ} {d : Decimal} → s ≡ start_of (bytes "sample=") line → s ≡ Bytes at
-      → d ≡ decimal_found (decimal_of (drop at line)) → d ≡ Value key → Key key ≡ sample_of line
-  sample_key {s} {at} {key} e b f v = go (decimal_of (drop at line)) (sym f ∙ v) ∙ sample_found e b
-    where
-      go : (o : Option ℕ) → decimal_found o ≡ Value key → Key key ≡ key_found o
-      go (some w) k = ap Key (sym (cc k))
-      go none k = let z : ◌≡◌ {A = ℕ} 0 1 = cc in absurd (omega (arith, z))
-
-  pub sample_bad : {s : Start} {at : ℕ} {d : Decimal} → s ≡ start_of (bytes "sample=") line → s ≡ Bytes at
-      → d ≡ decimal_found (decimal_of (drop at line)) → d ≡ NoDecimal → Bad ≡ sample_of line
-  sample_bad {s} {at} e b f v = go (decimal_of (drop at line)) (sym f ∙ v) ∙ sample_found e b
-    where
-      go : (o : Option ℕ) → decimal_found o ≡ NoDecimal → Bad ≡ key_found o
-      go (some w) k = let z : ◌≡◌ {A = ℕ} 0 1 = cc in absurd (omega (arith, z))
-      go none k = refl

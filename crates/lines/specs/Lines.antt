@@ -1,7 +1,7 @@
 -- Document 01, "Script program": what a line of the script says.
 -- "Lines of name=decimal, no leading zeros, each ended by a newline": a line here is its bytes without the newline.
 -- Assumes nothing.
-use Rattle.std.specs.Prelude.{ℕ, ◌+◌, ◌-◌, ◌*◌, ◌^◌, Bool, true, false, not, ◌&&◌, cond, List, [], ◌∷◌, map, length, drop, get_or, eqb, leb, ltb}
+use Rattle.std.specs.Prelude.{ℕ, ◌+◌, ◌-◌, ◌*◌, ◌^◌, Bool, true, false, not, ◌&&◌, cond, List, [], ◌∷◌, map, length, drop, eqb, leb, ltb}
 use Prim.Native.Char.{code}
 use Prim.Native.String.{String, [] as no_text, ◌∷◌ as ◌then◌}
 use Rattle.std.proofs.Math.Option.{Option, none, some}
@@ -90,9 +90,6 @@ rows =
     ∷ Number Mul1 0
     ∷ Number Mul2 0
     ∷ []
-
-abbrev pub row_at : ℕ → Line
-row_at n = get_or rows n Bad
 
 -- whether a line begins with a text
 abbrev pub begins : List ℕ → List ℕ → Bool

@@ -26,13 +26,8 @@ fn outcome(number: u64) {
 // Words `from` to `to` − 1, as far as they are there.
 pub fn words(w: &[u64], from: usize, to: usize) {
     say(b":");
-    let mut i = from;
-    while i < to {
-        if w.len() <= i {
-            return;
-        }
-        tell(w[i]);
-        i += 1;
+    for word in w.iter().take(to).skip(from) {
+        tell(*word);
     }
 }
 
@@ -40,9 +35,9 @@ pub fn words(w: &[u64], from: usize, to: usize) {
 // was written beyond them is told too.
 fn stores(list: &[u64], count: u64) {
     tell(count);
-    for i in 0..list.len() {
-        if i as u64 / 2 < count || list[i] != UNWRITTEN {
-            tell(list[i]);
+    for (i, word) in list.iter().enumerate() {
+        if i as u64 / 2 < count || *word != UNWRITTEN {
+            tell(*word);
         }
     }
 }

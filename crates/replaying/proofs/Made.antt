@@ -14,8 +14,8 @@ use Rattle.rules.specs.Answers.{Query as QueryAnswer}
 use Rattle.rules.proofs.Calls.Meanings.{change-one, query-one}
 use Rattle.listing.specs.Promises.{Changed as ChangedBy}
 use Rattle.querying.specs.Promises.{Queried}
-use Rattle.following.specs.declared.Cut.{Cut}
-use Rattle.following.specs.declared.Cut.TheVariants.{None, After}
+use Rattle.following.specs.Scripts.{Under}
+use Rattle.std.specs.Prelude.{Some, None}
 use Rattle.replaying.specs.Events.{lent, call_of, queried, either, event_of, kept_under, change_answer, answer_to, table_after, Called, ChangeMade, EventDone}
 use Rattle.replaying.specs.declared.Answer.{Answer}
 use Rattle.replaying.specs.declared.Answer.TheVariants.{Changed, Found}
@@ -41,14 +41,14 @@ not_changed x k r e = miss (0 ∷ 1 ∷ 3 ∷ 4 ∷ 5 ∷ 6 ∷ []) 2 tt (rw e a
 
 -- ---- the event
 
-module _ (q : ScriptCall) (c : Cut) (t : Table) where
+module _ (q : ScriptCall) (c : Under) (t : Table) where
   pub after_event : after t (event_of q c) ≡ (make_result t (change_result t lent (call_of q)).1 (kept_under c (reported (change_result t lent (call_of q)).0))).1
   after_event = go c
     where
-      go : (d : Cut)
+      go : (d : Under)
           → after t (event_of q d) ≡ (make_result t (change_result t lent (call_of q)).1 (kept_under d (reported (change_result t lent (call_of q)).0))).1
       go None = refl
-      go (After n line) = refl
+      go (Some under) = refl
 
   module _ {x : Answer} {w : Table} {m : List ℕ} (d : Called q t lent x w m) where
     -- a change, whose stores are then made

@@ -16,8 +16,9 @@ use Rattle.rules.specs.declared.Refusal.TheVariants.{BadCreation}
 use Rattle.rules.specs.Answers.{Verdict}
 use Rattle.rules.proofs.Calls.Meanings.{verdict_one}
 use Rattle.following.specs.Sentences.{Changing}
-use Rattle.following.specs.declared.Cut.{Cut}
-use Rattle.following.specs.declared.Cut.TheVariants.{None as no_cut, After as cut_after}
+use Rattle.following.specs.Scripts.{Under}
+use Rattle.following.specs.Scripts.{cut_after}
+use Rattle.std.specs.Prelude.{None as no_cut}
 use Rattle.following.specs.declared.Due.TheVariants.{Nothing as no_more}
 use Rattle.following.specs.declared.Script.{Script}
 use Rattle.following.specs.declared.Asked.TheVariants.{Table as ask_table}
@@ -53,10 +54,10 @@ module _ (room : List ℕ) (p : Replay) (next : Script) (q : ScriptCall) (changi
   told-stores : reported r ≡ stores
   told-stores = reported-value r ∙ ap (λ (m : Meaning). get_or m.values 0 0) tells.means
 
-  kept-stores : (c : Cut) → kept_under c (reported (change_result (table_of p room) lent (call_of q)).0) ≡ kept_under c stores
+  kept-stores : (c : Under) → kept_under c (reported (change_result (table_of p room) lent (call_of q)).0) ≡ kept_under c stores
   kept-stores c = ap (λ (x : Change). kept_under c (reported x)) tells.own ∙ ap (kept_under c) told-stores
 
-  answered : (c : Cut) {answer : Answer} {made : ℕ} → change_answer c r ≡ answer → kept_under c stores ≡ made → Answered room p next q c answer made
+  answered : (c : Under) {answer : Answer} {made : ℕ} → change_answer c r ≡ answer → kept_under c stores ≡ made → Answered room p next q c answer made
   unfolding answer_to table_after
   answered c a k =
       let n = no_query q changing in

@@ -1,6 +1,6 @@
 -- From what the inner functions do to what a line makes of a replay.
 -- Assumes nothing.
-use Rattle.std.proofs.Common.{◌≡◌, ℕ, ◌<◌, ◌≤◌, min, Bool, List, ◌++◌, length, take, drop, sym, refl, ap, ◌∙◌, le-leb}
+use Rattle.std.proofs.Common.{◌≡◌, ℕ, ◌<◌, ◌≤◌, min, List, ◌++◌, length, take, drop, sym, refl, ap, ◌∙◌, le-leb}
 use borrow.Author.Tests.{lt-leb}
 use Rattle.rules.specs.Words.{Table, words_for}
 use Rattle.rules.specs.Results.{create_result}
@@ -11,50 +11,26 @@ use Rattle.rules.specs.Answers.{Verdict}
 use Rattle.std.specs.Prelude.{Ok, Err}
 use Rattle.rules.proofs.Calls.Meanings.{verdict_one}
 use Rattle.making.specs.Promises.{Created}
-use Rattle.lines.specs.declared.Line.{Line}
-use Rattle.following.specs.Scripts.{reading_of, ending_of}
-use Rattle.following.specs.declared.Cut.{Cut}
+use Rattle.following.specs.Scripts.{Under}
 use Rattle.following.specs.declared.Script.{Script}
-use Rattle.following.specs.declared.Asked.{Asked}
-use Rattle.following.specs.declared.Asked.TheVariants.{Nothing as ask_nothing, Table as ask_table, Event as ask_event, Bad as ask_end}
-use Rattle.following.specs.declared.Reading.{Reading}
-use Rattle.following.specs.declared.Ending.{Ending}
+use Rattle.following.specs.declared.Asked.TheVariants.{Table as ask_table, Event as ask_event}
 use Rattle.replaying.specs.Events.{EventDone}
-use Rattle.replaying.specs.Replays.{moved, counted, stopped, created, asked_of, turn_of, finished, finish_of, TurnIs}
+use Rattle.replaying.specs.Replays.{counted, stopped, created, asked_of, TurnIs}
 use Rattle.replaying.specs.declared.Answer.{Answer}
-use Rattle.replaying.specs.declared.Answer.TheVariants.{Nothing, Created as CreatedAs, Bad}
+use Rattle.replaying.specs.declared.Answer.TheVariants.{Created as CreatedAs}
 use Rattle.replaying.specs.declared.Replay.{Replay}
 use Rattle.replaying.specs.declared.Turn.{Turn}
 use Rattle.replaying.proofs.Rooms.{take_least, drop_least}
 
--- nothing is done
-module _ (p : Replay) (next : Script) (room : List ℕ) {r : Turn} where
-  pub nothing-taken : (r.replay ≡ moved p next) × (r.answer ≡ Nothing) → TurnIs (asked_of room p next ask_nothing) r room
-  nothing-taken d = record { replay = d.0; answer = d.1; room = refl }
-
-  pub end-taken : (line : ℕ) → (r.replay ≡ moved p next) × (r.answer ≡ Bad line) → TurnIs (asked_of room p next (ask_end line)) r room
-  end-taken line d = record { replay = d.0; answer = d.1; room = refl }
-
 -- in the lent words
 module _ (p : Replay) (next : Script) (room : List ℕ) {r : Turn} {n : ℕ} (lent : n ≡ min p.words (length room)) where
-  pub event_taken : {x : Answer} {u : Table} (q : ScriptCall) (under : Cut) → EventDone q under (take n room) x u
+  pub event_taken : {x : Answer} {u : Table} (q : ScriptCall) (under : Under) → EventDone q under (take n room) x u
       → (r.replay ≡ counted p next) × (r.answer ≡ x) → TurnIs (asked_of room p next (ask_event q under)) r (u ++ drop n room)
   event_taken {x} {u} q under d c =
       let table : take n room ≡ take p.words room = ap (λ (k : ℕ). take k room) lent ∙ take_least p.words room in
       let rest : drop n room ≡ drop p.words room = ap (λ (k : ℕ). drop k room) lent ∙ drop_least p.words room in
       let e : EventDone q under (take p.words room) x u = rw table at d in
       record { replay = c.0; answer = c.1 ∙ e.answer; room = rw (rest, e.table) }
-
--- ---- the whole turn
-
-pub turn_as : (room : List ℕ) (p : Replay) (line : Line) (r : Reading) → r ≡ reading_of p.script line → (a : Asked) → r.asked ≡ a
-    → {x : Turn} {left : List ℕ} → TurnIs (asked_of room p r.script a) x left → TurnIs (turn_of room p line) x left
-unfolding turn_of
-turn_as room p line r e a f t = rw (← e) (rw (← f) at t)
-
-pub finish_as : (p : Replay) (torn : Bool) (e : Ending) {x : Answer} → e ≡ ending_of p.script torn → x ≡ finished p e → x ≡ finish_of p torn
-unfolding finish_of
-finish_as p torn e q f = f ∙ ap (finished p) q
 
 -- ---- the table
 

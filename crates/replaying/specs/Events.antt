@@ -9,8 +9,8 @@ use Rattle.rules.specs.Histories.{Event, whole, cut, reported, after}
 use Rattle.rules.specs.declared.ScriptCall.{ScriptCall}
 use Rattle.rules.specs.declared.ScriptCall.TheVariants.{Query, Insert, Update, Delete, Begin, Shrink, Back, Step, End, Recover}
 use Rattle.rules.specs.Answers.{Change}
-use Rattle.following.specs.declared.Cut.{Cut}
-use Rattle.following.specs.declared.Cut.TheVariants.{None, After}
+use Rattle.following.specs.Scripts.{Under}
+use Rattle.std.specs.Prelude.{Some, None}
 use Rattle.replaying.specs.declared.Answer.{Answer}
 use Rattle.replaying.specs.declared.Answer.TheVariants.{Changed, Kept, Found}
 
@@ -49,24 +49,24 @@ either (some key) found changed = found key
 either none found changed = changed
 
 -- "`op=cut` .. lets only that many of its stores be made, or all if there are fewer"
-abbrev pub event_of : ScriptCall → Cut → Event
+abbrev pub event_of : ScriptCall → Under → Event
 event_of q None = whole (call_of q) lent
-event_of q (After n line) = cut (call_of q) lent n
+event_of q (Some under) = cut (call_of q) lent under.stores
 
-abbrev pub kept_under : Cut → ℕ → ℕ
+abbrev pub kept_under : Under → ℕ → ℕ
 kept_under None stores = stores
-kept_under (After n line) stores = min n stores
+kept_under (Some under) stores = min under.stores stores
 
 -- "An event under a cut line adds `kept=`, the stores made, after `stores=`"
-abbrev pub change_answer : Cut → Change → Answer
+abbrev pub change_answer : Under → Change → Answer
 change_answer None r = Changed r
-change_answer (After n line) r = Kept r (kept_under (After n line) (reported r))
+change_answer (Some under) r = Kept r (kept_under (Some under) (reported r))
 
-unfoldable pub answer_to : Table → ScriptCall → Cut → Answer
+unfoldable pub answer_to : Table → ScriptCall → Under → Answer
 answer_to t q c = either (queried q) (λ key. Found (query_result t key)) (change_answer c (change_result t lent (call_of q)).0)
 
 -- a query leaves the table as it is
-unfoldable pub table_after : Table → ScriptCall → Cut → Table
+unfoldable pub table_after : Table → ScriptCall → Under → Table
 table_after t q c = either (queried q) (λ key. t) (after t (event_of q c))
 
 -- ---- what the code promises. The call itself: its own answer, and the table and list that it leaves
@@ -77,11 +77,11 @@ pub record Called (q : ScriptCall) (t : Table) (l : List ℕ) (r : Answer) (u : 
   pub list : queried q ≡ none → m ≡ (change_result t l (call_of q)).1
 
 -- the stores of list l made on table t, which leaves table u
-pub record ChangeMade (r : Change) (c : Cut) (t : Table) (l : List ℕ) (x : Answer) (u : Table) : Type 0 where
+pub record ChangeMade (r : Change) (c : Under) (t : Table) (l : List ℕ) (x : Answer) (u : Table) : Type 0 where
   pub answer : x ≡ change_answer c r
   pub table : u ≡ (make_result t l (kept_under c (reported r))).1
 
 -- the event
-pub record EventDone (q : ScriptCall) (c : Cut) (t : Table) (r : Answer) (u : Table) : Type 0 where
+pub record EventDone (q : ScriptCall) (c : Under) (t : Table) (r : Answer) (u : Table) : Type 0 where
   pub answer : r ≡ answer_to t q c
   pub table : u ≡ table_after t q c

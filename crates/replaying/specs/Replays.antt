@@ -10,7 +10,7 @@ use Rattle.std.specs.Prelude.{Ok, Err}
 use Rattle.lines.specs.declared.Line.{Line}
 use Rattle.following.specs.Scripts.{start, reading_of, ending_of}
 use Rattle.following.specs.declared.Due.TheVariants.{Nothing as no_more}
-use Rattle.following.specs.declared.Cut.TheVariants.{None as no_cut}
+use Rattle.std.specs.Prelude.{None as no_cut}
 use Rattle.following.specs.declared.Script.{Script}
 use Rattle.following.specs.declared.Asked.{Asked}
 use Rattle.following.specs.declared.Asked.TheVariants.{Nothing as ask_nothing, Table as ask_table, Event as ask_event, Bad as ask_end}

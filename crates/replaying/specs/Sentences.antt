@@ -15,8 +15,9 @@ use Rattle.std.specs.Prelude.{Ok, Err}
 use Rattle.following.specs.Scripts.{ending_of}
 use Rattle.following.specs.Sentences.{Changing}
 use Rattle.following.specs.declared.Ending.TheVariants.{Whole, Bad as Torn, Over}
-use Rattle.following.specs.declared.Cut.{Cut}
-use Rattle.following.specs.declared.Cut.TheVariants.{None as no_cut, After as cut_after}
+use Rattle.following.specs.Scripts.{Under}
+use Rattle.following.specs.Scripts.{cut_after}
+use Rattle.std.specs.Prelude.{None as no_cut}
 use Rattle.following.specs.declared.Due.TheVariants.{Nothing as no_more}
 use Rattle.following.specs.declared.Script.{Script}
 use Rattle.following.specs.declared.Asked.TheVariants.{Nothing as ask_nothing, Table as ask_table, Event as ask_event, Bad as ask_end}
@@ -37,7 +38,7 @@ abbrev pub list_after : List ℕ → Replay → ScriptCall → List ℕ
 list_after room p q = (change_result (table_of p room) lent (call_of q)).1
 
 -- this is answered, so many of its stores are made, in the table's words alone, and one event more is counted
-pub record Answered (room : List ℕ) (p : Replay) (next : Script) (q : ScriptCall) (under : Cut) (answer : Answer) (made : ℕ) : Type 0 where
+pub record Answered (room : List ℕ) (p : Replay) (next : Script) (q : ScriptCall) (under : Under) (answer : Answer) (made : ℕ) : Type 0 where
   pub said : (asked_of room p next (ask_event q under)).answer ≡ answer
   pub words : (asked_of room p next (ask_event q under)).room ≡ (make_result (table_of p room) (list_after room p q) made).1 ++ drop p.words room
   pub count : (asked_of room p next (ask_event q under)).replay.events ≡ (p.events + 1) % 2 ^ 64
@@ -61,7 +62,7 @@ CutChangesAnswered = (room : List ℕ) (p : Replay) (next : Script) (q : ScriptC
 
 -- "answer=0, fn=10, at=20, probes=1", and `word=` and `level=`: the answer that has the number, the record, the count and where the key stands.
 -- The words stay, and one event more is counted
-pub record QueryAnswered (room : List ℕ) (p : Replay) (next : Script) (key : ℕ) (under : Cut) (number f place count word level : ℕ) : Type 0 where
+pub record QueryAnswered (room : List ℕ) (p : Replay) (next : Script) (key : ℕ) (under : Under) (number f place count word level : ℕ) : Type 0 where
   pub answer : QueryAnswer
   pub said : (asked_of room p next (ask_event (Query key) under)).answer ≡ Found answer
   pub means : query_means answer ≡ record { number = number; values = f ∷ place ∷ count ∷ word ∷ level ∷ [] }
@@ -69,7 +70,7 @@ pub record QueryAnswered (room : List ℕ) (p : Replay) (next : Script) (key : �
   pub counted : (asked_of room p next (ask_event (Query key) under)).replay.events ≡ (p.events + 1) % 2 ^ 64
 
 abbrev pub QueriesAnswered : Type 0
-QueriesAnswered = (room : List ℕ) (p : Replay) (next : Script) (key : ℕ) (under : Cut) (number f place count word level : ℕ)
+QueriesAnswered = (room : List ℕ) (p : Replay) (next : Script) (key : ℕ) (under : Under) (number f place count word level : ℕ)
     → query_means (query_result (table_of p room) key) ≡ record { number = number; values = f ∷ place ∷ count ∷ word ∷ level ∷ [] }
     → QueryAnswered room p next key under number f place count word level
 

@@ -4,7 +4,7 @@ ghost use Rattle.replaying.specs.Events.{kept_under, change_answer, Called, Chan
 
 use crate::Answer;
 use changing::{delete, insert, update};
-use following::Cut;
+use following::CutLine;
 use growing::{back, begin, end, shrink, step};
 use making::make;
 use numbering::reported;
@@ -35,34 +35,34 @@ fn called(t: &[u64], list: &mut [u64], call: ScriptCall) -> Answer
 }
 
 // "lets only that many of its stores be made, or all if there are fewer"
-fn kept(cut: Cut, stores: u64) -> u64
+fn kept(cut: Option<CutLine>, stores: u64) -> u64
     ensures { result ≡ kept_under cut stores }
 {
     match cut {
-        Cut::None => stores,
-        Cut::After(n, _) => { if n < stores { n } else { stores } }
+        Some(cut) => cut.stores.min(stores),
+        None => stores,
     }
 }
 
 // "An event under a cut line adds `kept=`, the stores made, after `stores=`"
-fn answer(cut: Cut, change: Change) -> Answer
+fn answer(cut: Option<CutLine>, change: Change) -> Answer
     ensures { result ≡ change_answer cut change }
 {
     match cut {
-        Cut::None => Answer::Changed(change),
-        Cut::After(_, _) => Answer::Kept(change, kept(cut, reported(change))),
+        Some(_) => Answer::Kept(change, kept(cut, reported(change))),
+        None => Answer::Changed(change),
     }
 }
 
 // The stores of a change are made.
-fn make_change(t: &mut [u64], list: &[u64], change: Change, cut: Cut) -> Answer
+fn make_change(t: &mut [u64], list: &[u64], change: Change, cut: Option<CutLine>) -> Answer
     ensures { ChangeMade change cut t.old list.now result t.new }
 {
     let _ = make(t, list, kept(cut, reported(change)));
     answer(cut, change)
 }
 
-pub fn event(t: &mut [u64], call: ScriptCall, cut: Cut) -> Answer
+pub fn event(t: &mut [u64], call: ScriptCall, cut: Option<CutLine>) -> Answer
     ensures { EventDone call cut t.old result t.new }
 {
     let mut space = [0; 20];

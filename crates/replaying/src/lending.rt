@@ -5,5 +5,5 @@ ghost use Rattle.std.specs.Prelude.{◌≡◌, min};
 pub fn least(asked: usize, there: usize) -> usize
     ensures { result ≡ min asked there }
 {
-    if asked < there { asked } else { there }
+    asked.min(there)
 }

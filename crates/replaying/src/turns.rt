@@ -7,12 +7,11 @@ ghost use Rattle.replaying.specs.Replays.{begun as begun_of, stopped, counted, m
 use crate::events::event;
 use crate::lending::least;
 use crate::{Answer, Replay, Turn};
-use following::{Asked, Cut, Due, Ending, Script, finish as end_of, read, start};
+use following::{Asked, CutLine, Due, Ending, Script, finish as end_of, read, start};
 use lines::Line;
 use making::create;
 use reading::header::words_for;
 use rules::{Refusal, ScriptCall};
-use std::num::wrapping_add_u64;
 
 pub fn begun() -> Replay
     ensures { result ≡ begun_of }
@@ -36,11 +35,10 @@ fn unmade(p: Replay, next: Script, refusal: Refusal) -> Turn
                 first: 0,
                 second: 0,
                 third: 0,
-                cut: Cut::None,
+                cut: None,
                 lines: next.lines,
             },
-            words: p.words,
-            events: p.events,
+            ..p
         },
         answer: Answer::Created(Err(refusal)),
     }
@@ -55,13 +53,12 @@ fn tabled(p: Replay, next: Script, room: &mut [u64], c: u64, k: u64, mul1: u64, 
     }
     let words = words_for(c);
     let lent = least(words, room.len());
-    let verdict = create(&mut room[..lent], 1, c, k, mul1, mul2);
-    match verdict {
+    match create(&mut room[..lent], 1, c, k, mul1, mul2) {
         Ok(()) => Turn {
             replay: Replay {
                 script: next,
                 words,
-                events: p.events,
+                ..p
             },
             answer: Answer::Created(Ok(())),
         },
@@ -76,15 +73,21 @@ fn answered(p: Replay, next: Script, answer: Answer) -> Turn
     Turn {
         replay: Replay {
             script: next,
-            words: p.words,
-            events: wrapping_add_u64(p.events, 1),
+            events: p.events.wrapping_add(1),
+            ..p
         },
         answer,
     }
 }
 
 // Carries out one event, which the script need not have.
-pub fn evented(p: Replay, next: Script, room: &mut [u64], call: ScriptCall, cut: Cut) -> Turn
+pub fn evented(
+    p: Replay,
+    next: Script,
+    room: &mut [u64],
+    call: ScriptCall,
+    cut: Option<CutLine>,
+) -> Turn
     ensures { TurnIs (asked_of room.old p next (ask_event call cut)) result room.new }
 {
     let lent = least(p.words, room.len());
@@ -97,23 +100,18 @@ fn passed(p: Replay, next: Script, answer: Answer) -> Turn
     ensures { (result.replay ≡ moved p next) × (result.answer ≡ answer) }
 {
     Turn {
-        replay: Replay {
-            script: next,
-            words: p.words,
-            events: p.events,
-        },
+        replay: Replay { script: next, ..p },
         answer,
     }
 }
 
+#[tactic(auto, unfolding(crate::specs::Replays::turn_of))]
 pub fn take_line(p: Replay, room: &mut [u64], line: Line) -> Turn
     ensures { TurnIs (turn_of room.old p line) result room.new }
 {
-    let script = p.script;
-    let reading = read(script, line);
+    let reading = read(p.script, line);
     let next = reading.script;
-    let asked = reading.asked;
-    match asked {
+    match reading.asked {
         Asked::Nothing => passed(p, next, Answer::Nothing),
         Asked::Table(c, k, mul1, mul2) => tabled(p, next, room, c, k, mul1, mul2),
         Asked::Event(call, cut) => evented(p, next, room, call, cut),
@@ -121,12 +119,11 @@ pub fn take_line(p: Replay, room: &mut [u64], line: Line) -> Turn
     }
 }
 
+#[tactic(auto, unfolding(crate::specs::Replays::finish_of))]
 pub fn finish(p: Replay, torn: bool) -> Answer
     ensures { result ≡ finish_of p torn }
 {
-    let script = p.script;
-    let end = end_of(script, torn);
-    match end {
+    match end_of(p.script, torn) {
         Ending::Whole => Answer::Events(p.events),
         Ending::Bad(line) => Answer::Bad(line),
         Ending::Over => Answer::Nothing,

@@ -20,8 +20,8 @@ use Rattle.reporting.specs.Promises.{Reported}
 -- ---- a line for each function
 
 -- "as `fn10=3`"
-pub function-put : (f n : ℕ) {l m₁ m₂ m₃ m₄ m₅ : List ℕ} {a b c d e : ℕ} → Put (bytes "fn") 0 l a m₁ → Put (decimal_text f) a m₁ b m₂
-    → Put (bytes "=") b m₂ c m₃ → Put (decimal_text n) c m₃ d m₄ → Put (10 ∷ []) d m₄ e m₅ → Put (function_text f n) 0 l e m₅
+pub function-put : (f n : ℕ) {l m₁ m₂ m₃ m₄ m₅ : List ℕ} {at a b c d e : ℕ} → Put (bytes "fn") at l a m₁ → Put (decimal_text f) a m₁ b m₂
+    → Put (bytes "=") b m₂ c m₃ → Put (decimal_text n) c m₃ d m₄ → Put (10 ∷ []) d m₄ e m₅ → Put (function_text f n) at l e m₅
 unfolding function_text
 function-put f n p q r s t = then (then (then (then p q) r) s) t
 

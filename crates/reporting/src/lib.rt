@@ -10,20 +10,18 @@ ghost use Rattle.reporting.specs.Promises.{longest, Reported};
 
 use crediting::{Counts, Ledger, Stage};
 use numbering::number;
-use saying::{TEXT_BYTES, copy, copy_text, put_line, tell};
+use saying::{copy, put_line, tell};
 
 // "one `fn` line for each function ascending (as `fn10=3`)"
 fn put_function(function: u64, samples: u64, out: &mut [u8], at: usize) -> usize
     requires { at + 44 ≤ length out.old }
     ensures { Put (function_text function samples) at out.old result out.new × (result ≤ at + 44) }
 {
-    let mut text = [0u8; TEXT_BYTES];
-    let named = copy_text(b"fn", 2, &mut text, 0);
-    let told = tell(function, &mut text, named);
-    let equal = copy_text(b"=", 1, &mut text, told);
-    let counted = tell(samples, &mut text, equal);
-    let n = copy_text(b"\n", 1, &mut text, counted);
-    copy(&text[..n], n, out, at)
+    let named = copy(b"fn", out, at);
+    let told = tell(function, out, named);
+    let equal = copy(b"=", out, told);
+    let counted = tell(samples, out, equal);
+    copy(b"\n", out, counted)
 }
 
 // A line for each of the first functions.

@@ -12,8 +12,8 @@ use Rattle.lines.specs.declared.Line.{Line}
 use Rattle.following.specs.Scripts.{expected, reading_of, at_event, ended_at, ending_of}
 use Rattle.following.specs.declared.Due.{Due}
 use Rattle.following.specs.declared.Due.TheVariants.{Number as a_number, Event as an_event, Nothing as no_more}
-use Rattle.following.specs.declared.Cut.{Cut}
-use Rattle.following.specs.declared.Cut.TheVariants.{None as no_cut, After as cut_after}
+use Rattle.following.specs.Scripts.{Under}
+use Rattle.std.specs.Prelude.{Some, None as no_cut}
 use Rattle.following.specs.declared.Asked.TheVariants.{Nothing as ask_nothing}
 use Rattle.following.specs.declared.Reading.{Reading}
 use Rattle.replaying.specs.Replays.{Turned, asked_of, turn_of, finished, finish_of}
@@ -117,11 +117,11 @@ unended : (p : Replay) (torn : Bool) (d : Due) → over_at d ≡ false → silen
 unended p torn (a_number w) e = refl
 unended p torn an_event e = at p.script.cut torn
   where
-    at : (c : Cut) (b : Bool) → silent (finished p (at_event p.script c b)) ≡ false
+    at : (c : Under) (b : Bool) → silent (finished p (at_event p.script c b)) ≡ false
     at no_cut true = refl
     at no_cut false = refl
-    at (cut_after n line) true = refl
-    at (cut_after n line) false = refl
+    at (Some under) true = refl
+    at (Some under) false = refl
 unended p torn no_more e = absurd (false_true (sym e))
 
 pub unknown_is_not_all : UnknownIsNotAll

@@ -58,19 +58,14 @@ pub fn hold(line: &mut [u8; LINE_ROOM], held: usize, byte: u8) -> usize
 fn take_newline(run: Run, room: &mut [u64], line: &[u8; LINE_ROOM]) -> Taken
     ensures { LineTaken run room.old line.now result room.new }
 {
-    let bytes: &[u8] = line;
-    let held = least(run.held, bytes.len());
-    let said = parse(&bytes[..held]);
-    let replay = run.replay;
-    let turn = take_line(replay, room, said);
-    let next = turn.replay;
-    let answer = turn.answer;
+    let held = least(run.held, line.len());
+    let turn = take_line(run.replay, room, parse(&line[..held]));
     Taken {
         run: Run {
-            replay: next,
+            replay: turn.replay,
             held: 0,
         },
-        answer,
+        answer: turn.answer,
     }
 }
 
@@ -80,10 +75,11 @@ pub fn take_byte(run: Run, room: &mut [u64], line: &mut [u8; LINE_ROOM], byte: u
     if byte == b'\n' {
         return take_newline(run, room, line);
     }
-    let mut next = run;
-    next.held = hold(line, run.held, byte);
     Taken {
-        run: next,
+        run: Run {
+            held: hold(line, run.held, byte),
+            ..run
+        },
         answer: Answer::Nothing,
     }
 }
@@ -92,20 +88,13 @@ pub fn take_byte(run: Run, room: &mut [u64], line: &mut [u8; LINE_ROOM], byte: u
 pub fn known(run: Run) -> bool
     ensures { result ≡ known_of run }
 {
-    let replay = run.replay;
-    let script = replay.script;
-    let due = script.due;
-    match due {
-        Due::Number(_) => false,
-        Due::Event => false,
-        Due::Nothing => true,
-    }
+    matches!(run.replay.script.due, Due::Nothing)
 }
 
 // What no newline ends is a torn line.
+#[tactic(auto, unfolding(crate::specs::Runs::end_of))]
 pub fn end(run: Run) -> Answer
     ensures { result ≡ end_of run }
 {
-    let replay = run.replay;
-    finish(replay, 0 < run.held)
+    finish(run.replay, 0 < run.held)
 }

@@ -7,7 +7,7 @@ use mathlib.Core.List.{List, [], ◌∷◌, ◌++◌, flat_map, append-nil, appe
 use native.Mathlib.Nat.{zero-add}
 use native.Mathlib.Omega.{arith}
 use lib.ListN.{length, take, drop}
-use lib.Seq.{sets-eq, take-take, take-append_seam, drop-append_seam}
+use lib.Seq.{sets-eq, take-append_seam, drop-append_seam}
 use Rattle.rules.specs.Answers.{Meaning, change_means, verdict_means}
 use Rattle.rules.specs.Histories.{reported}
 use Rattle.rules.specs.Answers.{Change}
@@ -20,7 +20,7 @@ use Rattle.replaying.specs.declared.Answer.TheVariants.{Nothing, Changed}
 use Rattle.lines.specs.Lines.{bytes}
 use Rattle.saying.specs.Texts.{Line, line_text, found_lines, created_lines, lines_of, text_of}
 use Rattle.saying.specs.Promises.{Said}
-use Rattle.saying.specs.Writing.{put_at, Put, PutAll, PutLines, line_with}
+use Rattle.saying.specs.Writing.{put_at, Put, PutAll, line_with}
 use Rattle.saying.proofs.Puts.{put_length, then}
 
 -- a line that is put with its name and `=` as one text
@@ -58,9 +58,9 @@ line_after xs x p q = rw (← (lines_after xs x)) (then p q)
 
 -- ---- a query
 
-pub found-put : {a b : Meaning} {l m : List ℕ} {r : ℕ} → a ≡ b → PutAll (found_lines a.number a.values) l r m
-    → PutAll (found_lines b.number b.values) l r m
-found-put {l = l} {m} {r} e p = subst (λ (z : Meaning). PutAll (found_lines z.number z.values) l r m) e p
+pub found-put : {a b : Meaning} {l m : List ℕ} {at r : ℕ} → a ≡ b → PutAll (found_lines a.number a.values) at l r m
+    → PutAll (found_lines b.number b.values) at l r m
+found-put {l = l} {m} {at} {r} e p = subst (λ (z : Meaning). PutAll (found_lines z.number z.values) at l r m) e p
 
 -- ---- a change, and creation
 
@@ -86,7 +86,7 @@ from_front : (l text : List ℕ) → 0 + length text ≤ length l → put_at l 0
 unfolding put_at
 from_front l text h = rw (sets-eq text l 0 h, zero-add)
 
-pub said : (answer : Answer) {l m : List ℕ} {r : ℕ} → PutLines answer l r m → Said answer l r m
+pub said : (answer : Answer) {l m : List ℕ} {r : ℕ} → Put (text_of answer) 0 l r m → Said answer l r m
 unfolding text_of
 said answer {l} {m} {r} p =
     record {
@@ -106,17 +106,8 @@ said answer {l} {m} {r} p =
     text : take r m ≡ text_of answer
     text = rw (front, size, take-append_seam)
 
--- nothing to say
-pub said-nothing : (l : List ℕ) → Said Nothing l 0 l
-unfolding text_of flat_map
-said-nothing l = record { size = refl; text = refl; rest = refl; within = (omega arith, refl); room = omega arith }
-
--- ---- into a longer buffer
+-- ---- each answer
 
 pub nothing_put : {at : ℕ} (l : List ℕ) → at ≤ length l → Put (text_of Nothing) at l at l
 unfolding text_of flat_map put_at
 nothing_put l h = record { room = omega (arith, h); next = omega arith; buffer = refl }
-
-pub said_put : {answer : Answer} {n : ℕ} {k m : List ℕ} → Said answer k n m → {at r : ℕ} {l out : List ℕ} → Put (take n (take n m)) at l r out
-    → Put (text_of answer) at l r out
-said_put {answer} {n} {k} {m} s p = let same : take n (take n m) ≡ text_of answer = take-take n n m (omega arith) ∙ s.text in rw same at p

@@ -1,13 +1,15 @@
--- A text is put byte by byte, and texts that are put one after the other are put as one text.
+-- A text is put, and texts that are put one after the other are put as one text.
 -- Assumes nothing.
-use Prim.Native.Nat.{ℕ, suc, ◌+◌, ◌≤◌, ◌<◌}
+use Prim.Native.Nat.{ℕ, suc, ◌+◌, ◌≤◌}
 use mathlib.Core.Path.{◌≡◌, refl, sym, ap, ◌∙◌}
-use mathlib.Core.List.{List, [], ◌∷◌, ◌++◌}
+use mathlib.Core.List.{List, [], ◌∷◌, ◌++◌, append_assoc}
 use native.Mathlib.Nat.{add-zero, zero-add}
-use native.Mathlib.Numerals.{add-one}
 use native.Mathlib.Omega.{arith}
-use lib.ListN.{length, take, get_or, set, length-append}
-use lib.Seq.{sets, length-sets, length-take-le, sets-eq, take-suc, take_at, take-take}
+use lib.ListN.{length, take, set, length-append}
+use lib.Seq.{sets, length-sets, length-take-le, sets-eq, take_at}
+use borrow.Rule.Slice.PartMut.{put_mid}
+use Rattle.std.proofs.lemmas.Slice.{put_mid-paste}
+use Rattle.std.proofs.lemmas.List.Edits.{paste_all}
 use Rattle.saying.specs.Writing.{put_at, Put, PutFront, Fronted}
 
 sets_append : (l : List ℕ) (at : ℕ) (xs ys : List ℕ) → sets l at (xs ++ ys) ≡ sets (sets l at xs) (at + length xs) ys
@@ -16,24 +18,14 @@ sets_append l at (x ∷ xs) ys =
     let e : suc at + length xs ≡ at + suc (length xs) = omega arith in
     rw (← e) (sets_append (set l at x) (suc at) xs ys)
 
--- ---- a copy, byte by byte
+-- ---- a copy
 
-module _ (l : List ℕ) (at : ℕ) (text : List ℕ) where
-  pub put-none : l ≡ put_at l at (take 0 text)
-  unfolding put_at
-  put-none = refl
-
-  pub put_next : (i : ℕ) → i < length text → set (put_at l at (take i text)) (at + i) (get_or text i 0) ≡ put_at l at (take (i + 1) text)
-  unfolding put_at
-  put_next i h =
-      rw (add-one, take-suc text i 0 h, sets_append l at (take i text) (get_or text i 0 ∷ []), length-take-le i text (omega arith))
-
-  pub put_all : (i n : ℕ) {m : List ℕ} → i ≤ n → n ≤ i → n ≤ length text → at + n ≤ length l → m ≡ put_at l at (take i text)
-      → Put (take n text) at l (at + n) m
-  put_all i n low high whole room e =
-      let same : i ≡ n = omega arith in
-      let size : length (take n text) ≡ n = length-take-le n text whole in
-      record { room = rw size room; next = rw size; buffer = rw (← same) e }
+pub copied : (l : List ℕ) (at : ℕ) (text : List ℕ) {k : ℕ} {put : List ℕ} → at + length text ≤ length l → k ≡ length text → put ≡ text
+    → Put text at l (at + length text) (put_mid at k l put)
+unfolding put_at
+copied l at text {k} {put} room e same =
+    let whole = put_mid-paste at k l put text (length text) same (sym e) refl ∙ paste_all l at text (length text) refl in
+    record { room = room; next = refl; buffer = whole ∙ sym (append_assoc (take at l) text _) ∙ sym (sets-eq text l at room) }
 
 -- ---- one text after the other
 
@@ -59,7 +51,7 @@ put-text {text} {at} {l = l} p =
     ∙ ap (λ (n : ℕ). n + length text) (length-take-le at l (omega (arith, p.room))) in
     rw (p.buffer, sets-eq text l at p.room, p.next) (take_at (take at l ++ text) _ _ size)
 
--- ---- a text that is put into a small buffer first
+-- ---- what is put has its place
 
 module _ {text : List ℕ} {from n : ℕ} {l m : List ℕ} (p : Put text from l n m) where
   pub put-fits : n ≤ length m
@@ -67,11 +59,6 @@ module _ {text : List ℕ} {from n : ℕ} {l m : List ℕ} (p : Put text from l 
 
   pub put-lent : n ≡ length (take n m)
   put-lent = sym (length-take-le n m put-fits)
-
-pub put_again : {text : List ℕ} {n : ℕ} {l m : List ℕ} → Put text 0 l n m → {at r : ℕ} {out left : List ℕ}
-    → Put (take n (take n m)) at out r left
-    → Put text at out r left
-put_again {n = n} {m = m} p q = let whole : take n (take n m) ≡ _ = take-take n n m (omega arith) ∙ put-text p in rw whole at q
 
 -- ---- a text at the front
 

@@ -31,9 +31,9 @@ Fronted out text = take (length text) out ≡ text
 unfoldable pub line_with : List ℕ → ℕ → List ℕ
 line_with name number = name ++ decimal_text number ++ (10 ∷ [])
 
--- lines, and an answer's lines, put from the front
-abbrev pub PutAll : List Line → List ℕ → ℕ → List ℕ → Type 0
-PutAll lines l r m = Put (flat_map line_text lines) 0 l r m
+-- lines, and an answer's lines, put from byte `at` on
+abbrev pub PutAll : List Line → ℕ → List ℕ → ℕ → List ℕ → Type 0
+PutAll lines at l r m = Put (flat_map line_text lines) at l r m
 
-abbrev pub PutLines : Answer → List ℕ → ℕ → List ℕ → Type 0
-PutLines answer l r m = PutAll (lines_of answer) l r m
+abbrev pub PutLines : Answer → ℕ → List ℕ → ℕ → List ℕ → Type 0
+PutLines answer at l r m = PutAll (lines_of answer) at l r m

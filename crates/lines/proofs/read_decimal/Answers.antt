@@ -1,26 +1,24 @@
 -- `lines::read_decimal` meets its contract: where no zero stands before other digits, the decimal is the digits.
 -- Assumes nothing.
-use mathlib.Core.Path.{◌≡◌, sym, ap, ◌∙◌}
-use lib.ListN.{drop}
+use Rattle.std.proofs.Common.{◌≡◌, sym, ap, ◌∙◌, arith}
 use Rattle.lines.specs.Lines.{decimal_of}
 use Rattle.lines.specs.Found.{digits_from, decimal_found}
 use Rattle.lines.proofs.Digits.{nothing_there, zero_before-others, one_digit, no_zero_before}
 use Rattle.lines.proofs.read_decimal.Goals as goal
-use Rattle.lines.proofs.read_decimal.Goals.{then-line-at-eq48+else-line-at-2, else-line-at-eq48}
+use Rattle.lines.proofs.read_decimal.Goals.{else-first-eq48-via-then-first-eq48+else-digits-gt1, else-first-eq48-via-else-first-eq48}
 
-pub returns-then-line-at : goal.returns-then-line-at
-returns-then-line-at c = sym (ap decimal_found (nothing_there _ _ c.if-line-at.true))
+pub returns-in_default : goal.returns-in_default
+returns-in_default c = sym (ap decimal_found (nothing_there _ c.in_default.len_below))
 
-pub returns-then-line-at-2 : goal.returns-then-line-at-2
-returns-then-line-at-2 c = sym (ap decimal_found (zero_before-others _ _ c.if-line-at.false c.if-line-at-eq48.true c.if-line-at-2.true))
+pub returns-then-digits-gt1 : goal.returns-then-digits-gt1
+returns-then-digits-gt1 c = sym (ap decimal_found (zero_before-others _ (omega arith) c.if-first-eq48.true))
 
 pub returns : goal.returns
 returns c =
-    let a = c.args in
-    let line = a.line.now in
-    let e : decimal_of (drop a.at line) ≡ digits_from 0 (drop a.at line) =
-    elim c.if-line-at-eq48.branch [
-      | then-line-at-eq48+else-line-at-2 w ↦ one_digit line _ c.if-line-at.false w.if-line-at-2.false
-      | else-line-at-eq48 w ↦ no_zero_before line _ c.if-line-at.false w.if-line-at-eq48.false
+    let ds = c.args.digits.now in
+    let e : decimal_of ds ≡ digits_from 0 ds =
+    elim c.else-first-eq48.branch [
+      | else-first-eq48-via-then-first-eq48+else-digits-gt1 w ↦ one_digit ds c.in-len1-up.len_at_least (omega arith)
+      | else-first-eq48-via-else-first-eq48 w ↦ no_zero_before ds c.in-len1-up.len_at_least w.if-first-eq48.false
     ] in
     c.read_digits.ensures ∙ sym (ap decimal_found e)

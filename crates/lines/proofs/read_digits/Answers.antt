@@ -1,60 +1,31 @@
--- `lines::read_digits` meets its contract: the answer for all digits is the answer for those from byte i on, read after others
+-- `lines::read_digits` meets its contract: the answer for all digits is the answer for those from this one on, read after others
 -- that gave `value`.
 -- Assumes nothing.
-use Prim.Native.Nat.{◌+◌, ◌-◌, ◌*◌, ◌^◌, ◌<◌}
-use mathlib.Core.Path.{refl, sym, ap, ◌∙◌}
-use native.Mathlib.Omega.{arith}
-use borrow.Author.Tests.{not-true, not-false, ltb-true, ltb-false}
-use lib.ListN.{get_or}
+use Rattle.std.proofs.Common.{◌≡◌, ◌+◌, ◌-◌, ◌*◌, true, get_or, sym, ap, ◌∙◌, arith}
+use Rattle.lines.specs.Lines.{is_digit}
 use Rattle.lines.specs.Found.{decimal_found}
-use Rattle.lines.proofs.Digits.{digits_none_left, digit_low, digit_high, digit_too_large, digit_read}
+use Rattle.lines.proofs.Digits.{digits_none_left, digit_wrong, digit_too_large, digit_read}
 use Rattle.lines.proofs.read_digits.Goals as goal
-use Rattle.lines.proofs.read_digits.Goals.{Else-too_large}
 
--- the number with one more digit fits, once that is tested
-small : (c : Else-too_large) →
-    10 * c.loop-i.value + (get_or c.args.line.now c.loop-i.i 0 - 48) < 2 ^ 64
-small c = ltb-true _ _ (not-false _ (sym c.too_large.ensures ∙ c.if-too_large.false))
+pub returns-then-not-is_ascii_digit : goal.returns-then-not-is_ascii_digit
+returns-then-not-is_ascii_digit c =
+    sym (ap decimal_found (c.loop-digit.invariant.1 ∙ digit_wrong _ _ _ c.loop-digit-test.true (sym c.is_ascii_digit.ensures.value ∙ c.if-not-is_ascii_digit.true)))
 
-pub loop-i-init : goal.loop-i-init
-loop-i-init c = (refl, omega arith, refl)
+pub returns-in_err-checked_mul : goal.returns-in_err-checked_mul
+returns-in_err-checked_mul c =
+    c.from_residual.ensures ∙ sym (ap decimal_found (c.loop-digit.invariant.1 ∙ digit_too_large _ _ _ c.loop-digit-test.true (omega (arith, c.in_err-checked_mul.ensures))))
 
-pub bounds-line-i : goal.bounds-line-i
-bounds-line-i c = omega arith
+pub returns-in_err-value : goal.returns-in_err-value
+returns-in_err-value c =
+    c.from_residual-in_err-value.ensures ∙ sym (ap decimal_found (c.loop-digit.invariant.1 ∙ digit_too_large _ _ _ c.loop-digit-test.true (omega (arith, c.in_err-value.ensures))))
 
-pub returns-then-d-lt48 : goal.returns-then-d-lt48
-returns-then-d-lt48 c = sym (ap decimal_found (c.loop-i.invariant.2 ∙ digit_low _ _ _ c.loop-i-test.true c.if-d-lt48.true))
-
-pub returns-then-d-gt57 : goal.returns-then-d-gt57
-returns-then-d-gt57 c = sym (ap decimal_found (c.loop-i.invariant.2 ∙ digit_high _ _ _ c.loop-i-test.true c.if-d-gt57.true))
-
-pub overflow_cast-digit : goal.overflow_cast-digit
-overflow_cast-digit c = omega arith
-
-pub too_large-requires : goal.too_large-requires
-too_large-requires c = omega arith
-
-pub returns-then-too_large : goal.returns-then-too_large
-returns-then-too_large c =
-    let large = ltb-false _ _ (not-true _ (sym c.too_large.ensures ∙ c.if-too_large.true)) in
-    sym (ap decimal_found (c.loop-i.invariant.2 ∙ digit_too_large _ _ _ c.loop-i-test.true large))
-
-pub overflow_mul-value : goal.overflow_mul-value
-overflow_mul-value c = omega (arith, small (goal.at.overflow_mul-value c).Else-too_large)
-
-pub overflow_add-value : goal.overflow_add-value
-overflow_add-value c = omega (arith, small (goal.at.overflow_add-value c).Else-too_large)
-
-pub overflow_step-i : goal.overflow_step-i
-overflow_step-i c = omega arith
-
-pub loop-i-smaller : goal.loop-i-smaller
-loop-i-smaller c = omega arith
-
-pub loop-i-preserved : goal.loop-i-preserved
-loop-i-preserved c =
-    let v = c.loop-i.invariant in
-    (v.0, small (goal.at.loop-i-preserved c).Else-too_large, v.2 ∙ digit_read _ _ _ c.loop-i-test.true (omega arith) (omega arith))
+pub loop-digit-preserved : goal.loop-digit-preserved
+loop-digit-preserved c =
+    let v : c.in_ok-value.value ≡ c.loop-digit.value * 10 + (get_or c.args.digits.now c.loop-digit.digit-index 0 - 48)
+    = omega (arith, c.in_ok-value.ensures, c.in_ok-checked_mul.ensures) in
+    let is : is_digit (get_or c.args.digits.now c.loop-digit.digit-index 0) ≡ true
+    = sym c.is_ascii_digit.ensures.value ∙ c.if-not-is_ascii_digit.false in
+    (omega (arith, c.in_ok-value.ensures), c.loop-digit.invariant.1 ∙ digit_read _ _ _ c.loop-digit-test.true v is)
 
 pub returns : goal.returns
-returns c = let v = c.loop-i.invariant in sym (ap decimal_found (v.2 ∙ digits_none_left _ _ _ v.1 c.loop-i-test.false))
+returns c = sym (ap decimal_found (c.loop-digit.invariant.1 ∙ digits_none_left _ _ _ c.loop-digit.invariant.0 c.loop-digit-test.false))

@@ -1,43 +1,10 @@
--- `reporting::put_function` meets its contract.
+-- `reporting::put_function` meets its contract: its parts are put one after the other.
 -- Assumes nothing.
-use Rattle.saying.proofs.Puts.{put-fits, put-lent, put_again}
+use Rattle.std.proofs.Common.{arith}
 use Rattle.reporting.proofs.Putting.{function-put}
-use native.Mathlib.Omega.{arith}
 use Rattle.reporting.proofs.put_function.Goals as goal
-
-pub slice_bounds-text-end : goal.slice_bounds-text-end
-slice_bounds-text-end c = put-fits c.copy_text-n.ensures.0
-
-pub slice_bounds-copy-end : goal.slice_bounds-copy-end
-slice_bounds-copy-end c = put-lent c.copy_text-n.ensures.0
-
-pub copy-requires : goal.copy-requires
-copy-requires c = (
-  omega (arith, put-lent c.copy_text-n.ensures.0),
-  omega (
-    arith,
-    c.requires,
-    c.copy_text-n.ensures.1,
-    c.tell-counted.ensures.1,
-    c.copy_text-equal.ensures.1,
-    c.tell-told.ensures.1,
-    c.copy_text-named.ensures.1,
-  ),
-)
 
 pub returns : goal.returns
 returns c =
-    let whole = function-put _ _
-    c.copy_text-named.ensures.0 c.tell-told.ensures.0 c.copy_text-equal.ensures.0
-    c.tell-counted.ensures.0 c.copy_text-n.ensures.0 in (
-      put_again whole c.copy.ensures.0,
-      omega (
-        arith,
-        c.copy.ensures.1,
-        c.copy_text-n.ensures.1,
-        c.tell-counted.ensures.1,
-        c.copy_text-equal.ensures.1,
-        c.tell-told.ensures.1,
-        c.copy_text-named.ensures.1,
-      ),
-    )
+    let put = function-put c.args.function c.args.samples c.copy-named.ensures c.tell-told.ensures.0 c.copy-equal.ensures c.tell-counted.ensures.0 c.copy.ensures in
+    (put, omega (arith, c.copy-named.ensures.next, c.tell-told.ensures.1, c.copy-equal.ensures.next, c.tell-counted.ensures.1, c.copy.ensures.next))

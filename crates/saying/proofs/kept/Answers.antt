@@ -6,4 +6,4 @@ use Rattle.saying.proofs.LinesPut.{line_after}
 use Rattle.saying.proofs.kept.Goals as goal
 
 pub returns : goal.returns
-returns c = line_after (lines_of (Changed c.args.change)) _ c.changed-third.ensures.0 c.line.ensures.0
+returns c = line_after (lines_of (Changed c.args.change)) _ c.changed-third.ensures.0 c.put_line.ensures.0

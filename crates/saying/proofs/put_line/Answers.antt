@@ -1,17 +1,11 @@
--- `saying::put_line` meets its contract.
+-- `saying::put_line` meets its contract: a name, a decimal and a newline, put one after the other.
 -- Assumes nothing.
-use Rattle.saying.proofs.Puts.{put-fits, put-lent, put_again}
-use native.Mathlib.Omega.{arith}
+use Rattle.std.proofs.Common.{arith}
+use Rattle.saying.specs.Writing.{line_with}
+use Rattle.saying.proofs.Puts.{then}
 use Rattle.saying.proofs.put_line.Goals as goal
 
-pub slice_bounds-row-end : goal.slice_bounds-row-end
-slice_bounds-row-end c = put-fits c.line-n.ensures.0
-
-pub slice_bounds-copy-end : goal.slice_bounds-copy-end
-slice_bounds-copy-end c = put-lent c.line-n.ensures.0
-
-pub copy-requires : goal.copy-requires
-copy-requires c = (omega (arith, put-lent c.line-n.ensures.0), omega (arith, c.line-n.ensures.1))
-
 pub returns : goal.returns
-returns c = (put_again c.line-n.ensures.0 c.copy.ensures.0, omega (arith, c.line-n.ensures.1, c.copy.ensures.1))
+unfolding line_with
+returns c =
+    (then (then c.copy-named.ensures c.tell-told.ensures.0) c.copy.ensures, omega (arith, c.copy.ensures.next, c.tell-told.ensures.1, c.copy-named.ensures.next))
