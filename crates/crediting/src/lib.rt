@@ -11,7 +11,6 @@ ghost use Rattle.crediting.specs.Books.{known_at, CountsAre, LedgerIs, Turned, n
 use following::{Cut, Due, Script};
 use lines::{Sample, parse, parse_sample};
 use querying::query;
-use replaying::lending::least;
 use replaying::{Answer, Replay, begun, evented, finish as script_end, take_line as replay_line};
 use rules::{Change, Query, Refusal, ScriptCall, Verdict};
 use tallying::Tally;
@@ -97,7 +96,7 @@ impl Ledger {
     fn sample(&mut self, room: &[u64], key: u64)
         ensures { LedgerIs (sampled key (book_of self.old room.now)) self.new room.now }
     {
-        let lent = least(self.replay.words, room.len());
+        let lent = self.replay.words.min(room.len());
         self.stage = Stage::Samples;
         self.counts.count(query(&room[..lent], key));
     }

@@ -6,7 +6,6 @@ ghost use Rattle.crediting.specs.Books.{at_end, Turned};
 ghost use Rattle.posting.specs.Posts.{begun, line_ended, after_byte, after_bytes, post_of, PostIs};
 
 use crediting::Ledger;
-use replaying::lending::least;
 use running::{LINE_ROOM, hold};
 
 // Where the bytes before have led to: the ledger, and how many bytes of a line are held.
@@ -31,9 +30,8 @@ impl Posting {
     fn end_line(&mut self, room: &mut [u64], line: &[u8; LINE_ROOM])
         ensures { PostIs (line_ended (post_of self.old room.old line.now)) self.new room.new line.now }
     {
-        let bytes: &[u8] = line;
-        let count = least(self.held, bytes.len());
-        self.ledger.take_line(room, &bytes[..count]);
+        let count = self.held.min(LINE_ROOM);
+        self.ledger.take_line(room, &line[..count]);
         self.held = 0;
     }
 

@@ -41,24 +41,24 @@ fn put_functions(credits: &[Credit], out: &mut [u8], start: usize) -> usize
 }
 
 // "Lines, in order: `samples=`, `none=`, one `fn` line for each function ascending (as `fn10=3`), `other=`, `buckets=`."
-fn put_counts(c: &Counts, out: &mut [u8]) -> usize
+fn put_counts(counts: &Counts, out: &mut [u8]) -> usize
     requires { longest ≤ length out.old }
-    ensures { Put (counts_text (figures_in c.now)) 0 out.old result out.new }
+    ensures { Put (counts_text (figures_in counts.now)) 0 out.old result out.new }
 {
-    let second = put_line(b"samples=", c.samples, out, 0);
-    let third = put_line(b"none=", c.missing, out, second);
-    let others = put_functions(c.tally.credits(), out, third);
-    let last = put_line(b"other=", c.tally.other(), out, others);
-    put_line(b"buckets=", c.buckets, out, last)
+    let second = put_line(b"samples=", counts.samples, out, 0);
+    let third = put_line(b"none=", counts.missing, out, second);
+    let others = put_functions(counts.tally.credits(), out, third);
+    let last = put_line(b"other=", counts.tally.other(), out, others);
+    put_line(b"buckets=", counts.buckets, out, last)
 }
 
 // Puts a ledger's report at the front of a buffer, and answers how many bytes it has.
-pub fn report(l: &Ledger, out: &mut [u8]) -> usize
+pub fn report(ledger: &Ledger, out: &mut [u8]) -> usize
     requires { longest ≤ length out.old }
-    ensures { Reported (report_at l.now.stage (figures_in l.now.counts)) out.old result out.new }
+    ensures { Reported (report_at ledger.now.stage (figures_in ledger.now.counts)) out.old result out.new }
 {
-    match l.stage {
-        Stage::Script | Stage::Samples => put_counts(&l.counts, out),
+    match ledger.stage {
+        Stage::Script | Stage::Samples => put_counts(&ledger.counts, out),
         Stage::Unmade(refusal) => put_line(b"made=", number(refusal), out, 0),
         Stage::Unrecovered(refusal) => put_line(b"answer=", number(refusal), out, 0),
         Stage::Bad(line) => put_line(b"bad=", line, out, 0),

@@ -96,8 +96,8 @@ impl Tally {
 // As many halvings leave nothing of 512 functions to look at.
 const HALVINGS: usize = 10;
 
-// Looks at the function in the middle, and leaves half at most. The search is not the library's, since that does not say how many it looks at:
-// that half is left each time is promised here.
+// Looks at the function in the middle, and leaves half at most. By hand, since the library's search does not promise how many it looks at: that
+// half is left is promised here, so that ten rounds are enough.
 fn halve(credits: &[Credit], left: Range<usize>, function: u64) -> Range<usize>
     requires { Ascending (functions_of credits.now) × Between function (functions_of credits.now) left.start left.end }
     ensures { Between function (functions_of credits.now) result.start result.end
