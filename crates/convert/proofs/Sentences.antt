@@ -57,6 +57,7 @@ use Rattle.convert.specs.Outputs.{back_to, ways_from, Report, bad_line, unmade, 
 use Rattle.convert.specs.Outputs.{output_to}
 use Rattle.convert.specs.Sentences.{Read, nothing, line, Begins, BadLinesEnd, BadEnd, RefusedTablesEnd, WholeScriptsConvert, NothingElseTold}
 use Rattle.convert.specs.Sentences.{header_lines, Numbers, LargerCapsNotMade, CapsToSevenMade, RefusedWaysTold, BothWaysTold, WayToForm2}
+use Rattle.rules.specs.declared.Unconverted.TheVariants.{Rejected, Stuck}
 
 -- ---- lines that do not end a script
 
@@ -178,7 +179,7 @@ answer_kind (Found q) f k = k
 answer_kind (Events n) f k = k
 
 finish_13 : (p : Replay) (x : Ending) (e : Refusal) → finished p x ≡ Created (Err e) → e ≡ BadCreation
-finish_13 p Ok e k = cc
+finish_13 p Whole e k = cc
 finish_13 p (Torn n) e k = cc
 finish_13 p Over e k = cc
 

@@ -1,5 +1,3 @@
-pub mod Stages
-pub mod Steps
 pub mod Figures
 pub mod Whole
 pub mod Counting

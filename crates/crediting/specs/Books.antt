@@ -5,7 +5,7 @@ use Rattle.rules.specs.Results.{query_result}
 use Rattle.rules.specs.declared.ScriptCall.TheVariants.{Recover}
 use Rattle.std.specs.Prelude.{Ok, Err}
 use Rattle.rules.specs.Answers.{Query}
-use Rattle.tallying.specs.Credits.{Orderly, held_in, credited}
+use Rattle.tallying.specs.Credits.{credited}
 use Rattle.lines.specs.Lines.{line_of}
 use Rattle.lines.specs.Samples.{sample_of}
 use Rattle.lines.specs.declared.Sample.{Sample}
@@ -196,25 +196,24 @@ empty_book room = record { replay = begun; room = room; stage = Script; figures 
 abbrev pub ReportsAreOne : Type 0
 ReportsAreOne = (room : List ℕ) (ls : List (List ℕ)) (torn : Bool) → report_behind (empty_book room) ls torn ≡ report_of room ls torn
 
--- ---- what the code promises: c, f and s are the counts with their lent words
+-- ---- what the code promises
 
-abbrev pub figures_in : Counts → List ℕ → List ℕ → Figures
-figures_in c f s = record { samples = c.samples; missing = c.missing; credits = held_in c.tally f s; buckets = c.buckets }
+abbrev pub figures_in : Counts → Figures
+figures_in c = record { samples = c.samples; missing = c.missing; credits = c.tally; buckets = c.buckets }
 
-abbrev pub book_of : Ledger → List ℕ → List ℕ → List ℕ → Book
-book_of l room f s = record { replay = l.replay; room = room; stage = l.stage; figures = figures_in l.counts f s }
+-- a ledger, with the words that are lent for its table
+abbrev pub book_of : Ledger → List ℕ → Book
+book_of l room = record { replay = l.replay; room = room; stage = l.stage; figures = figures_in l.counts }
 
--- the counts are x, in order
-pub record CountsAre (x : Figures) (c : Counts) (f s : List ℕ) : Type 0 where
-  pub figures : figures_in c f s ≡ x
-  pub orderly : Orderly c.tally.used f s
+-- the counts are x
+abbrev pub CountsAre : Figures → Counts → Type 0
+CountsAre x c = figures_in c ≡ x
 
--- the ledger is b, in order
-pub record LedgerIs (b : Book) (l : Ledger) (room f s : List ℕ) : Type 0 where
-  pub book : book_of l room f s ≡ b
-  pub orderly : Orderly l.counts.tally.used f s
+-- the ledger is b
+abbrev pub LedgerIs : Book → Ledger → List ℕ → Type 0
+LedgerIs b l room = book_of l room ≡ b
 
 -- what is done to a ledger on these words, which leaves those, and changes no count
 pub record Turned (g : Book → Book) (l : Ledger) (room : List ℕ) (r : Ledger) (left : List ℕ) : Type 0 where
-  pub book : (f s : List ℕ) → book_of r left f s ≡ g (book_of l room f s)
+  pub book : LedgerIs (g (book_of l room)) r left
   pub counts : r.counts ≡ l.counts

@@ -1,12 +1,9 @@
--- What is written for an input that comes in parts, and what the readings need to know of a ledger.
+-- What is written for an input that comes in parts, and what the readings need to know of one.
 -- Assumes nothing.
 use Prim.Native.Nat.{ℕ}
 use mathlib.Core.Path.{◌≡◌, refl, sym, ap, ◌∙◌}
 use mathlib.Core.List.{List, [], ◌++◌}
-use native.Mathlib.Omega.{arith}
-use lib.ListN.{length}
 use lib.Dec.{ltb}
-use Rattle.tallying.specs.Credits.{Orderly}
 use Rattle.running.specs.Runs.{together, Behind}
 use Rattle.running.proofs.Inputs.{Takes, behind-none}
 use Rattle.saying.specs.Writing.{Fronted}
@@ -40,13 +37,12 @@ known_parts_written room line parts later long k =
     ap report_text (now ∙ sym then ∙ bytes_reported_as_lines room line (together parts ++ later) long)
 
 -- the report of a ledger at the end of the input stands at the front of the buffer
-pub report_fronted : (p : Posting) (room f s line : List ℕ) {l : Ledger} {left : List ℕ} → Turned (at_end (ltb 0 p.held)) p.ledger room l left
-    → {out m : List ℕ} {n : ℕ} → Reported (report_at l.stage (figures_in l.counts f s)) out n m
-    → Fronted m (written_after (post_of p room f s line))
+pub report_fronted : (p : Posting) (room line : List ℕ) {l : Ledger} {left : List ℕ} → Turned (at_end (ltb 0 p.held)) p.ledger room l left
+    → {out m : List ℕ} {n : ℕ} → Reported (report_at l.stage (figures_in l.counts)) out n m
+    → Fronted m (written_after (post_of p room line))
 unfolding written_after report_after report_in
-report_fronted p room f s line {l} {left} d {m = m} r =
-    let own : report_text (report_at l.stage (figures_in l.counts f s))
-    ≡ written_after (post_of p room f s line) = ap (λ b. report_text (report_in b)) (d.book f s) in
+report_fronted p room line {l} {left} d {m = m} r =
+    let own : report_text (report_at l.stage (figures_in l.counts)) ≡ written_after (post_of p room line) = ap (λ b. report_text (report_in b)) d.book in
     rw own at (front-text r.put)
 
 -- ---- the parts
@@ -54,9 +50,6 @@ report_fronted p room f s line {l} {left} d {m = m} r =
 pub takes : Takes after_bytes
 takes = record { none = after_none; more = parts_are_posted }
 
-pub behind-first : (p : Posting) (room f s line : List ℕ) → ((room f s line : List ℕ) → post_of p room f s line ≡ begun room line)
-    → Behind after_bytes (begun room line) 0 (post_of p room f s line)
-behind-first p room f s line e = rw (e room f s line) (behind-none takes known_in (begun room line))
-
-pub orderly-none : {used : ℕ} → used ≡ 0 → (f s : List ℕ) → length f ≡ 512 → length s ≡ 512 → Orderly used f s
-orderly-none e f s a b = rw e (record { room = (a, b); few = omega arith; order = tt })
+pub behind-first : (p : Posting) (room line : List ℕ) → ((room line : List ℕ) → post_of p room line ≡ begun room line)
+    → Behind after_bytes (begun room line) 0 (post_of p room line)
+behind-first p room line e = rw (e room line) (behind-none takes known_in (begun room line))

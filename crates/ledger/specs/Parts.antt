@@ -1,7 +1,6 @@
 -- What the program writes: the report of an input that comes in parts, of any sizes and any number.
 -- Assumes nothing.
 use Rattle.std.specs.Prelude.{ℕ, ◌≡◌, Bool, true, List, ◌++◌, length}
-use Rattle.tallying.specs.Credits.{Orderly}
 use Rattle.running.specs.Runs.{line_room, together}
 use Rattle.crediting.specs.Books.{known_at}
 use Rattle.posting.specs.Posts.{Post, begun, after_bytes, report_after, post_of}
@@ -33,8 +32,5 @@ abbrev pub known_in : Post → Bool
 known_in x = known_at x.book.stage
 
 -- a turn, with the words and bytes that are lent to it
-abbrev pub turned_to : Turn → List ℕ → List ℕ → List ℕ → List ℕ → Post
-turned_to r room f s line = post_of r.posting room f s line
-
-abbrev pub OrderlyTurn : Turn → List ℕ → List ℕ → Type 0
-OrderlyTurn r f s = Orderly r.posting.ledger.counts.tally.used f s
+abbrev pub turned_to : Turn → List ℕ → List ℕ → Post
+turned_to r room line = post_of r.posting room line

@@ -3,25 +3,22 @@
 // length runs in the same little memory, and the report is written.
 #![tactic(auto)]
 
-ghost use Rattle.std.specs.Prelude.{ℕ, ◌≤◌, ◌≡◌, List, length};
+ghost use Rattle.std.specs.Prelude.{ℕ, ◌≤◌, List, length};
 ghost use Rattle.rules.specs.Words.{words_for};
-ghost use Rattle.tallying.specs.Credits.{Orderly};
 ghost use Rattle.replaying.specs.Rooms.{RoomFor};
 ghost use Rattle.running.specs.Inputs.{ReadSome, Ran};
 ghost use Rattle.saying.specs.Writing.{Fronted};
 ghost use Rattle.posting.specs.Posts.{begun, after_bytes, post_of};
 ghost use Rattle.reporting.specs.Promises.{longest};
-ghost use Rattle.ledger.specs.Parts.{known_in, turned_to, OrderlyTurn, written_after};
+ghost use Rattle.ledger.specs.Parts.{known_in, turned_to, written_after};
 
-use crediting::known;
-use posting::{Posting, end, ready, take_part};
+use posting::Posting;
 use reporting::report;
 use running::{LINE_ROOM, Outcome};
 use saying::{STDERR, STDOUT};
 use std::io::{Read, Stdin};
-use tallying::MOST;
 
-#[derive(Clone, Copy)]
+#[derive(Drop)]
 struct Turn {
     posting: Posting,
     outcome: Outcome,
@@ -30,73 +27,41 @@ struct Turn {
 // Reads once, unless the report is known, and takes what came.
 fn read_some(
     stdin: Stdin,
-    p: Posting,
+    posting: &mut Posting,
     room: &mut [u64],
-    functions: &mut [u64],
-    samples: &mut [u64],
     line: &mut [u8; LINE_ROOM],
     input: &mut [u8],
-) -> Turn
-    requires { Orderly p.ledger.counts.tally.used functions.old samples.old }
-    ensures { ReadSome after_bytes known_in (post_of p room.old functions.old samples.old line.old)
-        input.new result.outcome
-        (turned_to result room.new functions.new samples.new line.new)
-        × OrderlyTurn result functions.new samples.new }
+) -> Outcome
+    ensures { ReadSome after_bytes known_in (post_of posting.old room.old line.old) input.new result
+        (post_of posting.new room.new line.new) }
 {
-    let ledger = p.ledger;
-    if known(ledger) {
-        return Turn {
-            posting: p,
-            outcome: Outcome::Known,
-        };
+    if posting.ledger.is_known() {
+        return Outcome::Known;
     }
     let mut source = stdin;
     let Ok(n) = source.read(input) else {
-        return Turn {
-            posting: p,
-            outcome: Outcome::Unread,
-        };
+        return Outcome::Unread;
     };
     if n == 0 {
-        return Turn {
-            posting: p,
-            outcome: Outcome::Ended,
-        };
+        return Outcome::Ended;
     }
-    let next = take_part(p, room, functions, samples, line, &input[..n]);
-    Turn {
-        posting: next,
-        outcome: Outcome::Going,
-    }
+    posting.take_part(room, line, &input[..n]);
+    Outcome::Going
 }
 
 // A proved loop has to end, and nothing says that the input does. So the parts are counted, up to a number that no run comes to.
-fn read_all(
-    stdin: Stdin,
-    room: &mut [u64],
-    functions: &mut [u64],
-    samples: &mut [u64],
-    line: &mut [u8; LINE_ROOM],
-    input: &mut [u8],
-) -> Turn
-    requires { (words_for 8 ≤ length room.old) × (length functions.old ≡ 512) × (length samples.old ≡ 512) }
-    ensures { Ran after_bytes known_in (begun room.old line.old) result.outcome
-        (turned_to result room.new functions.new samples.new line.new)
-        × OrderlyTurn result functions.new samples.new × RoomFor 8 room.old }
+fn read_all(stdin: Stdin, room: &mut [u64], line: &mut [u8; LINE_ROOM], input: &mut [u8]) -> Turn
+    requires { words_for 8 ≤ length room.old }
+    ensures { Ran after_bytes known_in (begun room.old line.old) result.outcome (turned_to result room.new line.new)
+        × RoomFor 8 room.old }
 {
-    let mut posting = ready();
+    let mut posting = Posting::new();
     let mut parts: u64 = 0;
     while parts < u64::MAX {
-        let turn = read_some(stdin, posting, room, functions, samples, line, input);
-        let next = turn.posting;
-        let outcome = turn.outcome;
+        let outcome = read_some(stdin, &mut posting, room, line, input);
         let Outcome::Going = outcome else {
-            return Turn {
-                posting: next,
-                outcome,
-            };
+            return Turn { posting, outcome };
         };
-        posting = next;
         parts += 1;
     }
     Turn {
@@ -110,30 +75,21 @@ fn complain(text: &[u8]) {
 }
 
 // Whether the report was written.
-fn write_report(
-    p: Posting,
-    room: &mut [u64],
-    functions: &[u64],
-    samples: &[u64],
-    out: &mut [u8],
-) -> bool
-    requires { Orderly p.ledger.counts.tally.used functions.now samples.now × (longest ≤ length out.old) }
-    ensures { (line : List ℕ) → Fronted out.new
-        (written_after (post_of p room.old functions.now samples.now line)) }
+fn write_report(posting: &mut Posting, room: &mut [u64], out: &mut [u8]) -> bool
+    requires { longest ≤ length out.old }
+    ensures { (line : List ℕ) → Fronted out.new (written_after (post_of posting.old room.old line)) }
 {
-    let ledger = end(p, room);
-    let n = report(ledger, functions, samples, out);
+    posting.end(room);
+    let n = report(&posting.ledger, out);
     io::write_all(STDOUT, &out[..n])
 }
 
 // A program cannot end with a status of its own. So a failure is told on standard error, where nothing else is written: whoever
 // starts the program takes any text there for a failure.
-fn conclude(last: Turn, room: &mut [u64], functions: &[u64], samples: &[u64], out: &mut [u8])
-    requires { OrderlyTurn last functions.now samples.now × (longest ≤ length out.old) }
+fn conclude(last: &mut Turn, room: &mut [u64], out: &mut [u8])
+    requires { longest ≤ length out.old }
 {
-    let outcome = last.outcome;
-    let posting = last.posting;
-    match outcome {
+    match last.outcome {
         Outcome::Unread => {
             complain(b"ragansils: standard input could not be read\n");
             return;
@@ -145,7 +101,7 @@ fn conclude(last: Turn, room: &mut [u64], functions: &[u64], samples: &[u64], ou
         Outcome::Known => {}
         Outcome::Ended => {}
     }
-    if !write_report(posting, room, functions, samples, out) {
+    if !write_report(&mut last.posting, room, out) {
         complain(b"ragansils: the report could not be written\n");
     }
 }
@@ -153,18 +109,9 @@ fn conclude(last: Turn, room: &mut [u64], functions: &[u64], samples: &[u64], ou
 // The room holds a table of the largest cap, 8.
 fn main(rt: HostRuntime) {
     let mut words = [0u64; 6652];
-    let mut functions = [0u64; MOST];
-    let mut samples = [0u64; MOST];
     let mut line = [0u8; LINE_ROOM];
     let mut input = io::large_buffer();
     let mut out = io::large_buffer();
-    let last = read_all(
-        rt.stdin(),
-        &mut words,
-        &mut functions,
-        &mut samples,
-        &mut line,
-        &mut input,
-    );
-    conclude(last, &mut words, &functions, &samples, &mut out);
+    let mut last = read_all(rt.stdin(), &mut words, &mut line, &mut input);
+    conclude(&mut last, &mut words, &mut out);
 }

@@ -1,3 +1,3 @@
-pub mod Gathering
+pub mod Taking
 pub mod Whole
 pub mod Only

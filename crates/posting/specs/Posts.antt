@@ -1,11 +1,9 @@
 -- Request d): what is reported of an input, as a whole, byte by byte and part by part.
 -- Assumes nothing.
-use Rattle.std.specs.Prelude.{ℕ, ◌+◌, ◌≡◌, true, false, cond, List, [], ◌∷◌, ◌++◌, length, take, eqb, ltb}
-use Rattle.tallying.specs.Credits.{Orderly}
+use Rattle.std.specs.Prelude.{ℕ, ◌≡◌, true, cond, List, [], ◌∷◌, ◌++◌, length, take, eqb, ltb}
 use Rattle.running.specs.Runs.{split, line_room, held_after}
 use Rattle.crediting.specs.Ledgers.{Report, report_of}
 use Rattle.crediting.specs.Books.{Book, book_of, with_line, at_end, report_in, known_at, empty_book}
-use Rattle.posting.specs.declared.Gathered.{Gathered}
 use Rattle.posting.specs.declared.Posting.{Posting}
 
 -- ---- the whole input, by its lines
@@ -59,30 +57,10 @@ KnownStays = (x : Post) (later : List ℕ) → known_at x.book.stage ≡ true �
 
 -- ---- what the code promises
 
--- the bytes of a text up to its newline are held, where so many were taken before
-abbrev pub gathered : List ℕ → ℕ → ℕ → List ℕ → Gathered × List ℕ
-gathered line held taken [] = (record { held = held; taken = taken; ended = false }, line)
-gathered line held taken (b ∷ bs) =
-    let h = held_after line held b in
-    cond (eqb b 10) (record { held = held; taken = taken + 1; ended = true }, line) (gathered h.1 h.0 (taken + 1) bs)
-
-unfoldable pub gathered_in : List ℕ → ℕ → List ℕ → Gathered × List ℕ
-gathered_in line held text = gathered line held 0 text
-
-abbrev pub GatheredIs : List ℕ → ℕ → List ℕ → Gathered → List ℕ → Type 0
-GatheredIs line held text r left = ◌≡◌ {A = Gathered × List ℕ} (r, left) (gathered_in line held text)
-
--- where a newline was the last of them, the line has ended
-unfoldable pub after_gathered : Book → Gathered → List ℕ → Post
-after_gathered book g line =
-    let x : Post = record { book = book; line = line; held = g.held } in
-    cond g.ended (line_ended x) x
-
 -- a posting, with the words and bytes that are lent to it
-abbrev pub post_of : Posting → List ℕ → List ℕ → List ℕ → List ℕ → Post
-post_of p room f s line = record { book = book_of p.ledger room f s; line = line; held = p.held }
+abbrev pub post_of : Posting → List ℕ → List ℕ → Post
+post_of p room line = record { book = book_of p.ledger room; line = line; held = p.held }
 
--- the posting is x, in order
-pub record PostIs (x : Post) (p : Posting) (room f s line : List ℕ) : Type 0 where
-  pub post : post_of p room f s line ≡ x
-  pub orderly : Orderly p.ledger.counts.tally.used f s
+-- the posting is x
+abbrev pub PostIs : Post → Posting → List ℕ → List ℕ → Type 0
+PostIs x p room line = post_of p room line ≡ x

@@ -3,10 +3,12 @@
 use Prim.Native.Nat.{ℕ, ◌+◌, ◌*◌, ◌≤◌, ◌<◌}
 use mathlib.Core.Path.{◌≡◌, refl, sym, ap, ◌∙◌}
 use mathlib.Core.List.{List, [], ◌∷◌, ◌++◌, append_assoc, append-nil}
-use native.Mathlib.Numerals.{add-one}
 use native.Mathlib.Omega.{arith}
 use lib.ListN.{length, take, get_or}
-use lib.Seq.{take-suc, length-take-le}
+use lib.Seq.{take_all}
+use Rattle.std.proofs.lemmas.List.{length-map, map_more}
+use Rattle.tallying.specs.Tallies.{functions_of, samples_of}
+use Rattle.tallying.specs.declared.Credit.{Credit}
 use Rattle.lines.specs.Lines.{bytes}
 use Rattle.lines.specs.Texts.{decimal_text}
 use Rattle.saying.specs.Writing.{put_at, Put, line_with}
@@ -35,26 +37,31 @@ texts_more (g ∷ fs) (m ∷ ns) f n e =
     ap (λ (rest : List ℕ). function_text g m ++ rest) (texts_more fs ns f n (omega (arith, e))) ∙ sym (append_assoc (function_text g m) _ _)
 
 -- before line i: the lines of the first functions are put
-pub record Lines (fs ns : List ℕ) (start : ℕ) (l : List ℕ) (i at : ℕ) (m : List ℕ) : Type 0 where
-  pub put : Put (function_texts (take i fs) (take i ns)) start l at m
+pub record Lines (cs : List Credit) (start : ℕ) (l : List ℕ) (i at : ℕ) (m : List ℕ) : Type 0 where
+  pub put : Put (function_texts (functions_of (take i cs)) (samples_of (take i cs))) start l at m
   pub few : at ≤ start + 44 * i
 
-module _ (fs ns : List ℕ) (start : ℕ) (l : List ℕ) where
-  pub lines_none : start ≤ length l → Lines fs ns start l 0 start l
+module _ (cs : List Credit) (start : ℕ) (l : List ℕ) where
+  pub lines_none : start ≤ length l → Lines cs start l 0 start l
   unfolding function_texts put_at
   lines_none e = record { put = record { room = omega (arith, e); next = omega arith; buffer = refl }; few = omega arith }
 
-  pub lines_more : (i : ℕ) {at r : ℕ} {m out : List ℕ} → i < length fs → i < length ns → Lines fs ns start l i at m
-      → Put (function_text (get_or fs i 0) (get_or ns i 0)) at m r out → r ≤ at + 44 → Lines fs ns start l (i + 1) r out
-  lines_more i a b d p few =
-      let same : length (take i fs) ≡ length (take i ns) = length-take-le i fs (omega arith) ∙ sym (length-take-le i ns (omega arith)) in
-      let one : function_texts (take (i + 1) fs) (take (i + 1) ns) ≡ function_texts (take i fs) (take i ns) ++ function_text (get_or fs i 0) (get_or ns i 0) = rw
-      (add-one, take-suc fs i 0 a, take-suc ns i 0 b) (texts_more (take i fs) (take i ns) (get_or fs i 0) (get_or ns i 0) same) in
-      record { put = rw one (then d.put p); few = omega (arith, d.few, few) }
+  pub lines_more : (i : ℕ) (d : Credit) {at r : ℕ} {m out : List ℕ} → i < length cs → Lines cs start l i at m
+      → Put (function_text (get_or cs i d).function (get_or cs i d).samples) at m r out → r ≤ at + 44 → Lines cs start l (i + 1) r out
+  lines_more i d a o p few =
+      let c = get_or cs i d in
+      let fs = functions_of (take i cs) in
+      let ns = samples_of (take i cs) in
+      let same : length fs ≡ length ns = length-map (take i cs) (λ (c : Credit). c.function) ∙ sym (length-map (take i cs) (λ (c : Credit). c.samples)) in
+      let one : function_texts (functions_of (take (i + 1) cs)) (samples_of (take (i + 1) cs)) ≡ function_texts fs ns ++ function_text c.function c.samples = rw
+      (map_more (λ (c : Credit). c.function) cs i d a, map_more (λ (c : Credit). c.samples) cs i d a) (texts_more fs ns c.function c.samples same) in
+      record { put = rw one (then o.put p); few = omega (arith, o.few, few) }
 
-  pub lines-all : {i n at : ℕ} {m : List ℕ} → i ≤ n → n ≤ i → Lines fs ns start l i at m
-      → Put (function_texts (take n fs) (take n ns)) start l at m × (at ≤ start + 44 * n)
-  lines-all {i} {n} a b d = let same : i ≡ n = omega arith in (rw (← same) d.put, omega (arith, d.few))
+  pub lines-all : {i at : ℕ} {m : List ℕ} → i ≤ length cs → length cs ≤ i → Lines cs start l i at m
+      → Put (function_texts (functions_of cs) (samples_of cs)) start l at m × (at ≤ start + 44 * length cs)
+  lines-all {i} a b d =
+      let all : take i cs ≡ cs = take_all i cs b in
+      (rw all at d.put, omega (arith, d.few, a))
 
 -- ---- the report
 

@@ -1,9 +1,12 @@
 -- A function's place among ascending ones, found by halving.
 -- Assumes nothing.
-use Rattle.std.proofs.Common.{◌≡◌, ℕ, zero, suc, ◌+◌, ◌-◌, ◌/◌, ◌^◌, ◌<◌, ◌≤◌, Bool, true, false, cond, eqb, ltb, List, [], ◌∷◌, length, get_or, take, sym, refl, ap, pow-suc, arith, length-take-le, get_or-take, ltb-false, ltb-true, le-ltb, lt-ltb, eq-eqb, eqb-true}
+use Rattle.std.proofs.Common.{◌≡◌, ℕ, zero, suc, ◌+◌, ◌-◌, ◌/◌, ◌^◌, ◌<◌, ◌≤◌, Bool, true, false, cond, eqb, ltb, List, [], ◌∷◌, length, get_or, sym, refl, ap, pow-suc, arith, ltb-false, ltb-true, le-ltb, lt-ltb, eq-eqb, eqb-true}
+use Rattle.std.proofs.lemmas.List.{get_or-map, length-map}
 use borrow.Author.Tests.{eqb-false}
 use Rattle.tallying.specs.Functions.{has, place_for, inserted_at}
 use Rattle.tallying.specs.Credits.{Below, Ascending}
+use Rattle.tallying.specs.Tallies.{functions_of}
+use Rattle.tallying.specs.declared.Credit.{Credit}
 
 pub true_false : true ≡ false → ⊥
 true_false e = let z : ◌≡◌ {A = ℕ} 1 0 = ap (λ (b : Bool). cond b 1 0) e in omega (arith, z)
@@ -94,16 +97,16 @@ inserted-order f (g ∷ gs) a h = go (eqb g f) refl h (inserted-order f gs a.1) 
 
 -- ---- the search: the place is between the two ends
 
-module _ (functions : List ℕ) (used f : ℕ) (long : used ≤ length functions) (order : Ascending (take used functions)) where
-  pub half-above : (middle : ℕ) → middle < used → get_or functions middle 0 < f → middle + 1 ≤ place_for f (take used functions)
+module _ (cs : List Credit) (f : ℕ) (order : Ascending (functions_of cs)) (d : Credit) where
+  pub half-above : (middle : ℕ) → middle < length cs → (get_or cs middle d).function < f → middle + 1 ≤ place_for f (functions_of cs)
   half-above middle l k =
-      place-behind f (take used functions) middle order (rw (length-take-le used functions long) l) (rw (get_or-take used functions middle 0 l) k)
+      place-behind f (functions_of cs) middle order (omega (arith, l, length-map cs (λ (c : Credit). c.function)))
+      (omega (arith, k, get_or-map (λ (c : Credit). c.function) cs middle d 0 l))
 
-  pub half_below : (middle : ℕ) → middle < used → f ≤ get_or functions middle 0 → place_for f (take used functions) ≤ middle
-  half_below middle l k = place-before f (take used functions) middle (rw (length-take-le used functions long) l) (rw (get_or-take used functions middle 0 l) k)
-
-  pub place-used : place_for f (take used functions) ≤ used
-  place-used = omega (arith, place-within f (take used functions), length-take-le used functions long)
+  pub half_below : (middle : ℕ) → middle < length cs → f ≤ (get_or cs middle d).function → place_for f (functions_of cs) ≤ middle
+  half_below middle l k =
+      place-before f (functions_of cs) middle (omega (arith, l, length-map cs (λ (c : Credit). c.function)))
+      (omega (arith, k, get_or-map (λ (c : Credit). c.function) cs middle d 0 l))
 
 -- ---- ten halvings leave nothing of 512
 

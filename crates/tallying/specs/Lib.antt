@@ -1,4 +1,5 @@
 pub mod Functions
 pub mod Credits
+pub mod Tallies
 pub mod Sentences
 pub mod Cases

@@ -1,119 +1,147 @@
-// How many samples each function has. The functions that are counted stand in ascending order at the front of lent words, and the samples
-// of each stand at the same place of other lent words. So a function is found by halving, and the report needs no sorting.
+// How many samples each function has. The functions that are counted stand in ascending order, each with its samples, at the front of an
+// array. So a function is found by halving, and the report needs no sorting.
 #![tactic(auto)]
 
-ghost use Rattle.std.specs.Prelude.{◌≡◌, ◌+◌, ◌-◌, ◌/◌, ◌<◌, ◌≤◌, length, take};
+ghost use Rattle.std.specs.Prelude.{◌≡◌, ◌-◌, ◌/◌, ◌<◌, ◌≤◌, length, take};
+ghost use Rattle.std.specs.List.{insert};
 ghost use Rattle.tallying.specs.Functions.{place_for};
-ghost use Rattle.tallying.specs.Credits.{Searched, Between, stands_at, Inserted, Credited, Orderly};
+ghost use Rattle.tallying.specs.Credits.{Ascending, Credited, no_credits};
+ghost use Rattle.tallying.specs.Tallies.{Between, functions_of, samples_of, stands_at};
 
-use std::num::wrapping_add_u64;
+use std::marker::Model;
+use std::ops::Range;
 
 // "The first 512 different functions in input order are counted"
 pub const MOST: usize = 512;
 
-// How many functions are counted, and the samples of the others.
+// A function, and how many samples it has.
 #[derive(Clone, Copy)]
-pub struct Tally {
-    pub used: usize,
-    pub other: u64,
+pub struct Credit {
+    pub function: u64,
+    pub samples: u64,
 }
 
-// Before any sample.
-pub fn nothing() -> Tally
-    ensures { (result.used ≡ 0) × (result.other ≡ 0) }
-{
-    Tally { used: 0, other: 0 }
+// The functions that are counted, and the samples of the others.
+#[derive(Drop)]
+pub struct Tally {
+    credits: [Credit; MOST],
+    used: usize,
+    other: u64,
+}
+
+impl Model for Tally {
+    ghost use Rattle.tallying.specs.Credits.{Credits};
+
+    ghost Value = { Credits };
+
+    ghost use Rattle.tallying.specs.Tallies.{held_in, Orderly};
+
+    ghost view = { held_in };
+
+    ghost invariant = { Orderly };
+}
+
+impl Tally {
+    // Before any sample.
+    pub fn new() -> Tally
+        ensures { result ≡ no_credits }
+    {
+        Tally {
+            credits: [Credit {
+                function: 0,
+                samples: 0,
+            }; MOST],
+            used: 0,
+            other: 0,
+        }
+    }
+
+    // The functions that are counted, with their samples.
+    pub fn credits(&self) -> &[Credit]
+        ensures functions { functions_of result.now ≡ self.now.functions }
+        ensures samples { samples_of result.now ≡ self.now.samples }
+        ensures few { length result.now ≤ 512 }
+        ensures order { Ascending self.now.functions }
+    {
+        &self.credits[..self.used]
+    }
+
+    // How many samples the other functions have.
+    pub fn other(&self) -> u64
+        ensures { result ≡ self.now.other }
+    {
+        self.other
+    }
+
+    // One sample more of a function: of a counted one, of one that is counted from now on, or of another.
+    pub fn credit(&mut self, function: u64)
+        ensures { Credited function self.old self.new }
+    {
+        let at = place_for(&self.credits[..self.used], function);
+        if stands_at(&self.credits[..self.used], at, function) {
+            self.credits[at].samples = self.credits[at].samples.wrapping_add(1);
+        } else if self.used == MOST {
+            self.other = self.other.wrapping_add(1);
+        } else {
+            let first = Credit {
+                function,
+                samples: 1,
+            };
+            insert_at(&mut self.credits[..=self.used], at, first);
+            self.used += 1;
+        }
+    }
 }
 
 // As many halvings leave nothing of 512 functions to look at.
 const HALVINGS: usize = 10;
 
-// What is left to look at: the place that is looked for is not before `low` and not behind `high`.
-#[derive(Clone, Copy)]
-struct Range {
-    low: usize,
-    high: usize,
-}
-
-// Looks at the function in the middle, and leaves half at most.
-fn halve(functions: &[u64], used: usize, range: Range, function: u64) -> Range
-    requires { Searched functions.now used function × Between function (take used functions.now) used range.low range.high }
-    ensures { Between function (take used functions.now) used result.low result.high
-        × (result.high - result.low ≤ (range.high - range.low) / 2) }
+// Looks at the function in the middle, and leaves half at most. By hand, since the library's search does not promise how many it looks at: that
+// half is left is promised here, so that ten rounds are enough.
+fn halve(credits: &[Credit], left: Range<usize>, function: u64) -> Range<usize>
+    requires { Ascending (functions_of credits.now) × Between function (functions_of credits.now) left.start left.end }
+    ensures { Between function (functions_of credits.now) result.start result.end
+        × (result.end - result.start ≤ (left.end - left.start) / 2) }
 {
-    let low = range.low;
-    let high = range.high;
-    if high <= low {
-        return range;
+    if left.is_empty() {
+        return left;
     }
-    let middle = low + (high - low) / 2;
-    if functions[middle] < function {
-        return Range {
-            low: middle + 1,
-            high,
-        };
+    let middle = left.start + left.len() / 2;
+    if credits[middle].function < function {
+        middle + 1..left.end
+    } else {
+        left.start..middle
     }
-    Range { low, high: middle }
 }
 
 // How many of the counted functions are below this one: the place where it stands, or would stand.
-fn place_for(functions: &[u64], used: usize, function: u64) -> usize
-    requires { Searched functions.now used function × (used ≤ 512) }
-    ensures { (result ≡ place_for function (take used functions.now)) × (result ≤ used) }
+fn place_for(credits: &[Credit], function: u64) -> usize
+    requires { Ascending (functions_of credits.now) × (length credits.now ≤ 512) }
+    ensures { (result ≡ place_for function (functions_of credits.now)) × (result ≤ length credits.now) }
 {
-    let mut range = Range { low: 0, high: used };
+    let mut left = 0..credits.len();
     for _ in 0..HALVINGS {
-        range = halve(functions, used, range, function);
+        left = halve(credits, left, function);
     }
-    range.low
+    left.start
 }
 
 // Whether the function stands at its place.
-fn stands_at(functions: &[u64], used: usize, at: usize, function: u64) -> bool
-    requires { used ≤ length functions.now }
-    ensures { result ≡ stands_at used at function functions.now }
+#[tactic(auto, unfolding(crate::specs::Tallies::stands_at))]
+fn stands_at(credits: &[Credit], at: usize, function: u64) -> bool
+    ensures { result ≡ stands_at at function (functions_of credits.now) }
 {
-    if at < used {
-        return functions[at] == function;
-    }
-    false
+    credits
+        .get(at)
+        .is_some_and(|credit| credit.function == function)
 }
 
-// Puts a word among those that are used, and moves the later ones up by one.
-fn insert_at(words: &mut [u64], used: usize, at: usize, word: u64)
-    requires { (at ≤ used) × (used < length words.old) }
-    ensures { Inserted used at word words.old words.new }
+// Puts a credit at its place, and moves those behind it up by one. There is room for one more.
+fn insert_at(credits: &mut [Credit], at: usize, credit: Credit)
+    requires { at < length credits.old }
+    ensures { credits.new ≡ insert (take (length credits.old - 1) credits.old) at credit }
 {
-    let mut carried = word;
-    for moved in 0..used - at + 1 {
-        let next = words[at + moved];
-        words[at + moved] = carried;
-        carried = next;
-    }
-}
-
-// One sample more of a function: of a counted one, of one that is counted from now on, or of another.
-pub fn credit(tally: Tally, functions: &mut [u64], samples: &mut [u64], function: u64) -> Tally
-    requires { Orderly tally.used functions.old samples.old }
-    ensures { Credited function tally functions.old samples.old result functions.new samples.new }
-{
-    let used = tally.used;
-    let other = tally.other;
-    let at = place_for(functions, used, function);
-    if stands_at(functions, used, at, function) {
-        samples[at] = wrapping_add_u64(samples[at], 1);
-        return Tally { used, other };
-    }
-    if used == MOST {
-        return Tally {
-            used,
-            other: wrapping_add_u64(other, 1),
-        };
-    }
-    insert_at(functions, used, at, function);
-    insert_at(samples, used, at, 1);
-    Tally {
-        used: used + 1,
-        other,
-    }
+    let last = credits.len() - 1;
+    credits.copy_within(at..last, at + 1);
+    credits[at] = credit;
 }

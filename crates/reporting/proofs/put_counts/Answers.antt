@@ -6,6 +6,6 @@ use Rattle.reporting.proofs.put_counts.Goals as goal
 
 pub returns : goal.returns
 returns c =
-    let a = c.args in counts-put (figures_in a.c a.functions.now a.samples.now) c.put_line-second.ensures.0
-    c.put_line-third.ensures.0 c.put_functions-others.ensures.0 c.put_line-last.ensures.0
+    counts-put (figures_in c.args.counts.now) c.put_line-second.ensures.0 c.put_line-third.ensures.0
+    (rw (c.credits.ensures.functions, c.credits.ensures.samples) at c.put_functions-others.ensures.0) (rw c.other.ensures at c.put_line-last.ensures.0)
     c.put_line.ensures.0

@@ -6,5 +6,5 @@ use Rattle.reporting.proofs.put_function.Goals as goal
 
 pub returns : goal.returns
 returns c =
-    let put = function-put c.args.function c.args.samples c.copy-named.ensures c.tell-told.ensures.0 c.copy-equal.ensures c.tell-counted.ensures.0 c.copy.ensures in
+    let put = function-put _ _ c.copy-named.ensures c.tell-told.ensures.0 c.copy-equal.ensures c.tell-counted.ensures.0 c.copy.ensures in
     (put, omega (arith, c.copy-named.ensures.next, c.tell-told.ensures.1, c.copy-equal.ensures.next, c.tell-counted.ensures.1, c.copy.ensures.next))

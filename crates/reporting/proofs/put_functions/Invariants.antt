@@ -1,15 +1,9 @@
 -- `reporting::put_functions` meets its contract.
 -- Assumes nothing.
+use Rattle.std.proofs.Common.{◌≡◌, length}
 use Rattle.reporting.proofs.Putting.{Lines}
-use lib.ListN.{length}
-use mathlib.Core.Path.{◌≡◌}
-use Prim.Native.Nat.{◌-◌, ◌≤◌}
 use Rattle.reporting.proofs.put_functions.Given as goal
 
-abbrev pub invariant-loop-i : goal.invariant-loop-i
-invariant-loop-i l =
-    (l.i ≤ l.used) × (length l.out ≡ length l.initial.out)
-    × Lines l.functions l.samples l.start l.initial.out l.i l.at l.out
-
-abbrev pub decreases-loop-i : goal.decreases-loop-i
-decreases-loop-i l = l.used - l.i
+abbrev pub invariant-loop-credit : goal.invariant-loop-credit
+invariant-loop-credit l =
+    (length l.out ≡ length l.initial.out) × Lines l.credits l.start l.initial.out l.credit-index l.at l.out

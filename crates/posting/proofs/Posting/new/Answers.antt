@@ -1,0 +1,6 @@
+-- `posting::Posting::new` meets its contract.
+-- Assumes nothing.
+use Rattle.posting.proofs.Posting.new.Goals as goal
+
+pub returns : goal.returns
+returns c = λ room line. rw (c.new.ensures room)

@@ -1,0 +1,37 @@
+-- What a tally holds, in fixed memory.
+-- Assumes nothing.
+use Rattle.std.specs.Prelude.{ℕ, ◌≤◌, Bool, false, cond, List, map, length, take, ◌==◌, nat_lt, slice_index}
+use Rattle.tallying.specs.Functions.{place_for}
+use Rattle.tallying.specs.Credits.{Credits, Ascending}
+use Rattle.tallying.specs.declared.Credit.{Credit}
+use Rattle.tallying.specs.declared.Tally.TheInside.{Inside}
+
+-- the functions of credits, and their samples
+abbrev pub functions_of : List Credit → List ℕ
+functions_of cs = map (λ (c : Credit). c.function) cs
+
+abbrev pub samples_of : List Credit → List ℕ
+samples_of cs = map (λ (c : Credit). c.samples) cs
+
+-- the credits that are used stand at the front
+abbrev pub held_in : Inside → Credits
+held_in t =
+    let cs = take t.used t.credits in
+    record { functions = functions_of cs; samples = samples_of cs; other = t.other }
+
+-- 512 credits at most are used, in order
+pub record Orderly (t : Inside) : Type 0 where
+  pub few : t.used ≤ 512
+  pub order : Ascending (functions_of (take t.used t.credits))
+
+-- ---- how a function is found
+
+-- its place among those that are counted is not before one end and not behind the other
+pub record Between (function : ℕ) (counted : List ℕ) (low high : ℕ) : Type 0 where
+  pub behind : low ≤ place_for function counted
+  pub before : place_for function counted ≤ high
+  pub within : high ≤ length counted
+
+-- whether it stands at a place
+unfoldable pub stands_at : ℕ → ℕ → List ℕ → Bool
+stands_at at f counted = cond (nat_lt at (length counted)) (slice_index counted at == f) false
