@@ -11,7 +11,8 @@ use Rattle.rules.specs.Words.{Table}
 use Rattle.rules.specs.Answers.{Meaning, conversion_means}
 use Rattle.rules.specs.Conversions.{convert_result}
 use Rattle.rules.specs.Answers.{Conversion}
-use Rattle.rules.specs.contracts.Conversion.{the_type}
+use Rattle.rules.specs.declared.Unconverted.{Unconverted}
+use Rattle.std.specs.Prelude.{Ok, Err}
 use Rattle.numbering.specs.Told.{conversion_words_mean}
 use Rattle.numbering.specs.declared.ConversionWords.{ConversionWords}
 use Rattle.converting.specs.Promises.{Converts}
@@ -31,6 +32,7 @@ use Rattle.convert.specs.declared.Ending.TheVariants.{Open, Unmade, Bad as BadLi
 use Rattle.convert.specs.declared.Course.{Course}
 use Rattle.convert.specs.contracts.Ending.{the_type as ending-type}
 use Rattle.convert.proofs.Parts.{told-answer}
+use Rattle.rules.specs.declared.Unconverted.TheVariants.{Stuck, Rejected}
 
 -- ---- one answer
 
@@ -50,14 +52,13 @@ module _ {t s u v : Table} {a : Conversion} (d : Converts t s a u v) where
       let same : convert_result t s ≡ (a, v) = sym (rw (d.answer, d.second)) in
       ap (λ (r : Conversion × Table). flat_map way_text (r.0 ∷ back_to t r)) same
 
-  pub way_alone : OneOf (1 ∷ 2 ∷ []) (tag_of the_type a) → flat_map way_text (ways_in t s) ≡ way_text a
+  pub way_alone : {x : Unconverted} → a ≡ Err x → flat_map way_text (ways_in t s) ≡ way_text a
   unfolding flat_map
-  way_alone k = ways_by ∙ alone a k
+  way_alone {x} k = ways_by ∙ rw k (alone x)
     where
-      alone : (b : Conversion) → OneOf (1 ∷ 2 ∷ []) (tag_of the_type b) → flat_map way_text (b ∷ back_to t (b, v)) ≡ way_text b
-      alone (Ok tt) k = absurd (miss (1 ∷ 2 ∷ []) 0 tt k)
-      alone (Err (Stuck key)) k = append-nil (way_text (Err (Stuck key)))
-      alone (Err (Rejected e)) k = append-nil (way_text (Err (Rejected e)))
+      alone : (y : Unconverted) → flat_map way_text (Err y ∷ back_to t (Err y, v)) ≡ way_text (Err y)
+      alone (Stuck key) = append-nil (way_text (Err (Stuck key)))
+      alone (Rejected e) = append-nil (way_text (Err (Rejected e)))
 
   pub ways_both : a ≡ Ok tt → flat_map way_text (ways_in t s) ≡ way_text a ++ way_text (convert_result v t).0
   unfolding flat_map

@@ -1,25 +1,22 @@
 -- What a lookup tells is what the rules tell of it; and no second answer keeps the promise of `asked`.
 -- Assumes nothing.
-use Prim.Native.Nat.{ℕ, ◌+◌, ◌≤◌}
+use Prim.Native.Nat.{ℕ, ◌≤◌}
 use mathlib.Core.Path.{◌≡◌, refl, sym, ◌∙◌}
 use native.Mathlib.Omega.{arith}
 use lib.ListN.{length}
-use Rattle.rules.specs.Words.{Table, GoodHeader, key_word}
+use Rattle.rules.specs.Words.{Table, GoodHeader}
 use Rattle.rules.specs.Places.{lookup}
-use Rattle.rules.specs.Answers.{LookupTells, hits, lacks}
-use Rattle.rules.specs.Overlays.{newer, older, in_older, in_either, asked_result}
+use Rattle.rules.specs.Answers.{LookupTells}
+use Rattle.rules.specs.Overlays.{in_older, in_either, asked_result}
 use Rattle.rules.specs.declared.Header.{Header}
-use Rattle.rules.specs.declared.Slot.{Slot}
 use Rattle.rules.specs.declared.Lookup.{Lookup}
 use Rattle.rules.specs.declared.Lookup.TheVariants.{Stands, Absent}
-use Rattle.rules.specs.declared.Refusal.TheVariants.{KeyAbsent}
 use Rattle.rules.specs.Answers.{Asked}
 use Rattle.rules.proofs.Words.Headers.{table-small}
 use Rattle.rules.proofs.Calls.Meanings.{lookup-told_by}
 use Rattle.reading.specs.Within.{Standing}
 use Rattle.querying.proofs.Standings.{looked, lookup-few}
 use Rattle.overlaying.specs.Promises.{Near, Asks}
-use Rattle.rules.specs.declared.Side.TheVariants.{Newer, Older}
 
 -- ---- the lookup of one table
 

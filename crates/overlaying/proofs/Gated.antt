@@ -5,7 +5,7 @@ use mathlib.Core.Path.{◌≡◌, ◌∙◌}
 use Rattle.rules.specs.Words.{Table, header_of}
 use Rattle.rules.specs.Places.{lookup}
 use Rattle.rules.specs.Calls.{query_tests}
-use Rattle.rules.specs.Overlays.{newer, older, in_either, asked_result}
+use Rattle.rules.specs.Overlays.{in_either, asked_result}
 use Rattle.rules.specs.declared.Header.{Header}
 use Rattle.rules.specs.declared.Refusal.{Refusal}
 use Rattle.std.specs.Prelude.{Ok, Err}

@@ -1,15 +1,12 @@
 -- `converting::fill_table` meets its contract: the items of the levels from the n-th on are left.
 -- Assumes nothing.
-use Prim.Native.Nat.{◌+◌}
-use mathlib.Core.Path.{◌≡◌}
-use mathlib.Core.List.{◌++◌}
 use native.Mathlib.Omega.{arith}
 use lib.ListN.{drop_of_length-le}
-use Rattle.rules.specs.Words.{levels_in_use, slots_of}
+use Rattle.rules.specs.Words.{levels_in_use}
 use Rattle.rules.proofs.Words.Headers.{header-state}
 use Rattle.rules.proofs.Words.Levels.{exponent-fits}
 use Rattle.rules.proofs.Basics.Walks.{stands_in}
-use Rattle.converting.proofs.Filling.{all_left, none_left, slots_along, along_next, along_end, levels_whole, block_may, block_done, block_stuck}
+use Rattle.converting.proofs.Filling.{all_left, none_left, along_next, along_end, levels_whole, block_may, block_done, block_stuck}
 use Rattle.reading.proofs.Gated.{passed_on}
 use Rattle.converting.proofs.fill_table.Goals as goal
 
