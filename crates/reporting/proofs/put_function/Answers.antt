@@ -1,29 +1,9 @@
 -- `reporting::put_function` meets its contract.
 -- Assumes nothing.
-use Rattle.saying.proofs.Puts.{put-fits, put-lent, put_again}
+use Rattle.saying.proofs.Puts.{put_again}
 use Rattle.reporting.proofs.Putting.{function-put}
 use native.Mathlib.Omega.{arith}
 use Rattle.reporting.proofs.put_function.Goals as goal
-
-pub slice_bounds-text-end : goal.slice_bounds-text-end
-slice_bounds-text-end c = put-fits c.copy_text-n.ensures.0
-
-pub slice_bounds-copy-end : goal.slice_bounds-copy-end
-slice_bounds-copy-end c = put-lent c.copy_text-n.ensures.0
-
-pub copy-requires : goal.copy-requires
-copy-requires c = (
-  omega (arith, put-lent c.copy_text-n.ensures.0),
-  omega (
-    arith,
-    c.requires,
-    c.copy_text-n.ensures.1,
-    c.tell-counted.ensures.1,
-    c.copy_text-equal.ensures.1,
-    c.tell-told.ensures.1,
-    c.copy_text-named.ensures.1,
-  ),
-)
 
 pub returns : goal.returns
 returns c =

@@ -41,7 +41,7 @@ written : (c : Then-stands_at) → take c.self.inside.used (set c.self.inside.cr
     }))
     ≡ set (take c.self.inside.used c.self.inside.credits) c.place_for-at.result (more c.args.function
     (take c.self.inside.used c.self.inside.credits) c.self.invariant.order 0 c.place_for-at.result c.place_for-at.ensures.0 no_credit)
-written c = front_set c.self.inside.credits c.self.inside.used (room (goal.at.Then-stands_at c).After-place_for-at) c.args.function _ no_credit (at_used c)
+written c = front_set c.self.inside.credits c.self.inside.used (room (goal.at.Then-stands_at c).After-place_for-at) _ no_credit (at_used c)
 
 pub invariant_of-self : goal.invariant_of-self
 invariant_of-self c =
