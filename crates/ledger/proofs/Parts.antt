@@ -10,7 +10,7 @@ use Rattle.saying.specs.Writing.{Fronted}
 use Rattle.saying.proofs.Puts.{front-text}
 use Rattle.crediting.specs.Books.{figures_in, at_end, report_at, report_in, Turned}
 use Rattle.crediting.specs.declared.Ledger.{Ledger}
-use Rattle.posting.specs.Posts.{Post, begun, after_bytes, report_after, post_of}
+use Rattle.posting.specs.Posts.{Post, begun, no_line, after_bytes, report_after, post_of}
 use Rattle.posting.specs.declared.Posting.{Posting}
 use Rattle.posting.proofs.Whole.{bytes_reported_as_lines, parts_are_posted, known_stays}
 use Rattle.reporting.specs.Texts.{report_text}
@@ -37,12 +37,12 @@ known_parts_written room line parts later long k =
     ap report_text (now ∙ sym then ∙ bytes_reported_as_lines room line (together parts ++ later) long)
 
 -- the report of a ledger at the end of the input stands at the front of the buffer
-pub report_fronted : (p : Posting) (room line : List ℕ) {l : Ledger} {left : List ℕ} → Turned (at_end (ltb 0 p.held)) p.ledger room l left
+pub report_fronted : (p : Posting) (room : List ℕ) {l : Ledger} {left : List ℕ} → Turned (at_end (ltb 0 p.held)) p.ledger room l left
     → {out m : List ℕ} {n : ℕ} → Reported (report_at l.stage (figures_in l.counts)) out n m
-    → Fronted m (written_after (post_of p room line))
+    → Fronted m (written_after (post_of p room))
 unfolding written_after report_after report_in
-report_fronted p room line {l} {left} d {m = m} r =
-    let own : report_text (report_at l.stage (figures_in l.counts)) ≡ written_after (post_of p room line) = ap (λ b. report_text (report_in b)) d.book in
+report_fronted p room {l} {left} d {m = m} r =
+    let own : report_text (report_at l.stage (figures_in l.counts)) ≡ written_after (post_of p room) = ap (λ b. report_text (report_in b)) d.book in
     rw own at (front-text r.put)
 
 -- ---- the parts
@@ -50,6 +50,6 @@ report_fronted p room line {l} {left} d {m = m} r =
 pub takes : Takes after_bytes
 takes = record { none = after_none; more = parts_are_posted }
 
-pub behind-first : (p : Posting) (room line : List ℕ) → ((room line : List ℕ) → post_of p room line ≡ begun room line)
-    → Behind after_bytes (begun room line) 0 (post_of p room line)
-behind-first p room line e = rw (e room line) (behind-none takes known_in (begun room line))
+pub behind-first : (p : Posting) (room : List ℕ) → ((room : List ℕ) → post_of p room ≡ begun room no_line)
+    → Behind after_bytes (begun room no_line) 0 (post_of p room)
+behind-first p room e = rw (e room) (behind-none takes known_in (begun room no_line))

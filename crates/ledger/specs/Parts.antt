@@ -31,6 +31,6 @@ KnownPartsWritten = (room line : List ℕ) (parts : List (List ℕ)) (later : Li
 abbrev pub known_in : Post → Bool
 known_in x = known_at x.book.stage
 
--- a turn, with the words and bytes that are lent to it
-abbrev pub turned_to : Turn → List ℕ → List ℕ → Post
-turned_to r room line = post_of r.posting room line
+-- a turn, with the words that are lent to it
+abbrev pub turned_to : Turn → List ℕ → Post
+turned_to r room = post_of r.posting room

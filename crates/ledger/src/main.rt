@@ -3,18 +3,18 @@
 // length runs in the same little memory, and the report is written.
 #![tactic(auto)]
 
-ghost use Rattle.std.specs.Prelude.{ℕ, ◌≤◌, List, length};
+ghost use Rattle.std.specs.Prelude.{◌≤◌, length};
 ghost use Rattle.rules.specs.Words.{words_for};
 ghost use Rattle.replaying.specs.Rooms.{RoomFor};
 ghost use Rattle.running.specs.Inputs.{ReadSome, Ran};
 ghost use Rattle.saying.specs.Writing.{Fronted};
-ghost use Rattle.posting.specs.Posts.{begun, after_bytes, post_of};
+ghost use Rattle.posting.specs.Posts.{begun, no_line, after_bytes, post_of};
 ghost use Rattle.reporting.specs.Promises.{longest};
 ghost use Rattle.ledger.specs.Parts.{known_in, turned_to, written_after};
 
 use posting::Posting;
 use reporting::report;
-use running::{LINE_ROOM, Outcome};
+use running::Outcome;
 use saying::{STDERR, STDOUT};
 use std::io::{Read, Stdin};
 
@@ -25,15 +25,9 @@ struct Turn {
 }
 
 // Reads once, unless the report is known, and takes what came.
-fn read_some(
-    stdin: Stdin,
-    posting: &mut Posting,
-    room: &mut [u64],
-    line: &mut [u8; LINE_ROOM],
-    input: &mut [u8],
-) -> Outcome
-    ensures { ReadSome after_bytes known_in (post_of posting.old room.old line.old) input.new result
-        (post_of posting.new room.new line.new) }
+fn read_some(stdin: Stdin, posting: &mut Posting, room: &mut [u64], input: &mut [u8]) -> Outcome
+    ensures { ReadSome after_bytes known_in (post_of posting.old room.old) input.new result
+        (post_of posting.new room.new) }
 {
     if posting.ledger.is_known() {
         return Outcome::Known;
@@ -45,20 +39,20 @@ fn read_some(
     if n == 0 {
         return Outcome::Ended;
     }
-    posting.take_part(room, line, &input[..n]);
+    posting.take_part(room, &input[..n]);
     Outcome::Going
 }
 
 // A proved loop has to end, and nothing says that the input does. So the parts are counted, up to a number that no run comes to.
-fn read_all(stdin: Stdin, room: &mut [u64], line: &mut [u8; LINE_ROOM], input: &mut [u8]) -> Turn
+fn read_all(stdin: Stdin, room: &mut [u64], input: &mut [u8]) -> Turn
     requires { words_for 8 ≤ length room.old }
-    ensures { Ran after_bytes known_in (begun room.old line.old) result.outcome (turned_to result room.new line.new)
+    ensures { Ran after_bytes known_in (begun room.old no_line) result.outcome (turned_to result room.new)
         × RoomFor 8 room.old }
 {
     let mut posting = Posting::new();
     let mut parts: u64 = 0;
     while parts < u64::MAX {
-        let outcome = read_some(stdin, &mut posting, room, line, input);
+        let outcome = read_some(stdin, &mut posting, room, input);
         let Outcome::Going = outcome else {
             return Turn { posting, outcome };
         };
@@ -77,7 +71,7 @@ fn complain(text: &[u8]) {
 // Whether the report was written.
 fn write_report(posting: &mut Posting, room: &mut [u64], out: &mut [u8]) -> bool
     requires { longest ≤ length out.old }
-    ensures { (line : List ℕ) → Fronted out.new (written_after (post_of posting.old room.old line)) }
+    ensures { Fronted out.new (written_after (post_of posting.old room.old)) }
 {
     posting.end(room);
     let n = report(&posting.ledger, out);
@@ -109,9 +103,8 @@ fn conclude(last: &mut Turn, room: &mut [u64], out: &mut [u8])
 // The room holds a table of the largest cap, 8.
 fn main(rt: HostRuntime) {
     let mut words = [0u64; 6652];
-    let mut line = [0u8; LINE_ROOM];
     let mut input = io::large_buffer();
     let mut out = io::large_buffer();
-    let mut last = read_all(rt.stdin(), &mut words, &mut line, &mut input);
+    let mut last = read_all(rt.stdin(), &mut words, &mut input);
     conclude(&mut last, &mut words, &mut out);
 }

@@ -6,11 +6,12 @@ use Rattle.crediting.proofs.Only.{ledger_one}
 use Rattle.posting.specs.Posts.{Post, PostIs}
 use Rattle.posting.specs.declared.Posting.{Posting}
 
-posting_same : {l m : Ledger} {a b : ℕ} → l ≡ m → a ≡ b → ◌≡◌ {A = Posting} (record { ledger = l; held = a }) (record { ledger = m; held = b })
-posting_same e f = cc
+posting_same : {l m : Ledger} {a b : ℕ} {c d : List ℕ} → l ≡ m → c ≡ d → a ≡ b
+    → ◌≡◌ {A = Posting} (record { ledger = l; line = c; held = a }) (record { ledger = m; line = d; held = b })
+posting_same e f g = cc
 
-pub post-one : (x : Post) (p q : Posting) (room left line other : List ℕ) → PostIs x p room line → PostIs x q left other
-    → (p ≡ q) × (room ≡ left) × (line ≡ other)
-post-one x p q room left line other a b =
+pub post-one : (x : Post) (p q : Posting) (room left : List ℕ) → PostIs x p room → PostIs x q left → (p ≡ q) × (room ≡ left)
+post-one x p q room left a b =
     let one = ledger_one x.book p.ledger q.ledger room left (ap (λ (y : Post). y.book) a) (ap (λ (y : Post). y.book) b) in
-    (posting_same one.0 (ap (λ (y : Post). y.held) (a ∙ sym b)), one.1, ap (λ (y : Post). y.line) (a ∙ sym b))
+    let same = a ∙ sym b in
+    (posting_same one.0 (ap (λ (y : Post). y.line) same) (ap (λ (y : Post). y.held) same), one.1)

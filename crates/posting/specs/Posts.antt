@@ -1,6 +1,6 @@
 -- Request d): what is reported of an input, as a whole, byte by byte and part by part.
 -- Assumes nothing.
-use Rattle.std.specs.Prelude.{ℕ, ◌≡◌, true, cond, List, [], ◌∷◌, ◌++◌, length, take, eqb, ltb}
+use Rattle.std.specs.Prelude.{ℕ, ◌≡◌, true, cond, List, [], ◌∷◌, ◌++◌, length, take, replicate, eqb, ltb}
 use Rattle.running.specs.Runs.{split, line_room, held_after}
 use Rattle.crediting.specs.Ledgers.{Report, report_of}
 use Rattle.crediting.specs.Books.{Book, book_of, with_line, at_end, report_in, known_at, empty_book}
@@ -57,10 +57,14 @@ KnownStays = (x : Post) (later : List ℕ) → known_at x.book.stage ≡ true �
 
 -- ---- what the code promises
 
--- a posting, with the words and bytes that are lent to it
-abbrev pub post_of : Posting → List ℕ → List ℕ → Post
-post_of p room line = record { book = book_of p.ledger room; line = line; held = p.held }
+-- nothing is held yet
+abbrev pub no_line : List ℕ
+no_line = replicate 28 0
+
+-- a posting, with the words that are lent for its table
+abbrev pub post_of : Posting → List ℕ → Post
+post_of p room = record { book = book_of p.ledger room; line = p.line; held = p.held }
 
 -- the posting is x
-abbrev pub PostIs : Post → Posting → List ℕ → List ℕ → Type 0
-PostIs x p room line = post_of p room line ≡ x
+abbrev pub PostIs : Post → Posting → List ℕ → Type 0
+PostIs x p room = post_of p room ≡ x

@@ -93,10 +93,11 @@ module _ (credits : List Credit) (used : ℕ) (room : used ≤ length credits) w
   used_long = length-take-le used credits room
 
   -- one of them is written over
-  pub front_set : (f at : ℕ) (d : Credit) → at < used
+  pub front_set : (at : ℕ) (d : Credit) → at < used
       → take used (set credits at (record { function = (get_or credits at d).function; samples = ((get_or credits at d).samples + 1) % 2 ^ 64 }))
-      ≡ set (take used credits) at (record { function = (get_or (take used credits) at d).function; samples = ((get_or (take used credits) at d).samples + 1) % 2 ^ 64 })
-  front_set f at d l =
+      ≡ set (take used credits) at
+      (record { function = (get_or (take used credits) at d).function; samples = ((get_or (take used credits) at d).samples + 1) % 2 ^ 64 })
+  front_set at d l =
       take-set-lt used credits at _ l
       ∙ ap (λ (c : Credit). set (take used credits) at (record { function = c.function; samples = (c.samples + 1) % 2 ^ 64 }))
       (sym (get_or-take used credits at d l))

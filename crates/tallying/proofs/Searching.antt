@@ -118,6 +118,3 @@ halvings_first d l = omega arith
 
 pub halvings_next : (i d e : ℕ) → i < 10 → d < 2 ^ (10 - i) → e ≤ d / 2 → e < 2 ^ (10 - (i + 1))
 halvings_next i d e l b h = let more : 10 - i ≡ suc (10 - (i + 1)) = omega arith in halved (10 - (i + 1)) d e (rw more at b) h
-
-pub halvings_all : (i d : ℕ) → 10 ≤ i → d < 2 ^ (10 - i) → d ≡ 0
-halvings_all i d l b = let none : 10 - i ≡ 0 = omega arith in let one : d < 2 ^ 0 = rw none at b in omega (arith, one)

@@ -136,7 +136,7 @@ fn stands_at(credits: &[Credit], at: usize, function: u64) -> bool
         .is_some_and(|credit| credit.function == function)
 }
 
-// Puts a credit at its place, and moves those behind it up by one. There is room for one more.
+// Puts a credit at its place, and moves those behind it up by one, over the last, which is free.
 fn insert_at(credits: &mut [Credit], at: usize, credit: Credit)
     requires { at < length credits.old }
     ensures { credits.new ≡ insert (take (length credits.old - 1) credits.old) at credit }

@@ -9,7 +9,7 @@ use Rattle.replaying.proofs.Enough.{room_is_enough}
 use Rattle.ledger.proofs.read_all.Goals as goal
 
 pub loop-parts-init : goal.loop-parts-init
-loop-parts-init c = (refl, refl, omega arith, behind-first c.new-posting.result _ _ c.new-posting.ensures)
+loop-parts-init c = (refl, refl, omega arith, behind-first c.new-posting.result _ c.new-posting.ensures)
 
 pub returns-in_default : goal.returns-in_default
 returns-in_default c = (

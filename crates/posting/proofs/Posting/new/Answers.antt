@@ -3,4 +3,4 @@
 use Rattle.posting.proofs.Posting.new.Goals as goal
 
 pub returns : goal.returns
-returns c = λ room line. rw (c.new.ensures room)
+returns c = λ room. rw (c.new.ensures room)

@@ -6,5 +6,5 @@ use Rattle.posting.proofs.Posting.take_part.Given as goal
 
 abbrev pub invariant-loop-byte : goal.invariant-loop-byte
 invariant-loop-byte l =
-    after_bytes (post_of l.self l.room l.line) (drop l.byte-index l.part)
-    ≡ after_bytes (post_of l.initial.self l.initial.room l.initial.line) l.part
+    after_bytes (post_of l.self l.room) (drop l.byte-index l.part)
+    ≡ after_bytes (post_of l.initial.self l.initial.room) l.part

@@ -41,7 +41,7 @@ written : (c : Then-stands_at) → take c.self.inside.used (set c.self.inside.cr
     }))
     ≡ set (take c.self.inside.used c.self.inside.credits) c.place_for-at.result (more c.args.function
     (take c.self.inside.used c.self.inside.credits) c.self.invariant.order 0 c.place_for-at.result c.place_for-at.ensures.0 no_credit)
-written c = front_set c.self.inside.credits c.self.inside.used (room (goal.at.Then-stands_at c).After-place_for-at) c.args.function _ no_credit (at_used c)
+written c = front_set c.self.inside.credits c.self.inside.used (room (goal.at.Then-stands_at c).After-place_for-at) _ no_credit (at_used c)
 
 pub invariant_of-self : goal.invariant_of-self
 invariant_of-self c =
@@ -56,7 +56,8 @@ front : (c : After-insert_at) → (more : List Credit) → take (c.self.inside.u
     ≡ insert (take c.self.inside.used c.self.inside.credits) c.place_for-at.result (record { function = c.args.function; samples = 1 })
 front c more =
     let all = c.self.inside.credits in
-    let some : c.self.inside.used + 1 ≤ length all = omega (arith, whole (goal.at.After-insert_at c).After-place_for-at, c.self.invariant.few, c.if-self-eq-MOST.false) in
+    let full : length all ≡ 512 = whole (goal.at.After-insert_at c).After-place_for-at in
+    let some : c.self.inside.used + 1 ≤ length all = omega (arith, full, c.self.invariant.few, c.if-self-eq-MOST.false) in
     let long = length-take-le (c.self.inside.used + 1) all some in
     front_inserted all c.self.inside.used (omega (arith, some)) c.place_for-at.result _ c.insert_at.new.credits more (c.insert_at.auto.credits ∙ long)
     (rw long at c.insert_at.ensures)
@@ -85,4 +86,6 @@ pub returns-else-self-eq-MOST : goal.returns-else-self-eq-MOST
 returns-else-self-eq-MOST c = rw (← c.self.view_is, front (goal.at.returns-else-self-eq-MOST c).After-insert_at _)
     (new c.args.function _ c.self.invariant.order c.self.inside.other c.place_for-at.result c.place_for-at.ensures.0
     (sym c.stands_at.ensures ∙ c.if-stands_at.false)
-    (λ e. c.if-self-eq-MOST.false (sym (used_long c.self.inside.credits c.self.inside.used (room (goal.at.returns-else-self-eq-MOST c).After-place_for-at)) ∙ e)))
+    (λ e.
+    c.if-self-eq-MOST.false
+    (sym (used_long c.self.inside.credits c.self.inside.used (room (goal.at.returns-else-self-eq-MOST c).After-place_for-at)) ∙ e)))
