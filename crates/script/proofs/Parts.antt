@@ -96,9 +96,6 @@ known_parts_written room line parts later long k = over room line long parts lat
 
 -- ---- where the taking pauses
 
-pub pauses-free : (run : Run) (free : ℕ) {b : Bool} → b ≡ known run → b ≡ false → ltb free text_bytes ≡ pauses run free
-pauses-free run free e l = rw (sym e ∙ l)
-
 pub goes_on_lem : (run : Run) (free : ℕ) → pauses run free ≡ false → text_bytes ≤ free
 goes_on_lem run free e = go (known run) e
   where
