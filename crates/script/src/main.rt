@@ -59,7 +59,8 @@ fn take_some(
     }
 }
 
-// How the program goes on: it reads more; the answer is known; the input has ended; or a read or a write has failed.
+// How the program goes on: it reads more; the answer is known; the input has ended; or a read or a write has failed. This is one
+// case more than `running::Outcome` has: the other programs write only once all is read.
 #[derive(Clone, Copy)]
 enum Outcome {
     Going,
