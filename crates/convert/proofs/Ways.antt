@@ -18,7 +18,6 @@ use Rattle.numbering.specs.declared.ConversionWords.{ConversionWords}
 use Rattle.converting.specs.Promises.{Converts}
 use Rattle.lines.specs.Lines.{bytes}
 use Rattle.replaying.specs.Replays.{table_of}
-use Rattle.replaying.specs.declared.Answer.{Answer}
 use Rattle.replaying.proofs.Rooms.{take_least, least_fits}
 use Rattle.running.specs.Runs.{end_of}
 use Rattle.saying.specs.Texts.{line_text, answer_lines}
@@ -30,7 +29,6 @@ use Rattle.convert.specs.Parts.{last_ending, told_of, report_from}
 use Rattle.convert.specs.declared.Ending.{Ending}
 use Rattle.convert.specs.declared.Ending.TheVariants.{Open, Unmade, Bad as BadLine}
 use Rattle.convert.specs.declared.Course.{Course}
-use Rattle.convert.specs.contracts.Ending.{the_type as ending-type}
 use Rattle.convert.proofs.Parts.{told-answer}
 use Rattle.rules.specs.declared.Unconverted.TheVariants.{Stuck, Rejected}
 
@@ -103,9 +101,3 @@ pub told_as : (c : Course) (room : List ℕ) (e : Ending) {last : Ending} → la
     → {l m : List ℕ} {r : ℕ} → Put (report_text (told_of e (converted (ways_from (table_of c.run.replay room))))) 0 l r m
     → PutFront (report_text (report_from c room)) l r m
 told_as c room e a b p = rw (report_last c room, ← a, b) (put_front p)
-
--- a script that has not ended is not ended by another answer than that at the end
-pub still_ended : (e : Ending) → OneOf (1 ∷ 2 ∷ []) (tag_of ending-type e) → (a : Answer) → e ≡ last_ending e a
-still_ended Open k a = absurd (miss (1 ∷ 2 ∷ []) 0 tt k)
-still_ended (Unmade e) k a = refl
-still_ended (BadLine n) k a = refl

@@ -50,15 +50,8 @@ fn ended_by(answer: Answer) -> Ending
 {
     match answer {
         Answer::Bad(line) => Ending::Bad(line),
-        Answer::Created(verdict) => match verdict {
-            Ok(()) => Ending::Open,
-            Err(refusal) => Ending::Unmade(refusal),
-        },
-        Answer::Nothing => Ending::Open,
-        Answer::Changed(_) => Ending::Open,
-        Answer::Kept(_, _) => Ending::Open,
-        Answer::Found(_) => Ending::Open,
-        Answer::Events(_) => Ending::Open,
+        Answer::Created(Err(refusal)) => Ending::Unmade(refusal),
+        _ => Ending::Open,
     }
 }
 
@@ -66,12 +59,7 @@ fn ended_by(answer: Answer) -> Ending
 fn known(course: Course) -> bool
     ensures { result ≡ has_ended course.ending }
 {
-    let ending = course.ending;
-    match ending {
-        Ending::Open => false,
-        Ending::Unmade(_) => true,
-        Ending::Bad(_) => true,
-    }
+    !matches!(course.ending, Ending::Open)
 }
 
 // What a part of the input makes of it. No byte is taken once the script has ended.
@@ -80,17 +68,14 @@ fn take_part(start: Course, room: &mut [u64], line: &mut [u8; LINE_ROOM], part: 
         ≡ after_bytes (standing start room.old line.old) part.now }
 {
     let mut course = start;
-    for i in 0..part.len() {
+    for byte in part {
         if known(course) {
             return course;
         }
-        let run = course.run;
-        let taken = take_byte(run, room, line, part[i]);
-        let next = taken.run;
-        let answer = taken.answer;
+        let taken = take_byte(course.run, room, line, *byte);
         course = Course {
-            run: next,
-            ending: ended_by(answer),
+            run: taken.run,
+            ending: ended_by(taken.answer),
         };
     }
     course
@@ -104,7 +89,7 @@ struct Turn {
 
 // Reads once, unless all is known, and takes what came.
 fn read_some(
-    stdin: Stdin,
+    mut stdin: Stdin,
     course: Course,
     room: &mut [u64],
     line: &mut [u8; LINE_ROOM],
@@ -119,23 +104,19 @@ fn read_some(
             outcome: Outcome::Known,
         };
     }
-    let mut source = stdin;
-    let Ok(n) = source.read(input) else {
-        return Turn {
-            course,
-            outcome: Outcome::Unread,
-        };
-    };
-    if n == 0 {
-        return Turn {
+    match stdin.read(input) {
+        Ok(0) => Turn {
             course,
             outcome: Outcome::Ended,
-        };
-    }
-    let next = take_part(course, room, line, &input[..n]);
-    Turn {
-        course: next,
-        outcome: Outcome::Going,
+        },
+        Ok(n) => Turn {
+            course: take_part(course, room, line, &input[..n]),
+            outcome: Outcome::Going,
+        },
+        Err(_) => Turn {
+            course,
+            outcome: Outcome::Unread,
+        },
     }
 }
 
@@ -149,19 +130,12 @@ fn read_all(stdin: Stdin, room: &mut [u64], line: &mut [u8; LINE_ROOM], input: &
         run: ready(),
         ending: Ending::Open,
     };
-    let mut parts: u64 = 0;
-    while parts < u64::MAX {
+    for _parts in 0..u64::MAX {
         let turn = read_some(stdin, course, room, line, input);
-        let next = turn.course;
-        let outcome = turn.outcome;
-        let Outcome::Going = outcome else {
-            return Turn {
-                course: next,
-                outcome,
-            };
+        let Outcome::Going = turn.outcome else {
+            return turn;
         };
-        course = next;
-        parts += 1;
+        course = turn.course;
     }
     Turn {
         course,
@@ -206,8 +180,7 @@ fn put_table(words: usize, room: &mut [u64], out: &mut [u8]) -> usize
     requires { (length room.old ≡ words_for largest) × (longest ≤ length out.old) }
     ensures { PutFront (ways_text (take words room.old)) out.old result out.new }
 {
-    let mut space = [0u64; ROOM];
-    let second: &mut [u64] = &mut space;
+    let mut second = [0u64; ROOM];
     let lent = least(words, room.len());
     put_ways(&mut room[..lent], &mut second[..lent], out)
 }
@@ -216,12 +189,10 @@ fn put_table(words: usize, room: &mut [u64], out: &mut [u8]) -> usize
 fn last_ending(course: Course) -> Ending
     ensures { result ≡ last_ending course.ending (end_of course.run) }
 {
-    let ending = course.ending;
-    let Ending::Open = ending else {
-        return ending;
-    };
-    let run = course.run;
-    ended_by(end(run))
+    match course.ending {
+        Ending::Open => ended_by(end(course.run)),
+        ending => ending,
+    }
 }
 
 // Puts the report at the front of a buffer, and answers how many bytes it has.
@@ -229,11 +200,8 @@ fn report(course: Course, room: &mut [u64], out: &mut [u8]) -> usize
     requires { (length room.old ≡ words_for largest) × (longest ≤ length out.old) }
     ensures { PutFront (report_text (report_from course room.old)) out.old result out.new }
 {
-    let last = last_ending(course);
-    let run = course.run;
-    let replay = run.replay;
-    match last {
-        Ending::Open => put_table(replay.words, room, out),
+    match last_ending(course) {
+        Ending::Open => put_table(course.run.replay.words, room, out),
         Ending::Unmade(refusal) => put_line(b"made=", number(refusal), out, 0),
         Ending::Bad(line) => put_line(b"bad=", line, out, 0),
     }
@@ -257,9 +225,7 @@ fn write_report(course: Course, room: &mut [u64], out: &mut [u8]) -> bool
 fn conclude(last: Turn, room: &mut [u64], out: &mut [u8])
     requires { (length room.old ≡ words_for largest) × (longest ≤ length out.old) }
 {
-    let outcome = last.outcome;
-    let course = last.course;
-    match outcome {
+    match last.outcome {
         Outcome::Unread => {
             complain(b"ragansils: standard input could not be read\n");
             return;
@@ -268,10 +234,9 @@ fn conclude(last: Turn, room: &mut [u64], out: &mut [u8])
             complain(b"ragansils: standard input has more parts than can be counted\n");
             return;
         }
-        Outcome::Known => {}
-        Outcome::Ended => {}
+        Outcome::Known | Outcome::Ended => {}
     }
-    if !write_report(course, room, out) {
+    if !write_report(last.course, room, out) {
         complain(b"ragansils: the answers could not be written\n");
     }
 }

@@ -36,7 +36,7 @@ pub struct Script {
 }
 
 // What a line asks for: mostly nothing, since a header and most events have several lines; a table of that cap and top with
-// those multipliers; an event, under a cut line or not; or the end, for a bad line.
+// those multipliers; an event, under a cut line or not; or the end, for a bad line. `HeaderRead` speaks of the four numbers one by one.
 #[derive(Clone, Copy)]
 pub enum Asked {
     Nothing,

@@ -24,11 +24,7 @@ fn called(t: &[u64], list: &mut [u64], call: ScriptCall) -> Answer
         ScriptCall::Begin => Answer::Changed(begin(t, list)),
         ScriptCall::Shrink => Answer::Changed(shrink(t, list)),
         ScriptCall::Back => Answer::Changed(back(t, list)),
-        ScriptCall::Step => {
-            let taken = step(t, list);
-            let change = taken.change;
-            Answer::Changed(change)
-        }
+        ScriptCall::Step => Answer::Changed(step(t, list).change),
         ScriptCall::End => Answer::Changed(end(t, list)),
         ScriptCall::Recover => Answer::Changed(recover(t, list)),
     }
@@ -65,11 +61,10 @@ fn make_change(t: &mut [u64], list: &[u64], change: Change, cut: Option<CutLine>
 pub fn event(t: &mut [u64], call: ScriptCall, cut: Option<CutLine>) -> Answer
     ensures { EventDone call cut t.old result t.new }
 {
-    let mut space = [0; 20];
-    let list: &mut [u64] = &mut space;
-    let own = called(t, list, call);
+    let mut list = [0; 20];
+    let own = called(t, &mut list, call);
     let Answer::Changed(change) = own else {
         return own;
     };
-    make_change(t, list, change, cut)
+    make_change(t, &list, change, cut)
 }

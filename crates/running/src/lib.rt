@@ -13,7 +13,8 @@ use replaying::{Answer, Replay, begun, finish, take_line};
 // that a line is bad.
 pub const LINE_ROOM: usize = 28;
 
-// Where a run stands: in its replay, and how many bytes of the line are held.
+// Where a run stands: in its replay, and how many bytes of the line are held. These bytes are lent beside it, since `BytesAnswerAsLines` speaks
+// of a run in any bytes that are lent.
 #[derive(Clone, Copy)]
 pub struct Run {
     pub replay: Replay,

@@ -26,7 +26,6 @@ use Rattle.script.specs.Outputs.{output_to}
 use Rattle.script.specs.Parts.{begun, text_in, pauses, texts, PartsWritten, KnownPartsWritten, TookSome, TookPart, WentOn}
 use Rattle.script.specs.Parts.{ReadSome, Ran}
 use Rattle.script.specs.declared.Took.{Took}
-use Rattle.script.specs.declared.Part.{Part}
 use Rattle.script.specs.declared.Turn.{Turn}
 use Rattle.script.specs.declared.Outcome.{Outcome}
 use Rattle.script.specs.declared.Outcome.TheVariants.{Going, Known, Ended, Unread, Unwritten}
@@ -97,9 +96,6 @@ known_parts_written room line parts later long k = over room line long parts lat
 
 -- ---- where the taking pauses
 
-pub pauses-free : (run : Run) (free : ℕ) {b : Bool} → b ≡ known run → b ≡ false → ltb free text_bytes ≡ pauses run free
-pauses-free run free e l = rw (sym e ∙ l)
-
 pub goes_on_lem : (run : Run) (free : ℕ) → pauses run free ≡ false → text_bytes ≤ free
 goes_on_lem run free e = go (known run) e
   where
@@ -155,11 +151,29 @@ pub took : {s : Stand} {text : List ℕ} {run : Run} {room line : List ℕ} {tak
     → TookSome s text (record { run = run; taken = taken; waiting = waiting }) (record { run = run; room = room; line = line }) out
 took t why = record { within = t.within; stand = t.stand; fits = t.fits; front = t.front; pausing = why }
 
+pub took_all : {s : Stand} {text : List ℕ} {run : Run} {room line : List ℕ} {taken waiting : ℕ} {out : List ℕ}
+    → Taking s text (record { run = run; room = room; line = line }) taken waiting out
+    → length text ≤ taken
+    → TookSome s text (record { run = run; taken = length text; waiting = waiting }) (record { run = run; room = room; line = line }) out
+took_all {text = text} {taken = taken} t over =
+    let same : taken ≡ length text = omega (arith, over, t.within) in rw (← same) (took t (λ l. absurd (omega (arith, l, over))))
+
 -- ---- the end of the input
 
 pub end-put : (run : Run) {a : Answer} → a ≡ end_of run → {l m : List ℕ} {r : ℕ} → Put (text_of a) 0 l r m
     → take (length (text_of (end_of run))) m ≡ text_of (end_of run)
 end-put run e p = let said = ap text_of e in rw said at (front-text p)
+
+-- ---- the outcomes told apart
+abbrev pub place : Outcome → ℕ
+place Going = 0
+place Known = 1
+place Ended = 2
+place Unread = 3
+place Unwritten = 4
+
+pub differ : (a b : Outcome) → eqb (place a) (place b) ≡ false → a ≡ b → ⊥
+differ a b d e = eqb-false (place a) (place b) d (ap place e)
 
 -- ---- part by part
 
@@ -217,25 +231,13 @@ part-begun s = sym (after_none s)
 
 module _ {s : Stand} {part : List ℕ} {run : Run} {room line : List ℕ} {taken : ℕ} (within : taken ≤ length part)
     (stand : record { run = run; room = room; line = line } ≡ after_bytes s (take taken part)) where
-  pub part_unwritten : TookPart s part (record { run = run; taken = taken; written = false }) (record { run = run; room = room; line = line })
-  part_unwritten = record { within = within; stand = stand; all = λ e. absurd (true_false (sym e)) }
+  pub part_unwritten : TookPart s part Unwritten (record { run = run; room = room; line = line })
+  part_unwritten = record { taken = taken; within = within; stand = stand; all = λ e. absurd (differ Unwritten Going refl e); either = inr refl }
 
-  pub part-stopped : (known run ≡ false → length part ≤ taken)
-      → TookPart s part (record { run = run; taken = taken; written = true }) (record { run = run; room = room; line = line })
-  part-stopped why = record { within = within; stand = stand; all = λ _ k. omega (arith, why k, within) }
+  pub part-stopped : (known run ≡ false → length part ≤ taken) → TookPart s part Going (record { run = run; room = room; line = line })
+  part-stopped why = record { taken = taken; within = within; stand = stand; all = λ _ k. omega (arith, why k, within); either = inl refl }
 
 -- ---- what was read
-
--- the outcomes told apart
-abbrev pub place : Outcome → ℕ
-place Going = 0
-place Known = 1
-place Ended = 2
-place Unread = 3
-place Unwritten = 4
-
-pub differ : (a b : Outcome) → eqb (place a) (place b) ≡ false → a ≡ b → ⊥
-differ a b d e = eqb-false (place a) (place b) d (ap place e)
 
 -- what is left where the program does not go on
 pub not_going : (o : Outcome) → OneOf (1 ∷ 2 ∷ 3 ∷ 4 ∷ []) (tag_of the_type o) → o ≡ Going → ⊥
@@ -260,30 +262,20 @@ read-nothing outcome going knows unread s part none =
       other = (differ outcome Known knows, differ outcome Unread unread);
     }
 
-module _ {s : Stand} {part : List ℕ} {t : Part} {u : Stand} (p : TookPart s part t u) where
-  pub went_on : t.written ≡ true → (length part ≡ 0 → ⊥) → WentOn s part (record { run = t.run; outcome = Going }) u
-  went_on w any =
-      record {
-        taken = t.taken;
-        within = p.within;
-        stand = p.stand;
-        all = λ _. p.all w;
-        some = λ _. omega (arith, any);
-        ended = λ e. absurd (differ Going Ended refl e);
-        other = (differ Going Known refl, differ Going Unread refl);
-      }
-
-  pub went_unwritten : WentOn s part (record { run = t.run; outcome = Unwritten }) u
-  went_unwritten =
-      record {
-        taken = t.taken;
-        within = p.within;
-        stand = p.stand;
-        all = λ e. absurd (differ Unwritten Going refl e);
-        some = λ e. absurd (differ Unwritten Going refl e);
-        ended = λ e. absurd (differ Unwritten Ended refl e);
-        other = (differ Unwritten Known refl, differ Unwritten Unread refl);
-      }
+pub went_on : {s : Stand} {part : List ℕ} {t : Turn} {u : Stand} → TookPart s part t.outcome u → (length part ≡ 0 → ⊥) → WentOn s part t u
+went_on {t = t} p any =
+    record {
+      taken = p.taken;
+      within = p.within;
+      stand = p.stand;
+      all = p.all;
+      some = λ _. omega (arith, any);
+      ended = λ e. absurd (no Ended refl refl e);
+      other = (no Known refl refl, no Unread refl refl);
+    }
+  where
+    no : (o : Outcome) → eqb (place o) 0 ≡ false → eqb (place o) 4 ≡ false → t.outcome ≡ o → ⊥
+    no o going unwritten e = ⊎_elim (λ k. differ o Going going (sym e ∙ k)) (λ k. differ o Unwritten unwritten (sym e ∙ k)) p.either
 
 -- ---- one reading
 

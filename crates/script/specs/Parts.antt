@@ -8,10 +8,9 @@ use Rattle.running.specs.declared.Run.{Run}
 use Rattle.saying.specs.Texts.{text_of, text_bytes}
 use Rattle.script.specs.Outputs.{output_to}
 use Rattle.script.specs.declared.Took.{Took}
-use Rattle.script.specs.declared.Part.{Part}
 use Rattle.script.specs.declared.Turn.{Turn}
 use Rattle.script.specs.declared.Outcome.{Outcome}
-use Rattle.script.specs.declared.Outcome.TheVariants.{Going, Known, Ended, Unread}
+use Rattle.script.specs.declared.Outcome.TheVariants.{Going, Known, Ended, Unread, Unwritten}
 
 -- a run with the lent words and the held bytes; before the first byte
 abbrev pub standing : Run → List ℕ → List ℕ → Stand
@@ -58,10 +57,12 @@ pub record TookSome (s : Stand) (text : List ℕ) (r : Took) (u : Stand) (out : 
   pub pausing : r.taken < length text → pauses u.run (length out - r.waiting) ≡ true
 
 -- of a part all is taken, unless the answer is known or a write failed
-pub record TookPart (s : Stand) (part : List ℕ) (r : Part) (u : Stand) : Type 0 where
-  pub within : r.taken ≤ length part
-  pub stand : u ≡ after_bytes s (take r.taken part)
-  pub all : r.written ≡ true → known u.run ≡ false → r.taken ≡ length part
+pub record TookPart (s : Stand) (part : List ℕ) (outcome : Outcome) (u : Stand) : Type 0 where
+  pub taken : ℕ
+  pub within : taken ≤ length part
+  pub stand : u ≡ after_bytes s (take taken part)
+  pub all : outcome ≡ Going → known u.run ≡ false → taken ≡ length part
+  pub either : (outcome ≡ Going) ⊎ (outcome ≡ Unwritten)
 
 -- what was read is taken. The program goes on where there was some of it and all that it is answered with was written: then all of it
 -- is taken, unless the answer is known. It ends where there was none of it

@@ -25,10 +25,7 @@ struct Took {
 fn pauses(run: Run, free: usize) -> bool
     ensures { result ≡ pauses_of run free }
 {
-    if known(run) {
-        return true;
-    }
-    free < TEXT_BYTES
+    known(run) || free < TEXT_BYTES
 }
 
 fn take_some(
@@ -42,70 +39,28 @@ fn take_some(
         (standing result.run room.new line.new) out.new × (length out.new ≡ length out.old) }
 {
     let mut run = start;
-    let mut taken = 0;
     let mut waiting = 0;
-    while taken < text.len() {
+    for (taken, byte) in text.iter().enumerate() {
         if pauses(run, out.len() - waiting) {
-            break;
+            return Took {
+                run,
+                taken,
+                waiting,
+            };
         }
-        let byte = take_byte(run, room, line, text[taken]);
-        let answer = byte.answer;
-        waiting = say_at(answer, out, waiting);
-        run = byte.run;
-        taken += 1;
+        let next = take_byte(run, room, line, *byte);
+        waiting = say_at(next.answer, out, waiting);
+        run = next.run;
     }
     Took {
         run,
-        taken,
+        taken: text.len(),
         waiting,
     }
 }
 
-// How much of a part is taken, and whether all that it is answered with was written.
-#[derive(Clone, Copy)]
-struct Part {
-    run: Run,
-    taken: usize,
-    written: bool,
-}
-
-fn take_part(
-    start: Run,
-    room: &mut [u64],
-    line: &mut [u8; LINE_ROOM],
-    part: &[u8],
-    out: &mut [u8],
-) -> Part
-    requires { text_bytes ≤ length out.old }
-    ensures { TookPart (standing start room.old line.old) part.now result
-        (standing result.run room.new line.new) }
-{
-    let mut run = start;
-    let mut taken = 0;
-    while taken < part.len() {
-        if known(run) {
-            break;
-        }
-        let took = take_some(run, room, line, &part[taken..], out);
-        run = took.run;
-        taken += took.taken;
-        let waiting = took.waiting;
-        if !io::write_all(STDOUT, &out[..waiting]) {
-            return Part {
-                run,
-                taken,
-                written: false,
-            };
-        }
-    }
-    Part {
-        run,
-        taken,
-        written: true,
-    }
-}
-
-// How the program goes on: it reads more; the answer is known; the input has ended; or a read or a write has failed.
+// How the program goes on: it reads more; the answer is known; the input has ended; or a read or a write has failed. This is one
+// case more than `running::Outcome` has: the other programs write only once all is read.
 #[derive(Clone, Copy)]
 enum Outcome {
     Going,
@@ -119,6 +74,37 @@ enum Outcome {
 struct Turn {
     run: Run,
     outcome: Outcome,
+}
+
+// Takes a part, and writes what it is answered with.
+fn take_part(
+    start: Run,
+    room: &mut [u64],
+    line: &mut [u8; LINE_ROOM],
+    part: &[u8],
+    out: &mut [u8],
+) -> Turn
+    requires { text_bytes ≤ length out.old }
+    ensures { TookPart (standing start room.old line.old) part.now result.outcome
+        (standing result.run room.new line.new) }
+{
+    let mut run = start;
+    let mut taken = 0;
+    while taken < part.len() && !known(run) {
+        let took = take_some(run, room, line, &part[taken..], out);
+        run = took.run;
+        taken += took.taken;
+        if !io::write_all(STDOUT, &out[..took.waiting]) {
+            return Turn {
+                run,
+                outcome: Outcome::Unwritten,
+            };
+        }
+    }
+    Turn {
+        run,
+        outcome: Outcome::Going,
+    }
 }
 
 // Where the input has ended: whether what is answered to that was written.
@@ -143,34 +129,19 @@ fn take_read(
         (standing result.run room.new line.new) }
 {
     if part.len() == 0 {
-        if finish(run, out) {
-            return Turn {
-                run,
-                outcome: Outcome::Ended,
-            };
-        }
-        return Turn {
-            run,
-            outcome: Outcome::Unwritten,
+        let outcome = if finish(run, out) {
+            Outcome::Ended
+        } else {
+            Outcome::Unwritten
         };
+        return Turn { run, outcome };
     }
-    let taken = take_part(run, room, line, part, out);
-    let next = taken.run;
-    if taken.written {
-        return Turn {
-            run: next,
-            outcome: Outcome::Going,
-        };
-    }
-    Turn {
-        run: next,
-        outcome: Outcome::Unwritten,
-    }
+    take_part(run, room, line, part, out)
 }
 
 // Reads once, unless the answer is known, and takes what came.
 fn read_some(
-    stdin: Stdin,
+    mut stdin: Stdin,
     run: Run,
     room: &mut [u64],
     line: &mut [u8; LINE_ROOM],
@@ -187,14 +158,13 @@ fn read_some(
             outcome: Outcome::Known,
         };
     }
-    let mut source = stdin;
-    let Ok(n) = source.read(input) else {
-        return Turn {
+    match stdin.read(input) {
+        Ok(n) => take_read(run, room, line, &input[..n], out),
+        Err(_) => Turn {
             run,
             outcome: Outcome::Unread,
-        };
-    };
-    take_read(run, room, line, &input[..n], out)
+        },
+    }
 }
 
 // A proved loop has to end, and nothing says that the input does. So the parts are counted, up to a number that no run comes to.
@@ -209,16 +179,12 @@ fn read_all(
     ensures { Ran (begun room.old line.old) result.outcome (standing result.run room.new line.new) }
 {
     let mut run = ready();
-    let mut parts: u64 = 0;
-    while parts < u64::MAX {
+    for _parts in 0..u64::MAX {
         let turn = read_some(stdin, run, room, line, input, out);
-        let next = turn.run;
-        let outcome = turn.outcome;
-        let Outcome::Going = outcome else {
-            return Turn { run: next, outcome };
+        let Outcome::Going = turn.outcome else {
+            return turn;
         };
-        run = next;
-        parts += 1;
+        run = turn.run;
     }
     Turn {
         run,
@@ -234,8 +200,7 @@ fn complain(text: &[u8]) {
 // starts the program takes any text there for a failure.
 fn tell(outcome: Outcome) {
     match outcome {
-        Outcome::Known => {}
-        Outcome::Ended => {}
+        Outcome::Known | Outcome::Ended => {}
         Outcome::Unread => complain(b"ragansils: standard input could not be read\n"),
         Outcome::Unwritten => complain(b"ragansils: the answers could not be written\n"),
         Outcome::Going => complain(
@@ -251,6 +216,5 @@ fn main(rt: HostRuntime) {
     let mut input = io::large_buffer();
     let mut out = io::large_buffer();
     let last = read_all(rt.stdin(), &mut words, &mut line, &mut input, &mut out);
-    let outcome = last.outcome;
-    tell(outcome);
+    tell(last.outcome);
 }

@@ -13,6 +13,10 @@ pub slice_bounds-put_ways-end-3 : goal.slice_bounds-put_ways-end-3
 unfolding words_for
 slice_bounds-put_ways-end-3 c = zeros-lent c.least-lent.result 3324 (omega (arith, c.least-lent.ensures, c.requires.0))
 
+pub slice_bounds-second-end : goal.slice_bounds-second-end
+unfolding words_for
+slice_bounds-second-end c = omega (arith, c.least-lent.ensures, c.requires.0)
+
 pub returns : goal.returns
 unfolding words_for
 returns c =

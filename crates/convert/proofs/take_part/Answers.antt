@@ -1,21 +1,19 @@
 -- `convert::take_part` meets its contract.
 -- Assumes nothing.
-use mathlib.Core.Path.{refl, sym, ◌∙◌}
-use native.Mathlib.Omega.{arith}
-use borrow.Author.Rules.{rules}
+use mathlib.Core.Path.{sym, ◌∙◌}
 use Rattle.convert.proofs.Parts.{passed_none, passed_known, passed_more, passed_all}
 use Rattle.convert.proofs.take_part.Goals as goal
 
-pub loop-i-init : goal.loop-i-init
-loop-i-init c = (refl, refl, passed_none _ _)
+pub loop-byte-init : goal.loop-byte-init
+loop-byte-init c = passed_none _ _
 
 pub returns-then-known : goal.returns-then-known
-returns-then-known c = passed_known c.loop-i.invariant.2 (sym c.known.ensures ∙ c.if-known.true)
+returns-then-known c = passed_known c.loop-byte.invariant (sym c.known.ensures ∙ c.if-known.true)
 
-pub loop-i-preserved : goal.loop-i-preserved
-loop-i-preserved c =
+pub loop-byte-preserved : goal.loop-byte-preserved
+loop-byte-preserved c =
     let goes = sym c.known.ensures ∙ c.if-known.false in
-    (refl, search rules, passed_more c.loop-i.invariant.2 (omega arith) goes c.take_byte-taken.ensures c.ended_by.ensures)
+    passed_more c.loop-byte.invariant c.loop-byte-test.true goes c.take_byte-taken.ensures c.ended_by.ensures
 
 pub returns : goal.returns
-returns c = passed_all c.loop-i.invariant.2 (omega (arith, c.loop-i-test.false, c.loop-i.invariant.0))
+returns c = passed_all c.loop-byte.invariant c.loop-byte-test.false

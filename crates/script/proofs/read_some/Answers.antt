@@ -7,8 +7,8 @@ use Rattle.script.proofs.read_some.Goals as goal
 pub returns-then-known : goal.returns-then-known
 returns-then-known c = read_known _ _ (sym c.known.ensures ∙ c.if-known.true)
 
-pub returns-in_default : goal.returns-in_default
-returns-in_default c = read_failed _ _ (sym c.known.ensures ∙ c.if-known.false)
+pub returns-in-Err : goal.returns-in-Err
+returns-in-Err c = read_failed _ _ (sym c.known.ensures ∙ c.if-known.false)
 
-pub returns : goal.returns
-returns c = read_taken c.in-Ok.n _ c.in-Ok.ensures.bound.0 (sym c.known.ensures ∙ c.if-known.false) c.take_read.ensures
+pub returns-in-Ok : goal.returns-in-Ok
+returns-in-Ok c = read_taken c.in-Ok.n _ c.in-Ok.ensures.bound.0 (sym c.known.ensures ∙ c.if-known.false) c.take_read.ensures

@@ -8,7 +8,7 @@ use Rattle.script.proofs.take_part.Given as goal
 
 abbrev pub invariant-loop-taken : goal.invariant-loop-taken
 invariant-loop-taken l =
-    (length l.room ≡ length l.initial.room) × (length l.out ≡ length l.initial.out) × (l.taken ≤ length l.part)
+    (l.taken ≤ length l.part)
     × (record { run = l.run; room = l.room; line = l.line } ≡ after_bytes (record { run = l.initial.run; room = l.initial.room; line = l.initial.line }) (take l.taken l.part))
 
 abbrev pub decreases-loop-taken : goal.decreases-loop-taken

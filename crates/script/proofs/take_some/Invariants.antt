@@ -1,15 +1,8 @@
 -- `script::take_some` meets its contract: before byte `taken`, the text of those before it is at the front of the buffer.
 -- Assumes nothing.
-use Prim.Native.Nat.{◌-◌}
-use mathlib.Core.Path.{◌≡◌}
-use lib.ListN.{length}
 use Rattle.script.proofs.Parts.{Taking}
 use Rattle.script.proofs.take_some.Given as goal
 
 abbrev pub invariant-loop-taken : goal.invariant-loop-taken
 invariant-loop-taken l =
-    (length l.room ≡ length l.initial.room) × (length l.out ≡ length l.initial.out)
-    × Taking (record { run = l.initial.run; room = l.initial.room; line = l.initial.line }) l.text (record { run = l.run; room = l.room; line = l.line }) l.taken l.waiting l.out
-
-abbrev pub decreases-loop-taken : goal.decreases-loop-taken
-decreases-loop-taken l = length l.text - l.taken
+    Taking (record { run = l.initial.run; room = l.initial.room; line = l.initial.line }) l.text (record { run = l.run; room = l.room; line = l.line }) l.taken l.waiting l.out

@@ -27,7 +27,7 @@ pub returns-in-Back : goal.returns-in-Back
 returns-in-Back c = rw c.in-Back.is (called-change _ refl c.back.ensures)
 
 pub returns-in-Step : goal.returns-in-Step
-returns-in-Step c = rw c.in-Step.is (called-change _ refl (step-changes c.step-taken.ensures))
+returns-in-Step c = rw c.in-Step.is (called-change _ refl (step-changes c.step.ensures))
 
 pub returns-in-End : goal.returns-in-End
 returns-in-End c = rw c.in-End.is (called-change _ refl c.end.ensures)
