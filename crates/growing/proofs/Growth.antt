@@ -6,8 +6,6 @@ use mathlib.Core.Bool.{Bool, true, false, cond}
 use mathlib.Core.List.{List, [], ◌∷◌, head?}
 use native.Mathlib.Omega.{arith}
 use borrow.Author.Tests.{eq-eqb, ne_eqb, le-leb, lt-leb}
-use denote.Enum.Declared.{tag_of}
-use types.Run.{OneOf}
 use Rattle.rules.specs.Choice.{empty}
 use Rattle.rules.specs.Words.{Table, GoodState, at_rest, shrinking}
 use Rattle.rules.specs.Stores.{begun_of, shrunk_of, turned_of, ended_of, state_stores}
@@ -19,25 +17,23 @@ use Rattle.rules.specs.declared.Refusal.TheVariants.{AlreadyResizing, AtCapacity
 use Rattle.rules.proofs.Words.States.{state-fits}
 use Rattle.rules.proofs.Tables.Interims.{items_all}
 use Rattle.growing.specs.Interim.{item_of}
-use Rattle.growing.specs.declared.interim.Item.{Item}
-use Rattle.growing.specs.declared.interim.Item.TheVariants.{At, Empty}
-use Rattle.growing.specs.contracts.interim.Item.{the_type}
+use Rattle.std.specs.Prelude.{Option as Answer, Some, None, is_some}
 
--- an item by the number of its case
-pub is_empty : (i : Item) → OneOf (1 ∷ []) (tag_of the_type i) → i ≡ Empty
-is_empty (At x) e = absurd (omega arith)
-is_empty Empty e = refl
+-- an item that is there
+pub is_there : {i : Answer Slot} → is_some i ≡ true → (x : Slot) × (i ≡ Some x)
+is_there {i = Some x} e = (x, refl)
+is_there {i = None} e = absurd (let z : ◌≡◌ {A = ℕ} 0 1 = cc in omega arith)
 
-pub is_there : (i : Item) → OneOf (0 ∷ []) (tag_of the_type i) → (x : Slot) × (i ≡ At x)
-is_there (At x) e = (x, refl)
-is_there Empty e = absurd (omega arith)
+pub is_nothing : {i : Answer Slot} → is_some i ≡ false → i ≡ None
+is_nothing {i = Some x} e = absurd (let z : ◌≡◌ {A = ℕ} 0 1 = cc in omega arith)
+is_nothing {i = None} e = refl
 
 -- an item found is one that stands
-pub nothing : (l : List Slot) → item_of (head? l) ≡ Empty → empty l ≡ true
+pub nothing : (l : List Slot) → item_of (head? l) ≡ None → empty l ≡ true
 nothing [] e = refl
 nothing (x ∷ l) e = absurd (let z : ◌≡◌ {A = ℕ} 0 1 = cc in omega arith)
 
-pub something : {x : Slot} (l : List Slot) → item_of (head? l) ≡ At x → empty l ≡ false
+pub something : {x : Slot} (l : List Slot) → item_of (head? l) ≡ Some x → empty l ≡ false
 something [] e = absurd (let z : ◌≡◌ {A = ℕ} 0 1 = cc in omega arith)
 something (x ∷ l) e = refl
 
@@ -89,11 +85,11 @@ module _ (t : Table) (h : Header) where
   unfolding end_of end_tests
   end-resting e = rw e
 
-  module _ {i : Item} (k : i ≡ item_of (head? (items_from t h 0))) (p : at_rest h.state ≡ false) where
-    pub end-taken : {x : Slot} → i ≡ At x → refused InterimTaken ≡ end_of t h
+  module _ {i : Answer Slot} (k : i ≡ item_of (head? (items_from t h 0))) (p : at_rest h.state ≡ false) where
+    pub end-taken : {x : Slot} → i ≡ Some x → refused InterimTaken ≡ end_of t h
     unfolding end_of end_tests
     end-taken e = rw (p, ← items_all t h, something (items_from t h 0) (sym k ∙ e))
 
-    pub end-listed : {s : State} → i ≡ Empty → s ≡ ended_of h.state → listed (state_stores s) ≡ end_of t h
+    pub end-listed : {s : State} → i ≡ None → s ≡ ended_of h.state → listed (state_stores s) ≡ end_of t h
     unfolding end_of end_tests
     end-listed e g = rw (p, ← items_all t h, nothing (items_from t h 0) (sym k ∙ e), g)

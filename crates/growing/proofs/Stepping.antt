@@ -38,12 +38,12 @@ use Rattle.listing.proofs.Runs.{then, front}
 use Rattle.growing.specs.Interim.{item_of, FoundBy}
 use Rattle.growing.specs.Steps.{RefusedStep, DidStep}
 use Rattle.growing.proofs.Searches.{is_nowhere, placed-none, begins_there}
-use Rattle.growing.specs.declared.interim.Item.TheVariants.{At}
+use Rattle.std.specs.Prelude.{Some}
 use Rattle.growing.specs.declared.interim.Found.{Found}
 
 -- ---- the item
 
-pub item-some : (o : Option Slot) {x : Slot} → item_of o ≡ At x → o ≡ some x
+pub item-some : (o : Option Slot) {x : Slot} → item_of o ≡ Some x → o ≡ some x
 item-some none e = absurd (let z : ◌≡◌ {A = ℕ} 0 1 = cc in omega arith)
 item-some (some y) {x} e = let k : y ≡ x = cc in ap some k
 

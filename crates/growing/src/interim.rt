@@ -16,12 +16,6 @@ use reading::tokens::{any_taken, is_taken, lowest_taken};
 use rules::{Header, Place, Placing, Slot, State};
 use words::power;
 
-#[derive(Clone, Copy)]
-pub enum Item {
-    At(Slot),
-    Empty,
-}
-
 // An item and the placing that was found for it: nothing where no item has a place.
 #[derive(Clone, Copy)]
 pub struct Found {
@@ -30,7 +24,7 @@ pub struct Found {
 }
 
 // The first taken interim slot from bucket b of the level on, whether it has a place or not.
-pub fn first_item(t: &[u64], h: Header, b: u64) -> Item
+pub fn first_item(t: &[u64], h: Header, b: u64) -> Option<Slot>
     requires { GoodHeader (length t.now) h × (at_rest h.state ≡ false) }
     ensures { (result ≡ item_of (head? (items_from t.now h b))) × ItemWithin t.now result }
 {
@@ -40,14 +34,14 @@ pub fn first_item(t: &[u64], h: Header, b: u64) -> Item
         let j = m - 1 + i;
         let word = token(t, j);
         if any_taken(h, word) {
-            return Item::At(Slot {
+            return Some(Slot {
                 level: level.name,
                 bucket: j,
                 slot: lowest_taken(h, word),
             });
         }
     }
-    Item::Empty
+    None
 }
 
 // The bucket of a slot of the interim level, "counted from 0 in the level".
@@ -106,8 +100,7 @@ pub fn first_placed(t: &[u64], h: Header, b: usize) -> Found
         };
         if any_taken(h, token(t, place.bucket)) {
             let found = placed_in(t, h, place);
-            let p = found.placing;
-            let Placing::Nowhere = p else {
+            let Placing::Nowhere = found.placing else {
                 return found;
             };
         }

@@ -12,7 +12,7 @@ ghost use Rattle.reading.specs.Gates.{Headed};
 ghost use Rattle.listing.specs.Promises.{Changed, StepTaken, StepTakenFrom, Did};
 ghost use Rattle.growing.specs.Steps.{RefusedStep, DidStep};
 
-use interim::{Item, bucket_in_level, first_item, first_placed};
+use interim::{bucket_in_level, first_item, first_placed};
 use listing::{clear, list_placing, store};
 use reading::gate::change_gate;
 use reading::places::tag;
@@ -139,15 +139,13 @@ fn step_at(t: &[u64], list: &mut [u64], h: Header, b: u64) -> SteppedFrom
     requires { (20 ≤ length list.old) × Headed t.now h }
     ensures { DidStep t.now h (step_item t.now h b) (step_of t.now h b) list.old result list.new }
 {
-    let state = h.state;
-    if state.at_rest() {
+    if h.state.at_rest() {
         return unplaced(Refusal::NotResizing);
     }
-    let item = first_item(t, h, b);
-    let Item::At(first) = item else {
+    let Some(first) = first_item(t, h, b) else {
         return unplaced(Refusal::InterimEmpty);
     };
-    step_item(t, list, h, bucket_in_level(state, first))
+    step_item(t, list, h, bucket_in_level(h.state, first))
 }
 
 // After the tests 1, 2 and 3: "8 | not growing", "11 | interim empty", "6 | no place", of the interim items from bucket b of the level on.
@@ -177,10 +175,9 @@ fn end_at(t: &[u64], list: &mut [u64], h: Header) -> Change
     if state.at_rest() {
         return Err(Refusal::NotResizing);
     }
-    let item = first_item(t, h, 0);
-    let Item::Empty = item else {
+    if first_item(t, h, 0).is_some() {
         return Err(Refusal::InterimTaken);
-    };
+    }
     restate(list, state.ended())
 }
 
