@@ -1,14 +1,13 @@
 -- The first pairs of a list, one after the other, as the tests and the stores of make go through them.
 -- Assumes nothing.
-use Prim.Native.Nat.{ℕ, suc, ◌+◌, ◌-◌, ◌*◌, ◌/◌, ◌≤◌, ◌<◌}
-use mathlib.Core.Path.{◌≡◌, refl, sym, ◌∙◌}
+use Prim.Native.Nat.{ℕ, zero, suc, ◌-◌, ◌*◌, ◌/◌, ◌≤◌, ◌<◌}
+use mathlib.Core.Path.{◌≡◌, refl, sym, ap, ◌∙◌}
 use mathlib.Core.Bool.{true, false, and-false}
 use mathlib.Core.List.{List, [], ◌∷◌, map}
-use native.Mathlib.Nat.{sub-zero}
 use native.Mathlib.Omega.{arith}
 use borrow.Author.Tests.{lt-ltb, le-ltb, le-leb, lt-leb, ltb-true}
-use lib.ListN.{length, drop, set}
-use lib.Seq.{drop-cons}
+use lib.ListN.{length, get_or, take, drop, set}
+use lib.Seq.{take_all}
 use lib.Dec.{ltb}
 use Rattle.rules.specs.Words.{Table, word}
 use Rattle.rules.specs.Stores.{Store, pairs, made}
@@ -19,47 +18,64 @@ use Rattle.rules.proofs.Basics.Tests.{all_yes}
 use Rattle.making.specs.Promises.{Made}
 use Rattle.making.specs.Indexes.{inside}
 
--- the pairs from pair i on
-pub rest : ℕ → List ℕ → ℕ → List Store
-rest n l i = pairs (n - i) (drop (2 * i) l)
+-- the pairs of a list
+pub pairs_in : List ℕ → List Store
+pairs_in [] = []
+pairs_in (index ∷ []) = []
+pairs_in (index ∷ word ∷ others) = (index, word) ∷ pairs_in others
 
-module _ (n : ℕ) (l : List ℕ) where
-  pub rest_all : rest n l 0 ≡ pairs n l
-  unfolding rest
-  rest_all = rw sub-zero
+-- the first n
+pub pairs_taken : (n : ℕ) (l : List ℕ) → 2 * n ≤ length l → pairs_in (take (2 * n) l) ≡ pairs n l
+unfolding pairs_in
+pairs_taken zero l h = refl
+pairs_taken (suc n) [] h = absurd (omega arith)
+pairs_taken (suc n) (x ∷ []) h = absurd (omega arith)
+pairs_taken (suc n) (x ∷ y ∷ l) h =
+    let e : 2 * suc n ≡ suc (suc (2 * n)) = omega arith in
+    rw e (ap (λ (r : List Store). (x, y) ∷ r) (pairs_taken n l (omega arith)))
 
-  pub rest_end : (i : ℕ) → n ≤ i → rest n l i ≡ []
-  unfolding rest
-  rest_end i h = let e : n - i ≡ 0 = omega arith in rw e
+-- no pair is left
+pub no_pairs : (l : List ℕ) → length l < 2 → pairs_in l ≡ []
+unfolding pairs_in
+no_pairs [] h = refl
+no_pairs (x ∷ []) h = refl
+no_pairs (x ∷ y ∷ l) h = absurd (omega arith)
 
-  module _ (room : 2 * n ≤ length l) (i : ℕ) (more : i < n) where
-    rest-next : rest n l i ≡ (word l (2 * i), word l (2 * i + 1)) ∷ rest n l (i + 1)
-    unfolding rest
-    rest-next =
-        let e : n - i ≡ suc (n - (i + 1)) = omega arith in
-        let e₁ : 2 * i + 1 ≡ suc (2 * i) = omega arith in
-        let e₂ : 2 * (i + 1) ≡ suc (suc (2 * i)) = omega arith in
-        rw (e, drop-cons l (2 * i) 0 (omega arith), drop-cons l (suc (2 * i)) 0 (omega arith), e₁, e₂)
+module _ (l : List ℕ) (more : 2 ≤ length l) where
+  -- the first pair, and the others
+  abbrev pub others : List ℕ
+  others = take (length l - 2) (drop 2 l)
 
-    -- the test of pair i
-    pub index_outside : (size : ℕ) → size ≤ word l (2 * i) → inside size (rest n l i) ≡ false
-    unfolding inside
-    index_outside size h = rw (rest-next, le-ltb _ _ h)
+  pub first_pair : pairs_in l ≡ (get_or l 0 0, get_or l 1 0) ∷ pairs_in others
+  unfolding pairs_in
+  first_pair = go l more
+    where
+      go : (l : List ℕ) → 2 ≤ length l → pairs_in l ≡ (get_or l 0 0, get_or l 1 0) ∷ pairs_in (take (length l - 2) (drop 2 l))
+      go [] h = absurd (omega arith)
+      go (x ∷ []) h = absurd (omega arith)
+      go (x ∷ y ∷ l) h =
+          let e : suc (suc (length l)) - 2 ≡ length l = omega arith in
+          rw (e, take_all (length l) l (omega arith)) refl
 
-    pub index-inside : (size : ℕ) → word l (2 * i) < size → inside size (rest n l i) ≡ inside size (rest n l (i + 1))
-    unfolding inside
-    index-inside size h = rw (rest-next, lt-ltb _ _ h)
+  -- the test of the first
+  pub index_outside : (size : ℕ) → size ≤ get_or l 0 0 → inside size (pairs_in l) ≡ false
+  unfolding inside
+  index_outside size h = rw (first_pair, le-ltb _ _ h)
 
-    -- and what it says where all pass
-    pub indexes-inside : (size : ℕ) → inside size (rest n l i) ≡ true → (word l (2 * i) < size) × (inside size (rest n l (i + 1)) ≡ true)
-    unfolding inside
-    indexes-inside size e =
-        let tests = map (λ (x : Store). ltb x.0 size) ((word l (2 * i), word l (2 * i + 1)) ∷ rest n l (i + 1)) in
-        let h : word l (2 * i) < size = ltb-true _ _ (all_yes tests (rw rest-next at e) 0) in
-        (h, sym (index-inside size h) ∙ e)
+  pub index-inside : (size : ℕ) → get_or l 0 0 < size → inside size (pairs_in l) ≡ inside size (pairs_in others)
+  unfolding inside
+  index-inside size h = rw (first_pair, lt-ltb _ _ h)
 
-    pub stored : (t : Table) → made t (rest n l i) ≡ made (set t (word l (2 * i)) (word l (2 * i + 1))) (rest n l (i + 1))
-    stored t = rw rest-next
+  -- and what it says where all pass
+  pub indexes-inside : (size : ℕ) → inside size (pairs_in l) ≡ true → (get_or l 0 0 < size) × (inside size (pairs_in others) ≡ true)
+  unfolding inside
+  indexes-inside size e =
+      let tests = map (λ (x : Store). ltb x.0 size) ((get_or l 0 0, get_or l 1 0) ∷ pairs_in others) in
+      let h : get_or l 0 0 < size = ltb-true _ _ (all_yes tests (rw first_pair at e) 0) in
+      (h, sym (index-inside size h) ∙ e)
+
+  pub stored : (t : Table) → made t (pairs_in l) ≡ made (set t (get_or l 0 0) (get_or l 1 0)) (pairs_in others)
+  stored t = rw first_pair
 
 -- the answers of make
 module _ (t : Table) (l : List ℕ) (n : ℕ) where

@@ -45,9 +45,7 @@ fn creation_good(size: usize, form: u64, c: u64, k: u64, mul1: u64, mul2: u64) -
 fn zero(t: &mut [u64])
     ensures { t.new ≡ replicate (length t.old) 0 }
 {
-    for i in 0..t.len() {
-        t[i] = 0;
-    }
+    t.fill(0);
 }
 
 // "Creation zeroes all words and writes the header." At rest the state word is k.
@@ -71,11 +69,12 @@ fn indexes_inside(size: usize, list: &[u64], count: usize) -> bool
     requires { 2 * count ≤ length list.now }
     ensures { result ≡ inside size (pairs count list.now) }
 {
-    for i in 0..count {
-        let index = list[2 * i] as usize;
-        if size <= index {
+    let mut rest = &list[..2 * count];
+    while let [index, _, others @ ..] = rest {
+        if size <= *index as usize {
             return false;
         }
+        rest = others;
     }
     true
 }
@@ -84,9 +83,10 @@ fn store_all(t: &mut [u64], list: &[u64], count: usize)
     requires { (2 * count ≤ length list.now) × (inside (length t.old) (pairs count list.now) ≡ true) }
     ensures { t.new ≡ made t.old (pairs count list.now) }
 {
-    for i in 0..count {
-        let index = list[2 * i] as usize;
-        t[index] = list[2 * i + 1];
+    let mut rest = &list[..2 * count];
+    while let [index, word, others @ ..] = rest {
+        t[*index as usize] = *word;
+        rest = others;
     }
 }
 

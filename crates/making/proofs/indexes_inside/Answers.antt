@@ -1,35 +1,19 @@
--- `making::indexes_inside` meets its contract: the answer for all pairs is the answer for those from i on.
+-- `making::indexes_inside` meets its contract: the answer for all pairs is the answer for those that are left.
 -- Assumes nothing.
 use mathlib.Core.Path.{sym, ap, ◌∙◌}
-use native.Mathlib.Omega.{arith}
 use Rattle.making.specs.Indexes.{inside}
-use Rattle.making.proofs.Making.{rest_all, rest_end, index_outside, index-inside}
+use Rattle.making.proofs.Making.{pairs_taken, no_pairs, index_outside, index-inside}
 use Rattle.making.proofs.indexes_inside.Goals as goal
 
-pub loop-i-init : goal.loop-i-init
-loop-i-init c = ap (inside _) (sym (rest_all _ _))
-
-pub overflow_mul-index : goal.overflow_mul-index
-overflow_mul-index c = omega arith
-
-pub offset_bounds-list-i : goal.offset_bounds-list-i
-offset_bounds-list-i c = omega arith
-
-pub bounds-list-i : goal.bounds-list-i
-bounds-list-i c = omega arith
+pub loop-rest-init : goal.loop-rest-init
+loop-rest-init c = ap (inside _) (sym (pairs_taken _ _ c.requires))
 
 pub returns-then-size-index : goal.returns-then-size-index
-returns-then-size-index c = sym (c.loop-i.invariant ∙ index_outside _ _ c.requires _ c.loop-i-test.true _ c.if-size-index.true)
+returns-then-size-index c = sym (c.loop-rest.invariant ∙ index_outside _ c.in-len2-up.len_at_least _ c.if-size-index.true)
 
-pub overflow_step-i : goal.overflow_step-i
-overflow_step-i c = omega arith
-
-pub loop-i-smaller : goal.loop-i-smaller
-loop-i-smaller c = omega arith
-
-pub loop-i-preserved : goal.loop-i-preserved
-loop-i-preserved c = c.loop-i.invariant ∙ index-inside _ _ c.requires _ c.loop-i-test.true _ c.if-size-index.false
+pub loop-rest-preserved : goal.loop-rest-preserved
+loop-rest-preserved c = c.loop-rest.invariant ∙ index-inside _ c.in-len2-up.len_at_least _ c.if-size-index.false
 
 pub returns : goal.returns
 unfolding inside
-returns c = sym (c.loop-i.invariant ∙ ap (inside _) (rest_end _ _ _ c.loop-i-test.false))
+returns c = sym (c.loop-rest.invariant ∙ ap (inside _) (no_pairs _ c.in_default.len_below))
