@@ -27,7 +27,8 @@ use Rattle.rules.specs.declared.Refusal.TheVariants.{KeyPresent, KeyAbsent, NoPl
 use Rattle.rules.proofs.Basics.Lists.{never}
 use Rattle.rules.proofs.Calls.Meanings.{lookup-told_by}
 use Rattle.rules.specs.contracts.Placing.{the_type as placing-type}
-use Rattle.placing.specs.Search.{optional}
+use Rattle.std.specs.Prelude.{Option as Answer, Some, None}
+use Rattle.reading.specs.Within.{slot_found}
 use Rattle.listing.specs.Listing.{listed_at, Run, Takes}
 use Rattle.changing.specs.Founds.{has_found}
 use Rattle.placing.proofs.Placings.{not_free, is_free}
@@ -82,18 +83,18 @@ module _ (t : Table) (h : Header) (key : ℕ) (r : Record) {p : Placing} (q : p 
 
 -- ---- an update's stores
 
-module _ (t : Table) (h : Header) (l : List ℕ) (x : Slot) (key : ℕ) (r : Record) (p : Placing)
-    (o : optional p ≡ map Free (free_slot t h (place_of x))) where
-  pub renew_free : {y : Slot} {w v n : ℕ} {m : List ℕ} → p ≡ Free y → w ≡ token_of t x.bucket → v ≡ hide h w x.slot
+module _ (t : Table) (h : Header) (l : List ℕ) (x : Slot) (key : ℕ) (r : Record) (p : Answer Slot)
+    (o : p ≡ slot_found (free_slot t h (place_of x))) where
+  pub renew_free : {y : Slot} {w v n : ℕ} {m : List ℕ} → p ≡ Some y → w ≡ token_of t x.bucket → v ≡ hide h w x.slot
       → (n ≡ 0 + 4) × (m ≡ listed_at l 0 (put_stores h v y key r))
       → Run n l m (update_stores t h x key r) × (n ≤ 7)
   unfolding update_stores put_stores
-  renew_free {y} e f g s = rw (is_free e (free_slot t h (place_of x)) o, ← f, ← g) (s, omega (arith, s.0))
+  renew_free {y} e f g s = rw (is_free (free_slot t h (place_of x)) o e, ← f, ← g) (s, omega (arith, s.0))
 
-  pub renew_full : {n₁ n₂ : ℕ} {l₁ l₂ : List ℕ} → OneOf (1 ∷ 2 ∷ []) (tag_of placing-type p)
+  pub renew_full : {n₁ n₂ : ℕ} {l₁ l₂ : List ℕ} → p ≡ None
       → (n₁ ≡ 0 + 4) × (l₁ ≡ listed_at l 0 (log_stores x r)) → (n₂ ≡ n₁ + 3) × (l₂ ≡ listed_at l₁ n₁ (redo_stores x r))
       → Run n₂ l l₂ (update_stores t h x key r) × (n₂ ≤ 7)
   unfolding update_stores redo_stores
   renew_full k s₁ s₂ =
-      rw (not_free p k (free_slot t h (place_of x)) o)
+      rw (not_free (free_slot t h (place_of x)) o k)
       ((omega (arith, s₁.0, s₂.0), then l 0 (log_stores x r) (redo_stores x r) s₁.1 s₁.0 s₂.1), omega (arith, s₁.0, s₂.0))

@@ -64,7 +64,7 @@ fn renewed(t: &[u64], list: &mut [u64], h: Header, x: Slot, key: u64, tag: u64, 
             bucket: x.bucket,
         },
     );
-    let Placing::Free(y) = free else {
+    let Some(y) = free else {
         let at = log(list, 0, x, r);
         return redo(list, at, x, r);
     };

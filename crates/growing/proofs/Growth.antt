@@ -16,7 +16,7 @@ use Rattle.rules.specs.declared.Slot.{Slot}
 use Rattle.rules.specs.declared.Refusal.TheVariants.{AlreadyResizing, AtCapacity, NotResizing, InterimTaken, TooSmall}
 use Rattle.rules.proofs.Words.States.{state-fits}
 use Rattle.rules.proofs.Tables.Interims.{items_all}
-use Rattle.growing.specs.Interim.{item_of}
+use Rattle.reading.specs.Within.{slot_found}
 use Rattle.std.specs.Prelude.{Option as Answer, Some, None, is_some}
 
 -- an item that is there
@@ -29,11 +29,11 @@ is_nothing {i = Some x} e = absurd (let z : ◌≡◌ {A = ℕ} 0 1 = cc in omeg
 is_nothing {i = None} e = refl
 
 -- an item found is one that stands
-pub nothing : (l : List Slot) → item_of (head? l) ≡ None → empty l ≡ true
+pub nothing : (l : List Slot) → slot_found (head? l) ≡ None → empty l ≡ true
 nothing [] e = refl
 nothing (x ∷ l) e = absurd (let z : ◌≡◌ {A = ℕ} 0 1 = cc in omega arith)
 
-pub something : {x : Slot} (l : List Slot) → item_of (head? l) ≡ Some x → empty l ≡ false
+pub something : {x : Slot} (l : List Slot) → slot_found (head? l) ≡ Some x → empty l ≡ false
 something [] e = absurd (let z : ◌≡◌ {A = ℕ} 0 1 = cc in omega arith)
 something (x ∷ l) e = refl
 
@@ -85,7 +85,7 @@ module _ (t : Table) (h : Header) where
   unfolding end_of end_tests
   end-resting e = rw e
 
-  module _ {i : Answer Slot} (k : i ≡ item_of (head? (items_from t h 0))) (p : at_rest h.state ≡ false) where
+  module _ {i : Answer Slot} (k : i ≡ slot_found (head? (items_from t h 0))) (p : at_rest h.state ≡ false) where
     pub end-taken : {x : Slot} → i ≡ Some x → refused InterimTaken ≡ end_of t h
     unfolding end_of end_tests
     end-taken e = rw (p, ← items_all t h, something (items_from t h 0) (sym k ∙ e))

@@ -35,7 +35,8 @@ use Rattle.reading.proofs.Gated.{gate_open, gate_shut}
 use Rattle.listing.specs.Listing.{listed_at, Run, Takes}
 use Rattle.listing.specs.Promises.{StepTaken, StepTakenFrom}
 use Rattle.listing.proofs.Runs.{then, front}
-use Rattle.growing.specs.Interim.{item_of, FoundBy}
+use Rattle.reading.specs.Within.{slot_found}
+use Rattle.growing.specs.Interim.{FoundBy}
 use Rattle.growing.specs.Steps.{RefusedStep, DidStep}
 use Rattle.growing.proofs.Searches.{is_nowhere, placed-none, begins_there}
 use Rattle.std.specs.Prelude.{Some}
@@ -43,7 +44,7 @@ use Rattle.growing.specs.declared.interim.Found.{Found}
 
 -- ---- the item
 
-pub item-some : (o : Option Slot) {x : Slot} → item_of o ≡ Some x → o ≡ some x
+pub item-some : (o : Option Slot) {x : Slot} → slot_found o ≡ Some x → o ≡ some x
 item-some none e = absurd (let z : ◌≡◌ {A = ℕ} 0 1 = cc in omega arith)
 item-some (some y) {x} e = let k : y ≡ x = cc in ap some k
 

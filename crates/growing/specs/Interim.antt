@@ -1,6 +1,6 @@
 -- The first item of the interim level, and the first that has a place, as the code answers them.
 -- Assumes nothing.
-use Rattle.std.specs.Prelude.{◌≡◌, true, cond, Option as Answer, Some, None}
+use Rattle.std.specs.Prelude.{◌≡◌, true, cond}
 use Rattle.std.proofs.Math.Option.{Option, none, some}
 use Rattle.rules.specs.Choice.{given, first_of}
 use Rattle.rules.specs.Words.{Table, slots_in, key_in, taken}
@@ -12,16 +12,6 @@ use Rattle.rules.specs.declared.Slot.{Slot}
 use Rattle.rules.specs.declared.Placing.TheVariants.{Nowhere}
 use Rattle.reading.specs.Within.{SlotWithin, PlacingWithin}
 use Rattle.growing.specs.declared.interim.Found.{Found}
-
--- an item as the code answers it
-abbrev pub item_of : Option Slot → Answer Slot
-item_of (some x) = Some x
-item_of none = None
-
--- where an item stands
-abbrev pub ItemWithin : Table → Answer Slot → Type 0
-ItemWithin t (Some x) = SlotWithin t x
-ItemWithin t None = Unit {0}
 
 -- a slot that is taken by an item that has a place; and the first such slot of a bucket
 unfoldable pub placeable : Table → Header → Slot → Option Slot

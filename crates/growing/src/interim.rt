@@ -5,8 +5,8 @@ ghost use mathlib.Core.List.{head?};
 ghost use Rattle.rules.specs.Words.{GoodState, GoodHeader, at_rest, interim_of, InLevel};
 ghost use Rattle.rules.specs.Calls.{interim_bucket, items_from, step_item};
 ghost use Rattle.reading.specs.Gates.{Headed};
-ghost use Rattle.reading.specs.Within.{BucketWithin};
-ghost use Rattle.growing.specs.Interim.{item_of, ItemWithin, placeable_in, FoundBy};
+ghost use Rattle.reading.specs.Within.{BucketWithin, slot_found, FoundWithin};
+ghost use Rattle.growing.specs.Interim.{placeable_in, FoundBy};
 
 use placing::interim_placing;
 use reading::levels::interim;
@@ -26,7 +26,7 @@ pub struct Found {
 // The first taken interim slot from bucket b of the level on, whether it has a place or not.
 pub fn first_item(t: &[u64], h: Header, b: u64) -> Option<Slot>
     requires { GoodHeader (length t.now) h × (at_rest h.state ≡ false) }
-    ensures { (result ≡ item_of (head? (items_from t.now h b))) × ItemWithin t.now result }
+    ensures { (result ≡ slot_found (head? (items_from t.now h b))) × FoundWithin t.now result }
 {
     let level = interim(h.state);
     let m = power(level.exponent);

@@ -19,9 +19,10 @@ use Rattle.rules.specs.declared.Level.{Level}
 use Rattle.rules.specs.declared.Hashes.{Hashes}
 use Rattle.rules.specs.declared.Place.{Place}
 use Rattle.rules.specs.declared.Slot.{Slot}
-use Rattle.rules.specs.declared.Placing.TheVariants.{Free}
 use Rattle.rules.proofs.Basics.Tests.{tells_and}
 use Rattle.rules.proofs.Basics.Lists.{first_of-map, first_of-given}
+use Rattle.std.specs.Prelude.{Some, None}
+use Rattle.reading.specs.Within.{slot_found}
 use Rattle.reading.specs.Levels.{place_in}
 use Rattle.rules.proofs.Basics.Lowest.{lowest-some, lowest-none}
 use Rattle.placing.specs.Buckets.{item_in, items_in, first_free}
@@ -87,10 +88,10 @@ module _ (t : Table) (h : Header) (p : Place) {word s : ℕ} {items : List (List
   unfolding items_in slots_in
   number = e ∙ sym (first_record h word items (ap length b))
 
-  pub place-full : s ≡ 4 → none ≡ map Free (free_slot t h p)
+  pub place-full : s ≡ 4 → None ≡ slot_found (free_slot t h p)
   place-full q = rw (free_in_lem t h p, ← w, no_free h word number q)
 
-  pub place-free : {x : Slot} → s ≤ 4 → (s ≡ 4 → ⊥) → x ≡ slot_at p s → some (Free x) ≡ map Free (free_slot t h p)
+  pub place-free : {x : Slot} → s ≤ 4 → (s ≡ 4 → ⊥) → x ≡ slot_at p s → Some x ≡ slot_found (free_slot t h p)
   place-free l n g = rw (free_in_lem t h p, ← w, one_free h word number (omega arith), g)
 
 module _ (t : Table) (h : Header) (f s : Place) {v w m n : ℕ} (a : v ≡ token_of t f.bucket) (b : m ≡ taken_of h v) (c : w ≡ token_of t s.bucket)
@@ -118,12 +119,12 @@ module _ (t : Table) (h : Header) (x : Hashes) (l : Level) {f s : Place} (p : f 
 
   -- "If both are full": whichever is chosen
   pub both_full : {v w : ℕ} {b : Bool} → v ≡ token_of t f.bucket → w ≡ token_of t s.bucket
-      → b ≡ eqb (lowest_free h v) 4 && eqb (lowest_free h w) 4 → b ≡ true → none ≡ map Free (room_in t h x l)
+      → b ≡ eqb (lowest_free h v) 4 && eqb (lowest_free h w) 4 → b ≡ true → None ≡ slot_found (room_in t h x l)
   unfolding emptier
   both_full c d e k =
       let full = (tells_and (eqb (lowest_free h _) 4) (eqb (lowest_free h _) 4) Iff.rfl Iff.rfl).0 (sym e ∙ k) in
       let none_there = either (fewer t h s f) (full-none t h f c full.0) (full-none t h s d full.1) in
-      sym (ap (map Free) (sym (room_chosen refl) ∙ none_there))
+      sym (ap slot_found (sym (room_chosen refl) ∙ none_there))
     where
       either : (b : Bool) → free_slot t h f ≡ none → free_slot t h s ≡ none → free_slot t h (cond b s f) ≡ none
       either true m n = n

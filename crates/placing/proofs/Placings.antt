@@ -22,6 +22,8 @@ use Rattle.rules.specs.declared.Placing.TheVariants.{Free, Move, Nowhere}
 use Rattle.rules.proofs.Basics.Lists.{first_of-some}
 use Rattle.reading.specs.Gates.{Headed}
 use Rattle.reading.specs.Levels.{nth_level}
+use Rattle.std.specs.Prelude.{Option as Answer, Some, None}
+use Rattle.reading.specs.Within.{slot_found}
 use Rattle.placing.specs.Search.{optional}
 
 pub nowhere : (p : Placing) → OneOf (2 ∷ []) (tag_of the_type p) → optional p ≡ none
@@ -34,18 +36,14 @@ somewhere (Free x) h = refl
 somewhere (Move from to) h = refl
 somewhere Nowhere h = absurd (⊎_elim (λ e. omega arith) (λ e. omega arith) h)
 
-pub free-somewhere : {p : Placing} {x : Slot} → p ≡ Free x → optional p ≡ some p
-free-somewhere e = rw e
+-- a slot that was found, and one that was not
+pub not_free : {a : Answer Slot} (o : Option Slot) → a ≡ slot_found o → a ≡ None → o ≡ none
+not_free none e k = refl
+not_free (some y) e k = absurd (let z : Some y ≡ None = sym e ∙ k in let n : ◌≡◌ {A = ℕ} 0 1 = cc in omega arith)
 
-pub not_free : (p : Placing) → OneOf (1 ∷ 2 ∷ []) (tag_of the_type p) → (o : Option Slot) → optional p ≡ map Free o → o ≡ none
-not_free p h none e = refl
-not_free (Free x) h (some y) e = absurd (⊎_elim (λ e. omega arith) (λ e. omega arith) h)
-not_free (Move from to) h (some y) e = absurd (let z : ◌≡◌ {A = ℕ} 0 1 = cc in omega arith)
-not_free Nowhere h (some y) e = absurd (let z : ◌≡◌ {A = ℕ} 0 1 = cc in omega arith)
-
-pub is_free : {p : Placing} {x : Slot} → p ≡ Free x → (o : Option Slot) → optional p ≡ map Free o → o ≡ some x
-is_free q none e = absurd (let z : ◌≡◌ {A = ℕ} 0 1 = cc in omega arith)
-is_free {x = x} q (some y) e = let k : some (Free x) ≡ some (Free y) = sym (ap optional q) ∙ e in cc
+pub is_free : {a : Answer Slot} {x : Slot} (o : Option Slot) → a ≡ slot_found o → a ≡ Some x → o ≡ some x
+is_free none e k = absurd (let z : None ≡ Some _ = sym e ∙ k in let n : ◌≡◌ {A = ℕ} 0 1 = cc in omega arith)
+is_free {x = x} (some y) e k = let z : Some y ≡ Some x = sym e ∙ k in cc
 
 pub optional-back : (p : Placing) → get_or (optional p) Nowhere ≡ p
 optional-back (Free x) = refl
@@ -74,14 +72,14 @@ module _ (t : Table) (h : Header) where
 
 module _ (t : Table) (h : Header) (key : ℕ) {x : Hashes} (d : x ≡ hashes_of h key) where
   -- the first two levels in use are top and bottom
-  pub by_top : (p : Placing) → optional p ≡ map Free (room_in t h x (nth_level h.state 0)) → optional p ≡ some p → p ≡ placing t h key
+  pub by_top : {y : Slot} → room_in t h x (nth_level h.state 0) ≡ some y → Free y ≡ placing t h key
   unfolding placing levels_in_use
-  by_top p e s = rw (← d, ← e, s)
+  by_top e = rw (← d, e)
 
   module _ (n : room_in t h x (nth_level h.state 0) ≡ none) where
-    pub by_bottom : (p : Placing) → optional p ≡ map Free (room_in t h x (nth_level h.state 1)) → optional p ≡ some p → p ≡ placing t h key
+    pub by_bottom : {y : Slot} → room_in t h x (nth_level h.state 1) ≡ some y → Free y ≡ placing t h key
     unfolding placing levels_in_use
-    by_bottom p e s = rw (← d, n, ← e, s)
+    by_bottom e = rw (← d, n, e)
 
     pub by_move : room_in t h x (nth_level h.state 1) ≡ none → (p : Placing) → optional p ≡ first_of (move_of t h) (candidates t h x)
         → p ≡ placing t h key

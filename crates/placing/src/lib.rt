@@ -38,12 +38,10 @@ pub fn placing(t: &[u64], h: Header, key: u64, x: Hashes) -> Placing
     requires { Headed t.now h × (x ≡ hashes_of h key) }
     ensures { PlacingTells result (placing_of t.now h key) × PlacingWithin t.now result }
 {
-    let in_top = room(t, h, x, 0);
-    if let Placing::Free(y) = in_top {
+    if let Some(y) = room(t, h, x, 0) {
         return Placing::Free(y);
     }
-    let in_bottom = room(t, h, x, 1);
-    if let Placing::Free(y) = in_bottom {
+    if let Some(y) = room(t, h, x, 1) {
         return Placing::Free(y);
     }
     one_move(t, h, x)
@@ -55,13 +53,11 @@ pub fn interim_placing(t: &[u64], h: Header, key: u64, x: Hashes) -> Placing
     requires { Headed t.now h × (x ≡ hashes_of h key) }
     ensures { PlacingTells result (placing_of t.now h key) × PlacingWithin t.now result }
 {
-    let above = room(t, h, x, 0);
-    let Placing::Nowhere = above else {
-        return above;
-    };
-    let below = room(t, h, x, 1);
-    let Placing::Nowhere = below else {
-        return below;
-    };
+    if let Some(above) = room(t, h, x, 0) {
+        return Placing::Free(above);
+    }
+    if let Some(below) = room(t, h, x, 1) {
+        return Placing::Free(below);
+    }
     moving(t, x)
 }

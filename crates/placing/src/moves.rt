@@ -49,8 +49,7 @@ fn move_to(t: &[u64], h: Header, from: Slot, goals: [Place; 2], n: usize) -> Pla
     ensures { (optional result ≡ move_of t.now h (record { item = from; goals = take n goals })) × PlacingWithin t.now result }
 {
     for i in 0..n {
-        let found = free_slot(t, h, goals[i]);
-        if let Placing::Free(to) = found {
+        if let Some(to) = free_slot(t, h, goals[i]) {
             return Placing::Move(from, to);
         }
     }

@@ -1,6 +1,7 @@
 -- What the code asks of a bucket or a slot before it reads its words: that they lie in the table.
 -- Assumes nothing.
-use Rattle.std.specs.Prelude.{ℕ, ◌+◌, ◌*◌, ◌≤◌, ◌<◌, length}
+use Rattle.std.specs.Prelude.{ℕ, ◌+◌, ◌*◌, ◌≤◌, ◌<◌, length, Option as Answer, Some, None}
+use Rattle.std.proofs.Math.Option.{Option, none, some}
 use mathlib.Core.List.{List, Memᴰ as In}
 use Rattle.rules.specs.Words.{Table}
 use Rattle.rules.specs.declared.Place.{Place}
@@ -24,6 +25,15 @@ AllWithin t ps = (p : Place) → In p ps → BucketWithin t p.bucket
 abbrev pub Standing : Table → Lookup → Type 0
 Standing t (Stands x n) = SlotWithin t x
 Standing t (Absent n) = Unit {0}
+
+-- a slot of the rules' searches, as the code answers it; and where it lies
+abbrev pub slot_found : Option Slot → Answer Slot
+slot_found (some x) = Some x
+slot_found none = None
+
+abbrev pub FoundWithin : Table → Answer Slot → Type 0
+FoundWithin t (Some x) = SlotWithin t x
+FoundWithin t None = Unit {0}
 
 -- the slots of a placing
 abbrev pub PlacingWithin : Table → Placing → Type 0

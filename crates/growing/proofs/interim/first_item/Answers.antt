@@ -6,7 +6,7 @@ use native.Mathlib.Omega.{arith}
 use Rattle.rules.specs.Words.{slot_at, place_at}
 use Rattle.rules.proofs.Words.Headers.{header-state}
 use Rattle.reading.specs.Within.{BucketWithin}
-use Rattle.growing.specs.Interim.{item_of}
+use Rattle.reading.specs.Within.{slot_found}
 use Rattle.growing.proofs.Searches.{few-buckets, bucket-within, found_hit, found_pass, found-over, items_from_lem}
 use Rattle.growing.proofs.Searches.{item-here, item_low, item-none}
 use Rattle.growing.proofs.interim.first_item.Goals as goal
@@ -44,7 +44,7 @@ returns-then-any_taken c =
     let v = c.any_taken.ensures in
     let some = c.if-any_taken.true in
     let z = c.lowest_taken.ensures in (
-      sym (ap item_of (items_from_lem _ _ _ c.requires.1 ∙ c.loop-i.invariant
+      sym (ap slot_found (items_from_lem _ _ _ c.requires.1 ∙ c.loop-i.invariant
           ∙ found_hit _ _ _ _ c.interim-level.ensures.0 c.power-m.ensures.0 c.loop-i-test.true
           (item-here _ _ _ w v c.interim-level.ensures.0 some z))),
       (within (goal.at.returns-then-any_taken c).In-loop-i, item_low _ _ _ w v some z),
@@ -63,7 +63,7 @@ loop-i-preserved c =
 
 pub returns : goal.returns
 returns c = (
-  sym (ap item_of (items_from_lem _ _ _ c.requires.1 ∙ c.loop-i.invariant
+  sym (ap slot_found (items_from_lem _ _ _ c.requires.1 ∙ c.loop-i.invariant
       ∙ found-over _ _ _ _ c.interim-level.ensures.0 c.power-m.ensures.0 c.loop-i-test.false)),
   tt,
 )

@@ -1,6 +1,5 @@
 -- `placing::moves::move_to` meets its contract: the first free slot along all goals is the first along those from i on.
 -- Assumes nothing.
-use borrow.Enum.Refused.{opened}
 use mathlib.Core.Path.{◌∙◌}
 use Prim.Native.Nat.{◌≤◌}
 use native.Mathlib.Omega.{arith}
@@ -32,14 +31,14 @@ offset_bounds-goals-i c = omega arith
 pub bounds-goals-i : goal.bounds-goals-i
 bounds-goals-i c = omega arith
 
-pub free_slot-found-requires : goal.free_slot-found-requires
-free_slot-found-requires c = within (goal.at.free_slot-found-requires c).In-loop-i
+pub free_slot-requires : goal.free_slot-requires
+free_slot-requires c = within (goal.at.free_slot-requires c).In-loop-i
 
-pub returns-in-Free : goal.returns-in-Free
-returns-in-Free c =
-    let e = c.free_slot-found.ensures in
-    let q = c.in-Free.is in
-    (item-moves _ _ _ _ (c.loop-i.invariant ∙ first_hit _ past _ _ (fits (goal.at.returns-in-Free c).Start) _ c.loop-i-test.true (is_free q _ e.0)), (c.requires.2, rw q at e.1))
+pub returns-in-Some : goal.returns-in-Some
+returns-in-Some c =
+    let e = c.free_slot.ensures in
+    let q = c.in-Some.is in
+    (item-moves _ _ _ _ (c.loop-i.invariant ∙ first_hit _ past _ _ (fits (goal.at.returns-in-Some c).Start) _ c.loop-i-test.true (is_free _ e.0 q)), (c.requires.2, rw q at e.1))
 
 pub overflow_step-i : goal.overflow_step-i
 overflow_step-i c = omega arith
@@ -50,7 +49,7 @@ loop-i-smaller c = omega arith
 pub loop-i-preserved : goal.loop-i-preserved
 loop-i-preserved c =
     c.loop-i.invariant ∙ first_pass _ past _ _ (fits (goal.at.loop-i-preserved c).Start) _ c.loop-i-test.true
-    (not_free c.free_slot-found.result (opened c.in_default.in_default-own.keys2) _ c.free_slot-found.ensures.0)
+    (not_free _ c.free_slot.ensures.0 c.in_default.is)
 
 pub returns : goal.returns
 returns c = (item-stays _ _ _ _ (c.loop-i.invariant ∙ first-over _ past _ _ (fits (goal.at.returns c).Start) _ c.loop-i-test.false), tt)

@@ -1,8 +1,7 @@
 -- `placing::room::room` meets its contract: nothing where both places are full, else the free slot of the emptier one.
 -- Assumes nothing.
 use mathlib.Core.Path.{ap, ◌∙◌}
-use mathlib.Core.Option.{map}
-use Rattle.rules.specs.declared.Placing.TheVariants.{Free}
+use Rattle.reading.specs.Within.{slot_found}
 use Rattle.placing.proofs.Choosing.{room_chosen, both_full}
 use Rattle.placing.proofs.room.room.Goals as goal
 
@@ -15,4 +14,4 @@ returns-then-both_full c =
 pub returns : goal.returns
 returns c =
     let e = c.free_slot.ensures in
-    (e.0 ∙ ap (map Free) (room_chosen _ _ _ _ c.place_in_use-first.ensures.0 c.place_in_use-second.ensures.0 c.emptier.ensures.0), e.1)
+    (e.0 ∙ ap slot_found (room_chosen _ _ _ _ c.place_in_use-first.ensures.0 c.place_in_use-second.ensures.0 c.emptier.ensures.0), e.1)
