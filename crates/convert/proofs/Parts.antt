@@ -2,7 +2,7 @@
 -- Assumes nothing.
 use Prim.Native.Nat.{ℕ, suc, ◌+◌, ◌≤◌, ◌<◌}
 use mathlib.Core.Path.{◌≡◌, refl, sym, ap, ◌∙◌}
-use mathlib.Core.Bool.{Bool, true, false}
+use mathlib.Core.Bool.{true, false}
 use mathlib.Core.List.{List, [], ◌∷◌, ◌++◌}
 use native.Mathlib.Numerals.{add-one}
 use native.Mathlib.Omega.{arith}
@@ -14,42 +14,18 @@ use Rattle.replaying.specs.declared.Answer.TheVariants.{Nothing, Created, Change
 use Rattle.running.specs.Runs.{line_room, byte_taken, TakenIs, over_bytes, together}
 use Rattle.running.specs.declared.Run.{Run}
 use Rattle.running.specs.declared.Taken.{Taken}
-use Rattle.running.proofs.Inputs.{Takes}
 use Rattle.running.proofs.Whole.{over-bytes}
 use Rattle.convert.specs.Outputs.{Report, with_answer, at_end, report_to, report_text, output_to}
 use Rattle.convert.specs.Parts.{ended_by, Point, standing, begun, after_byte, is_known, after_bytes, told_of, report_from, written_after, PartsWritten}
 use Rattle.convert.specs.Parts.{KnownPartsWritten, PartsAreTaken}
+use Rattle.convert.specs.Taking.{after_none, after-known, after_next, taken_on}
 use Rattle.convert.specs.declared.Ending.{Ending}
 use Rattle.convert.specs.declared.Ending.TheVariants.{Open, Unmade, Bad as BadLine}
 
 -- ---- parts
 
-after_none : (x : Point) → after_bytes x [] ≡ x
-unfolding after_bytes
-after_none x = refl
-
--- nothing more is taken
-pub after-known : (x : Point) (bs : List ℕ) → is_known x ≡ true → after_bytes x bs ≡ x
-unfolding after_bytes
-after-known x [] k = refl
-after-known x (b ∷ bs) k = rw k
-
-after_next : (x : Point) (b : ℕ) (bs : List ℕ) → is_known x ≡ false → after_bytes x (b ∷ bs) ≡ after_bytes (after_byte x b) bs
-unfolding after_bytes
-after_next x b bs k = rw k
-
 pub parts_are_taken : PartsAreTaken
-parts_are_taken x [] later = ap (λ (y : Point). after_bytes y later) (sym (after_none x))
-parts_are_taken x (b ∷ bs) later = go (is_known x) refl (parts_are_taken (after_byte x b) bs later)
-  where
-    go : (k : Bool) → is_known x ≡ k → after_bytes (after_byte x b) (bs ++ later) ≡ after_bytes (after_bytes (after_byte x b) bs) later
-        → after_bytes x ((b ∷ bs) ++ later) ≡ after_bytes (after_bytes x (b ∷ bs)) later
-    go true k more =
-        after-known x ((b ∷ bs) ++ later) k ∙ sym (after-known x later k) ∙ ap (λ (y : Point). after_bytes y later) (sym (after-known x (b ∷ bs) k))
-    go false k more = after_next x b (bs ++ later) k ∙ more ∙ ap (λ (y : Point). after_bytes y later) (sym (after_next x b bs k))
-
-pub takes : Takes after_bytes
-takes = record { none = after_none; more = parts_are_taken }
+parts_are_taken = taken_on
 
 -- ---- all that is written
 
@@ -64,7 +40,7 @@ told-answer (Found q) later = refl
 told-answer (Events n) later = refl
 
 abbrev reported : Point → Report
-reported x = report_from x.course x.room
+reported x = report_from x.state x.room
 
 told-bytes : (bs : List ℕ) (run : Run) (room line : List ℕ)
     → reported (after_bytes (standing (record { run = run; ending = Open }) room line) bs) ≡ over_bytes with_answer at_end run room line bs
@@ -110,7 +86,7 @@ module _ {x : Point} {part : List ℕ} {i : ℕ} {u : Point} (d : Passed x part 
   passed_all l = let none : drop i part ≡ [] = drop_of_length-le part {i = i} l in sym (after_none u) ∙ rw none at d.same
 
   pub passed_more : i < length part → is_known u ≡ false → {r : Taken} {left held : List ℕ} {e : Ending}
-      → TakenIs (byte_taken u.course.run u.room u.line (get_or part i 0)) r left held
+      → TakenIs (byte_taken u.state.run u.room u.line (get_or part i 0)) r left held
       → e ≡ ended_by r.answer
       → Passed x part (i + 1) (standing (record { run = r.run; ending = e }) left held)
   passed_more l k {r} {left} {held} {e} t s =

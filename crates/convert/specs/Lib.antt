@@ -3,3 +3,4 @@ pub mod Cases
 pub mod Parts
 pub mod Sentences
 pub mod Request
+pub mod Taking

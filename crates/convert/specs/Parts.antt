@@ -5,6 +5,7 @@ use Rattle.std.specs.Prelude.{Ok, Err}
 use Rattle.replaying.specs.declared.Answer.{Answer}
 use Rattle.replaying.specs.declared.Answer.TheVariants.{Nothing, Created, Changed, Kept, Found, Events, Bad}
 use Rattle.running.specs.Runs.{line_room, ready, byte_taken, together}
+use Rattle.running.specs.Inputs.{Standing, known_in}
 use Rattle.convert.specs.Outputs.{Report, bad_line, unmade, at_end, report_text, output_to}
 use Rattle.convert.specs.declared.Ending.{Ending}
 use Rattle.convert.specs.declared.Ending.TheVariants.{Open, Unmade, Bad as BadLine}
@@ -29,13 +30,11 @@ has_ended (Unmade e) = true
 has_ended (BadLine n) = true
 
 -- a course, with the words and bytes that are lent to it
-pub record Point : Type 0 where
-  pub course : Course
-  pub room : List ℕ
-  pub line : List ℕ
+abbrev pub Point : Type 0
+Point = Standing Course
 
 abbrev pub standing : Course → List ℕ → List ℕ → Point
-standing c room line = record { course = c; room = room; line = line }
+standing c room line = record { state = c; room = room; line = line }
 
 -- before the first byte
 abbrev pub begun : List ℕ → List ℕ → Point
@@ -43,12 +42,15 @@ begun room line = standing (record { run = ready; ending = Open }) room line
 
 abbrev pub after_byte : Point → ℕ → Point
 after_byte x b =
-    let y = byte_taken x.course.run x.room x.line b in
+    let y = byte_taken x.state.run x.room x.line b in
     standing (record { run = y.run; ending = ended_by y.answer }) y.room y.line
 
 -- no byte is taken once the script has ended
+abbrev pub has_ended_in : Course → Bool
+has_ended_in c = has_ended c.ending
+
 abbrev pub is_known : Point → Bool
-is_known x = has_ended x.course.ending
+is_known = known_in has_ended_in
 
 unfoldable pub after_bytes : Point → List ℕ → Point
 after_bytes x [] = x
@@ -73,7 +75,7 @@ report_from c room = told_of c.ending (at_end room c.run.replay (ltb 0 c.run.hel
 -- ---- what is written, whatever the parts
 
 unfoldable pub written_after : Point → List ℕ
-written_after x = report_text (report_from x.course x.room)
+written_after x = report_text (report_from x.state x.room)
 
 -- where the input has ended it is the text of the whole input
 abbrev pub PartsWritten : Type 0

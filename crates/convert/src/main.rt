@@ -8,20 +8,21 @@ ghost use mathlib.Core.List.{flat_map};
 ghost use Rattle.rules.specs.Words.{words_for};
 ghost use Rattle.rules.specs.Conversions.{convert_result};
 ghost use Rattle.replaying.specs.Rooms.{RoomFor};
-ghost use Rattle.running.specs.Inputs.{ReadSome, Ran};
+ghost use Rattle.running.specs.Inputs.{Ran};
 ghost use Rattle.running.specs.Runs.{end_of};
 ghost use Rattle.saying.specs.Writing.{Put, PutFront, Fronted};
 ghost use Rattle.convert.specs.Outputs.{ways_in, way_text, ways_text, report_text};
-ghost use Rattle.convert.specs.Parts.{largest, longest, ended_by, has_ended, last_ending, standing, begun, after_bytes, is_known, report_from};
+ghost use Rattle.convert.specs.Taking.{takes};
+ghost use Rattle.convert.specs.Parts.{largest, longest, ended_by, has_ended_in, last_ending, standing, begun, after_bytes, is_known, report_from};
 
 use converting::convert;
 use numbering::{conversion_words, number};
 use replaying::Answer;
 use replaying::lending::least;
 use rules::{Conversion, Refusal};
-use running::{LINE_ROOM, Outcome, Run, end, ready, take_byte};
+use running::{LINE_ROOM, Outcome, Run, Taker, Turn, end, ready, take_byte};
 use saying::{STDERR, STDOUT, put_line};
-use std::io::{Read, Stdin};
+use std::io::Stdin;
 
 // The words of a table of the largest cap, 7: "limited to cap 7 so that both fit". A larger one finds no room here, and is not made.
 const ROOM: usize = 3324;
@@ -55,92 +56,49 @@ fn ended_by(answer: Answer) -> Ending
     }
 }
 
-// Whether all that will be written is known, whatever comes.
-fn known(course: Course) -> bool
-    ensures { result ≡ has_ended course.ending }
-{
-    !matches!(course.ending, Ending::Open)
-}
+impl Taker for Course {
+    ghost after_part = { after_bytes };
 
-// What a part of the input makes of it. No byte is taken once the script has ended.
-fn take_part(start: Course, room: &mut [u64], line: &mut [u8; LINE_ROOM], part: &[u8]) -> Course
-    ensures { standing result room.new line.new
-        ≡ after_bytes (standing start room.old line.old) part.now }
-{
-    let mut course = start;
-    for byte in part {
-        if known(course) {
-            return course;
-        }
-        let taken = take_byte(course.run, room, line, *byte);
-        course = Course {
-            run: taken.run,
-            ending: ended_by(taken.answer),
-        };
+    ghost has_ended = { has_ended_in };
+
+    fn known(self) -> bool {
+        !matches!(self.ending, Ending::Open)
     }
-    course
+
+    // No byte is taken once the script has ended.
+    fn take_part(self, room: &mut [u64], line: &mut [u8; LINE_ROOM], part: &[u8]) -> Course {
+        let mut course = self;
+        for byte in part {
+            if course.known() {
+                return course;
+            }
+            let taken = take_byte(course.run, room, line, *byte);
+            course = Course {
+                run: taken.run,
+                ending: ended_by(taken.answer),
+            };
+        }
+        course
+    }
+
+    ghost laws = { takes };
 }
 
-#[derive(Clone, Copy)]
-struct Turn {
-    course: Course,
-    outcome: Outcome,
-}
-
-// Reads once, unless all is known, and takes what came.
-fn read_some(
-    mut stdin: Stdin,
-    course: Course,
+fn read_all(
+    stdin: Stdin,
     room: &mut [u64],
     line: &mut [u8; LINE_ROOM],
     input: &mut [u8],
-) -> Turn
-    ensures { ReadSome after_bytes is_known (standing course room.old line.old) input.new result.outcome
-        (standing result.course room.new line.new) }
-{
-    if known(course) {
-        return Turn {
-            course,
-            outcome: Outcome::Known,
-        };
-    }
-    match stdin.read(input) {
-        Ok(0) => Turn {
-            course,
-            outcome: Outcome::Ended,
-        },
-        Ok(n) => Turn {
-            course: take_part(course, room, line, &input[..n]),
-            outcome: Outcome::Going,
-        },
-        Err(_) => Turn {
-            course,
-            outcome: Outcome::Unread,
-        },
-    }
-}
-
-// A proved loop has to end, and nothing says that the input does. So the parts are counted, up to a number that no run comes to.
-fn read_all(stdin: Stdin, room: &mut [u64], line: &mut [u8; LINE_ROOM], input: &mut [u8]) -> Turn
+) -> Turn<Course>
     requires { length room.old ≡ words_for largest }
     ensures { Ran after_bytes is_known (begun room.old line.old) result.outcome
-        (standing result.course room.new line.new) × RoomFor largest room.old }
+        (standing result.taker room.new line.new) × RoomFor largest room.old }
 {
-    let mut course = Course {
+    let start = Course {
         run: ready(),
         ending: Ending::Open,
     };
-    for _parts in 0..u64::MAX {
-        let turn = read_some(stdin, course, room, line, input);
-        let Outcome::Going = turn.outcome else {
-            return turn;
-        };
-        course = turn.course;
-    }
-    Turn {
-        course,
-        outcome: Outcome::Going,
-    }
+    running::read_all(stdin, start, room, line, input)
 }
 
 // Puts the two lines of a conversion's answer, "`answer=` and `key=`", from byte `at` on, and answers the next free byte.
@@ -222,7 +180,7 @@ fn write_report(course: Course, room: &mut [u64], out: &mut [u8]) -> bool
 
 // A program cannot end with a status of its own. So a failure is told on standard error, where nothing else is written: whoever
 // starts the program takes any text there for a failure.
-fn conclude(last: Turn, room: &mut [u64], out: &mut [u8])
+fn conclude(last: Turn<Course>, room: &mut [u64], out: &mut [u8])
     requires { (length room.old ≡ words_for largest) × (longest ≤ length out.old) }
 {
     match last.outcome {
@@ -236,7 +194,7 @@ fn conclude(last: Turn, room: &mut [u64], out: &mut [u8])
         }
         Outcome::Known | Outcome::Ended => {}
     }
-    if !write_report(last.course, room, out) {
+    if !write_report(last.taker, room, out) {
         complain(b"ragansils: the answers could not be written\n");
     }
 }

@@ -3,7 +3,7 @@
 use Prim.Native.Nat.{ℕ, ◌+◌, ◌^◌, ◌≤◌, ◌<◌}
 use mathlib.Core.Path.{◌≡◌, refl, sym, ap, ◌∙◌}
 use mathlib.Core.Bool.{Bool, true, false, cond}
-use mathlib.Core.List.{List, [], ◌∷◌, ◌++◌}
+use mathlib.Core.List.{List, [], ◌∷◌}
 use mathlib.Core.Logic.{⊎_elim, inl, inr}
 use native.Mathlib.Omega.{arith}
 use lib.ListN.{length, take}
@@ -14,6 +14,7 @@ use denote.Enum.Declared.{tag_of}
 use types.Run.{OneOf, miss}
 use Rattle.running.specs.Runs.{Behind}
 use Rattle.running.specs.Inputs.{Took, ReadSome, Ran}
+pub use Rattle.running.specs.Inputs.{Takes}
 use Rattle.running.specs.declared.Outcome.{Outcome}
 use Rattle.running.specs.declared.Outcome.TheVariants.{Going, Known, Ended, Unread}
 use Rattle.running.specs.contracts.Outcome.{the_type}
@@ -29,11 +30,6 @@ differ a b k e = eqb-false (tag_of the_type a) (tag_of the_type b) k (ap (tag_of
 
 pub not_going : (o : Outcome) → OneOf (1 ∷ 2 ∷ 3 ∷ []) (tag_of the_type o) → o ≡ Going → ⊥
 not_going o k e = miss (1 ∷ 2 ∷ 3 ∷ []) 0 tt (rw e at k)
-
--- what a program makes of parts: nothing of none, and of one after the other what it makes of both as one
-pub record Takes {S : Type 0} (take_part : S → List ℕ → S) : Type 0 where
-  pub none : (x : S) → take_part x [] ≡ x
-  pub more : (x : S) (part later : List ℕ) → take_part x (part ++ later) ≡ take_part (take_part x part) later
 
 module _ {S : Type 0} {take_part : S → List ℕ → S} (takes : Takes take_part) (known : S → Bool) where
   -- ---- one reading

@@ -1,7 +1,7 @@
 -- How a program reads an input that comes in parts, of any sizes and any number, whatever it makes of them: S is where it can stand, `take_part` is what
 -- a part makes of that, and `known` says whether all that it will write is known there.
 -- Assumes nothing.
-use Rattle.std.specs.Prelude.{ℕ, ◌+◌, ◌^◌, ◌≤◌, ◌<◌, ◌≡◌, Bool, true, false, List, ◌⊎◌, length, take}
+use Rattle.std.specs.Prelude.{ℕ, ◌+◌, ◌^◌, ◌≤◌, ◌<◌, ◌≡◌, Bool, true, false, List, [], ◌++◌, ◌⊎◌, length, take}
 use Rattle.running.specs.Runs.{Behind}
 use Rattle.running.specs.declared.Outcome.{Outcome}
 use Rattle.running.specs.declared.Outcome.TheVariants.{Going, Known, Ended, Unread}
@@ -27,3 +27,23 @@ pub record Ran {S : Type 0} (take_part : S → List ℕ → S) (known : S → Bo
   pub behind : Behind take_part x count u
   pub rightly : outcome ≡ Known → known u ≡ true
   pub never : outcome ≡ Going → 2 ^ 64 ≤ count + 1
+
+-- ---- what takes the parts
+
+-- where it stands, with the words and the bytes that are lent to it
+pub record Standing (S : Type 0) : Type 0 where
+  pub state : S
+  pub room : List ℕ
+  pub line : List ℕ
+
+abbrev pub standing : {S : Type 0} → S → List ℕ → List ℕ → Standing S
+standing s room line = record { state = s; room = room; line = line }
+
+-- whether all is known, which lies in the state alone
+abbrev pub known_in : {S : Type 0} → (S → Bool) → Standing S → Bool
+known_in known x = known x.state
+
+-- what a program makes of parts: nothing of none, and of one after the other what it makes of both as one
+pub record Takes {S : Type 0} (take_part : S → List ℕ → S) : Type 0 where
+  pub none : (x : S) → take_part x [] ≡ x
+  pub more : (x : S) (part later : List ℕ) → take_part x (part ++ later) ≡ take_part (take_part x part) later

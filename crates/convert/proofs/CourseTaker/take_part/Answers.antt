@@ -1,8 +1,8 @@
--- `convert::take_part` meets its contract.
+-- `convert::Course::take_part` meets its contract.
 -- Assumes nothing.
 use mathlib.Core.Path.{sym, ◌∙◌}
 use Rattle.convert.proofs.Parts.{passed_none, passed_known, passed_more, passed_all}
-use Rattle.convert.proofs.take_part.Goals as goal
+use Rattle.convert.proofs.CourseTaker.take_part.Goals as goal
 
 pub loop-byte-init : goal.loop-byte-init
 loop-byte-init c = passed_none _ _
