@@ -5,13 +5,9 @@ use mathlib.Core.Path.{◌≡◌, refl, sym, ap, ◌∙◌}
 use mathlib.Core.Bool.{Bool, true, false, cond, and-true}
 use mathlib.Core.List.Memᴰ.{head as here}
 use mathlib.Core.List.{List, [], ◌∷◌, map, Memᴰ as In}
-use mathlib.Core.Logic.{⊎_elim}
 use mathlib.Core.Option.{Option, none, some}
 use native.Mathlib.Omega.{arith}
 use lib.ListN.{length}
-use lib.Dec.{eqb}
-use denote.Enum.Declared.{tag_of}
-use types.Run.{OneOf}
 use borrow.Author.Tests.{eq-eqb, ne_eqb}
 use Rattle.rules.specs.Choice.{all}
 use Rattle.rules.specs.Words.{Table, header_of, GoodHeader, flag_of, all_buckets, unused_buckets, record_in}
@@ -21,8 +17,7 @@ use Rattle.rules.specs.Answers.{FindingTells}
 use Rattle.rules.specs.declared.Header.{Header}
 use Rattle.rules.specs.declared.Slot.{Slot}
 use Rattle.rules.specs.declared.Finding.{Finding}
-use Rattle.rules.specs.declared.Finding.TheVariants.{Doubled, Flagged, Neither}
-use Rattle.rules.specs.declared.Record.{Record}
+use Rattle.rules.specs.declared.Finding.TheVariants.{Doubled, Neither}
 use Rattle.rules.proofs.Words.Headers.{header_passes}
 use Rattle.rules.proofs.Basics.Tests.{all_no}
 use Rattle.rules.proofs.Calls.Meanings.{finding-tells}
@@ -37,21 +32,7 @@ use Rattle.scanning.specs.declared.copies.Scan.{Scan}
 use Rattle.scanning.specs.declared.copies.Scan.TheVariants.{Clear, Pair, Spoilt}
 use Rattle.scanning.specs.Scans.{scan_of, scanned}
 use Rattle.scanning.proofs.Told.{scan_misplaced, scan_placed}
-use Rattle.scanning.specs.contracts.copies.Scan.{the_type}
-use Rattle.recovering.specs.declared.target.Target.{Target}
-use Rattle.recovering.specs.declared.target.Target.TheVariants.{At, Nothing}
-use Rattle.recovering.specs.Found.{tidy_token, zero_token, target_means, still_of, flagged_of, ScanWithin, FindingWithin}
-
--- ---- "with equal records"
-
-module _ (r s : Record) where
-  pub records_differ : (r.function ≡ s.function → ⊥) → false ≡ same_record r s
-  unfolding same_record
-  records_differ n = rw (ne_eqb _ _ n)
-
-  pub records_by_place : r.function ≡ s.function → eqb r.place s.place ≡ same_record r s
-  unfolding same_record
-  records_by_place e = rw (eq-eqb _ _ e, and-true)
+use Rattle.recovering.specs.Found.{tidy_token, zero_token, still_of, flagged_of, ScanWithin, FindingWithin}
 
 -- ---- with flag 0
 
@@ -64,18 +45,6 @@ module _ (t : Table) {scan : Scan} {x y : Slot} (q : scan ≡ Pair x y) where
 
   pub still_unequal : same_record (record_in t x) (record_in t y) ≡ false → Neither ≡ still_of t scan
   still_unequal e = rw (q, e)
-
--- ---- with flag 1
-
-pub flagged_at : {scan : Scan} {target : Target} {x : Slot} → scan ≡ Clear → target ≡ At x → Flagged x ≡ flagged_of (target_means target) scan
-flagged_at e f = rw (e, f)
-
-pub flagged_unclear : (scan : Scan) (target : Target) → OneOf (1 ∷ 2 ∷ []) (tag_of the_type scan) → Neither ≡ flagged_of (target_means target) scan
-flagged_unclear Clear target k = absurd (⊎_elim (λ e. omega arith) (λ e. omega arith) k)
-flagged_unclear (Pair x y) (At z) k = refl
-flagged_unclear (Pair x y) Nothing k = refl
-flagged_unclear Spoilt (At z) k = refl
-flagged_unclear Spoilt Nothing k = refl
 
 -- ---- the kinds by what a scan tells
 

@@ -2,10 +2,7 @@
 -- Assumes nothing.
 use Prim.Native.Nat.{ℕ}
 use mathlib.Core.Path.{◌≡◌, refl}
-use mathlib.Core.List.{List, [], ◌∷◌}
-use native.Mathlib.Omega.{arith}
-use denote.Enum.Declared.{tag_of}
-use types.Run.{OneOf}
+use mathlib.Core.List.{List, []}
 use Rattle.rules.specs.Words.{Table, token_of, logged_of}
 use Rattle.rules.specs.Stores.{written, clear_stores, redo_stores}
 use Rattle.rules.specs.Soundness.{finding}
@@ -19,7 +16,6 @@ use Rattle.rules.specs.declared.Finding.{Finding}
 use Rattle.rules.specs.declared.Finding.TheVariants.{Sound, Doubled, Flagged, Neither}
 use Rattle.rules.specs.declared.Refusal.TheVariants.{NoKind}
 use Rattle.std.specs.Prelude.{Ok}
-use Rattle.rules.specs.contracts.Finding.{the_type}
 use Rattle.listing.specs.Promises.{Did}
 
 -- "sound: no stores"
@@ -27,25 +23,12 @@ pub did_nothing : (l : List ℕ) → Did (listed []) l (Ok 0) l
 unfolding written
 did_nothing l = record { answer = refl; list = refl }
 
--- a finding by the number of its case
-is_sound : (f : Finding) → OneOf (0 ∷ []) (tag_of the_type f) → f ≡ Sound
-is_sound Sound e = refl
-is_sound (Doubled x y) e = absurd (omega arith)
-is_sound (Flagged x) e = absurd (omega arith)
-is_sound Neither e = absurd (omega arith)
-
-is_neither : (f : Finding) → OneOf (3 ∷ []) (tag_of the_type f) → f ≡ Neither
-is_neither Sound e = absurd (omega arith)
-is_neither (Doubled x y) e = absurd (omega arith)
-is_neither (Flagged x) e = absurd (omega arith)
-is_neither Neither e = refl
-
 module _ (t : Table) (h : Header) (f : Finding) (e : FindingTells f (finding t)) where
-  pub recover-sound : OneOf (0 ∷ []) (tag_of the_type f) → listed [] ≡ recover_of t h (finding t)
-  recover-sound k = rw (← finding-told_by e, is_sound f k)
+  pub recover-sound : f ≡ Sound → listed [] ≡ recover_of t h (finding t)
+  recover-sound k = rw (← finding-told_by e, k)
 
-  pub recover_neither : OneOf (3 ∷ []) (tag_of the_type f) → refused NoKind ≡ recover_of t h (finding t)
-  recover_neither k = rw (← finding-told_by e, is_neither f k)
+  pub recover_neither : f ≡ Neither → refused NoKind ≡ recover_of t h (finding t)
+  recover_neither k = rw (← finding-told_by e, k)
 
   pub recover-doubled : {x y : Slot} {w : ℕ} → f ≡ Doubled x y → w ≡ token_of t y.bucket → listed (clear_stores h w y) ≡ recover_of t h (finding t)
   recover-doubled k q = rw (← finding-told_by e, k, q)

@@ -3,13 +3,11 @@
 use Prim.Native.Nat.{ℕ, ◌+◌, ◌-◌, ◌*◌, ◌/◌, ◌%◌, ◌≤◌, ◌<◌}
 use mathlib.Core.Path.{◌≡◌, refl, sym}
 use mathlib.Core.Bool.{Bool, true, false}
-use mathlib.Core.List.{[], ◌∷◌, Memᴰ as In}
+use mathlib.Core.List.{Memᴰ as In}
 use mathlib.Core.Option.{Option, none, some}
 use native.Mathlib.Omega.{arith}
 use lib.ListN.{length}
 use lib.Dec.{leb}
-use denote.Enum.Declared.{tag_of}
-use types.Run.{OneOf}
 use borrow.Author.Tests.{lt-leb, le-leb}
 use Rattle.rules.specs.Choice.{given}
 use Rattle.rules.specs.Words.{Table, header_of, GoodHeader, target_of, size_of, levels_in_use, InLevel, InUse, key_word, token_word, token_of, is_taken, taken}
@@ -24,10 +22,7 @@ use Rattle.rules.proofs.Basics.Along.{along, along_all}
 use Rattle.rules.proofs.Places.PlacesInUse.{slot-within}
 use Rattle.rules.proofs.Tables.Twins.{taken_in_lem, in_taken}
 use Rattle.rules.proofs.Tables.Targets.{target_found, target_none}
-use Rattle.recovering.specs.Found.{in_level, home_of, home_means}
-use Rattle.recovering.specs.declared.target.Home.{Home}
-use Rattle.recovering.specs.declared.target.Home.TheVariants.{In as InLevelOf, Nowhere}
-use Rattle.recovering.specs.contracts.target.Home.{the_type}
+use Rattle.recovering.specs.Found.{in_level, home_of}
 
 -- ---- a level, test by test
 
@@ -41,11 +36,6 @@ module _ (l : Level) (j : ℕ) {size : ℕ} (power : size ≡ size_of l) where
   above-level h = rw (← power, le-leb (size - 1) j h)
 
 -- ---- along the levels in use
-
--- a home by the number of its case
-pub no_home : (r : Home) → OneOf (1 ∷ []) (tag_of the_type r) → home_means r ≡ none
-no_home (InLevelOf l) e = absurd (omega arith)
-no_home Nowhere e = refl
 
 module _ (s : State) (j : ℕ) where
   pub tried : Level → Option Level

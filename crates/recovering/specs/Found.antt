@@ -1,6 +1,6 @@
 -- What recovery finds, as the code comes to it.
 -- Assumes nothing.
-use Rattle.std.specs.Prelude.{ℕ, ◌-◌, ◌*◌, Bool, cond, ◌&&◌, leb, eqb}
+use Rattle.std.specs.Prelude.{ℕ, ◌-◌, ◌*◌, Bool, cond, ◌&&◌, leb, eqb, Option as Answer, Some, None}
 use Rattle.std.proofs.Math.Option.{Option, none, some}
 use Rattle.rules.specs.Choice.{given, first_of}
 use Rattle.rules.specs.Words.{Table, record_in, token_of, meant_of, size_of, levels_in_use}
@@ -14,10 +14,6 @@ use Rattle.rules.specs.declared.Finding.TheVariants.{Sound, Doubled, Flagged, Ne
 use Rattle.reading.specs.Within.{SlotWithin}
 use Rattle.scanning.specs.declared.copies.Scan.{Scan}
 use Rattle.scanning.specs.declared.copies.Scan.TheVariants.{Clear, Pair, Spoilt}
-use Rattle.recovering.specs.declared.target.Home.{Home}
-use Rattle.recovering.specs.declared.target.Home.TheVariants.{In, Nowhere}
-use Rattle.recovering.specs.declared.target.Target.{Target}
-use Rattle.recovering.specs.declared.target.Target.TheVariants.{At, Nothing}
 
 -- ---- "every token word at most 15", which is of form 1, "and 0 in levels not in use"
 
@@ -37,13 +33,10 @@ in_level j l = leb (size_of l - 1) j && leb j (2 * size_of l - 2)
 unfoldable pub home_of : State → ℕ → Option Level
 home_of s j = first_of (λ (l : Level). given (in_level j l) l) (levels_in_use s)
 
-abbrev pub home_means : Home → Option Level
-home_means (In l) = some l
-home_means Nowhere = none
-
-abbrev pub target_means : Target → Option Slot
-target_means (At x) = some x
-target_means Nothing = none
+-- what the code answers of it, and of the slot that word 6 names
+abbrev pub means : {A : Type 0} → Answer A → Option A
+means (Some x) = some x
+means None = none
 
 -- ---- the kinds, by what a scan tells
 

@@ -7,33 +7,25 @@ pub mod target;
 
 ghost use Rattle.std.specs.Prelude.{◌≡◌, ◌≤◌, length};
 ghost use Rattle.rules.specs.Words.{header_of, GoodHeader};
-ghost use Rattle.rules.specs.Soundness.{finding as finding_of, same_record};
+ghost use Rattle.rules.specs.Soundness.{finding as finding_of};
 ghost use Rattle.rules.specs.Answers.{FindingTells};
 ghost use Rattle.rules.specs.Calls.{recover_of};
 ghost use Rattle.rules.specs.Calls.{recover as recover_call};
 ghost use Rattle.listing.specs.Promises.{Changed, Did};
-ghost use Rattle.recovering.specs.Found.{ScanWithin, FindingWithin, target_means, still_of, flagged_of};
+ghost use Rattle.recovering.specs.Found.{ScanWithin, FindingWithin, means, still_of, flagged_of};
 
 use levels::{tokens_tidy, unused_empty};
 use listing::{clear, redo};
 use reading::gate::recover_gate;
 use reading::slots::{record_at, token};
 use rules::layout::{FLAG, LOGGED_FUNCTION, LOGGED_PLACE};
-use rules::{Change, Finding, Header, Record, Refusal};
+use rules::{Change, Finding, Header, Record, Refusal, Slot};
 use scanning::copies::Scan;
 use scanning::items::scan_table;
-use target::{Target, find_target};
-
-fn same_record(a: Record, b: Record) -> bool
-    ensures { result ≡ same_record a b }
-{
-    if a.function != b.function {
-        return false;
-    }
-    a.place == b.place
-}
+use target::find_target;
 
 // With flag 0: "sound: no stores", or "sound but for one key that stands exactly twice with equal records".
+#[tactic(auto, unfolding(rules::specs::Soundness::same_record))]
 fn still(t: &[u64], scan: Scan) -> Finding
     requires { ScanWithin t.now scan }
     ensures { result ≡ still_of t.now scan }
@@ -41,7 +33,7 @@ fn still(t: &[u64], scan: Scan) -> Finding
     match scan {
         Scan::Clear => Finding::Sound,
         Scan::Pair(x, y) => {
-            if same_record(record_at(t, x), record_at(t, y)) {
+            if record_at(t, x) == record_at(t, y) {
                 return Finding::Doubled(x, y);
             }
             Finding::Neither
@@ -51,15 +43,12 @@ fn still(t: &[u64], scan: Scan) -> Finding
 }
 
 // With flag 1: "sound but for flag 1, with word 6 the key word of a taken slot in a level in use".
-fn flagged(scan: Scan, target: Target) -> Finding
-    ensures { result ≡ flagged_of (target_means target) scan }
+fn flagged(scan: Scan, target: Option<Slot>) -> Finding
+    ensures { result ≡ flagged_of (means target) scan }
 {
-    let Scan::Clear = scan else {
-        return Finding::Neither;
-    };
-    match target {
-        Target::At(x) => Finding::Flagged(x),
-        Target::Nothing => Finding::Neither,
+    match (scan, target) {
+        (Scan::Clear, Some(x)) => Finding::Flagged(x),
+        _ => Finding::Neither,
     }
 }
 
@@ -89,8 +78,7 @@ fn recover_at(t: &[u64], list: &mut [u64], h: Header) -> Change
     requires { (20 ≤ length list.old) × GoodHeader (length t.now) h × (h ≡ header_of t.now) }
     ensures { Did (recover_of t.now h (finding_of t.now)) list.old result list.new }
 {
-    let found = finding(t, h);
-    match found {
+    match finding(t, h) {
         Finding::Sound => Ok(0),
         Finding::Doubled(_, later) => {
             let cleared = clear(list, 0, h, token(t, later.bucket), later);

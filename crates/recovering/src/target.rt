@@ -2,7 +2,7 @@
 ghost use Rattle.std.specs.Prelude.{◌≡◌, ◌≤◌, length};
 ghost use Rattle.rules.specs.Words.{header_of, GoodState, GoodHeader};
 ghost use Rattle.rules.specs.Soundness.{target as target_of};
-ghost use Rattle.recovering.specs.Found.{in_level, home_of, home_means, target_means};
+ghost use Rattle.recovering.specs.Found.{in_level, home_of, means};
 
 use reading::levels::{level_count, nth_level};
 use reading::slots::token;
@@ -10,20 +10,6 @@ use reading::tokens::is_taken;
 use rules::layout::{BUCKET_WORDS, FIRST_SLOT, HEADER_WORDS, SLOT_WORDS, TARGET};
 use rules::{Header, Level, Slot, State};
 use words::power;
-
-// The slot that word 6 names, if it names a taken slot in a level in use.
-#[derive(Clone, Copy)]
-pub enum Target {
-    At(Slot),
-    Nothing,
-}
-
-// The level in use that a bucket belongs to, if it belongs to one.
-#[derive(Clone, Copy)]
-pub enum Home {
-    In(Level),
-    Nowhere,
-}
 
 // "A level of M buckets .. is always buckets M − 1 to 2M − 2."
 fn in_level(l: Level, j: usize) -> bool
@@ -37,43 +23,41 @@ fn in_level(l: Level, j: usize) -> bool
     j <= 2 * size - 2
 }
 
-fn home_of(s: State, j: usize) -> Home
+// The level in use that a bucket belongs to, if it belongs to one.
+fn home_of(s: State, j: usize) -> Option<Level>
     requires { GoodState 20 s }
-    ensures { home_means result ≡ home_of s j }
+    ensures { means result ≡ home_of s j }
 {
     let count = level_count(s);
     for n in 0..count {
         let level = nth_level(s, n);
         if in_level(level, j) {
-            return Home::In(level);
+            return Some(level);
         }
     }
-    Home::Nowhere
+    None
 }
 
-// "Bucket j starts at word 9 + 13j"; "Slot s starts at offset 1 + 3s."
-pub fn find_target(t: &[u64], h: Header) -> Target
+// The slot that word 6 names, if it names a taken slot in a level in use: "Bucket j starts at word 9 + 13j"; "Slot s starts at offset 1 + 3s."
+pub fn find_target(t: &[u64], h: Header) -> Option<Slot>
     requires { GoodHeader (length t.now) h × (h ≡ header_of t.now) }
-    ensures { target_means result ≡ target_of t.now }
+    ensures { means result ≡ target_of t.now }
 {
     let word = t[TARGET] as usize;
     if word < HEADER_WORDS {
-        return Target::Nothing;
+        return None;
     }
     let offset = (word - HEADER_WORDS) % BUCKET_WORDS;
     if offset % SLOT_WORDS != FIRST_SLOT {
-        return Target::Nothing;
+        return None;
     }
     let bucket = (word - HEADER_WORDS) / BUCKET_WORDS;
-    let home = home_of(h.state, bucket);
-    let Home::In(level) = home else {
-        return Target::Nothing;
-    };
+    let level = home_of(h.state, bucket)?;
     let slot = offset / SLOT_WORDS;
     if !is_taken(h, token(t, bucket), slot) {
-        return Target::Nothing;
+        return None;
     }
-    Target::At(Slot {
+    Some(Slot {
         level: level.name,
         bucket,
         slot,

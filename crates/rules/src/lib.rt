@@ -50,7 +50,7 @@ pub struct Place {
 }
 
 // A slot of a bucket of a level.
-#[derive(Clone, Copy)]
+#[derive(Clone, Copy, PartialEq, Eq, PartialOrd, Ord)]
 pub struct Slot {
     pub level: u64,
     pub bucket: usize,
@@ -58,7 +58,7 @@ pub struct Slot {
 }
 
 // What a key leads to.
-#[derive(Clone, Copy)]
+#[derive(Clone, Copy, PartialEq, Eq)]
 pub struct Record {
     pub function: u64,
     pub place: u64,

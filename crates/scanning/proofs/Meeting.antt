@@ -4,9 +4,8 @@ use Prim.Native.Nat.{ℕ, ◌-◌}
 use mathlib.Core.Path.{◌≡◌, refl, sym, ap, ◌∙◌}
 use mathlib.Core.Bool.{Bool, true, false, cond, ◌||◌, or-false}
 use mathlib.Core.List.{[], ◌∷◌, map, foldl, foldl-map}
-use lib.Dec.{ltb, eqb}
-use borrow.Author.Tests.{eqb-true, le-ltb, eq-eqb, ne_eqb}
-use native.Mathlib.Omega.{arith}
+use lib.Dec.{eqb}
+use borrow.Author.Tests.{eqb-true, eq-eqb, ne_eqb}
 use Rattle.rules.specs.Choice.{any, from}
 use Rattle.rules.specs.Words.{Table, size_of, levels_in_use, buckets_of, slot_at, slots_in, place_of, place_at, slots_of, slots_in_use, is_taken, token_of, taken, key_in}
 use Rattle.rules.specs.Places.{hashes_of, first_place, second_place, same_place, places_in, probes, places_of, lookup}
@@ -22,44 +21,10 @@ use Rattle.rules.specs.declared.Lookup.{Lookup}
 use Rattle.rules.specs.declared.Lookup.TheVariants.{Stands, Absent}
 use Rattle.reading.specs.Levels.{place_in}
 use Rattle.rules.proofs.Basics.Loops.{fold_from, fold_whole, within, fold_within, tests_from, tests_whole, any-within}
-use Rattle.scanning.specs.Copying.{is_before, in_order, same_slot}
+use Rattle.scanning.specs.Copying.{in_order, same_slot}
 use Rattle.scanning.specs.declared.copies.Scan.{Scan}
-use Rattle.scanning.specs.declared.copies.Scan.TheVariants.{Clear, Pair, Spoilt}
+use Rattle.scanning.specs.declared.copies.Scan.TheVariants.{Clear, Spoilt}
 use Rattle.scanning.specs.Scans.{met_of, item_met, slot_met, scan_of}
-
--- ---- "by top, bottom, interim, then bucket and slot ascending"
-
-module _ (x y : Slot) where
-  pub by_level : (x.level ≡ y.level → ⊥) → ltb x.level y.level ≡ is_before x y
-  unfolding is_before
-  by_level n = rw (ne_eqb _ _ n, or-false)
-
-  pub by_bucket : x.level ≡ y.level → (x.bucket ≡ y.bucket → ⊥) → ltb x.bucket y.bucket ≡ is_before x y
-  unfolding is_before
-  by_bucket e n = rw (le-ltb x.level y.level (omega arith), eq-eqb _ _ e, ne_eqb _ _ n, or-false)
-
-  pub by_slot : x.level ≡ y.level → x.bucket ≡ y.bucket → ltb x.slot y.slot ≡ is_before x y
-  unfolding is_before
-  by_slot e f = rw (le-ltb x.level y.level (omega arith), eq-eqb _ _ e, le-ltb x.bucket y.bucket (omega arith), eq-eqb _ _ f)
-
--- ---- a pair
-
-module _ (x y : Slot) where
-  pub other-bucket : (x.bucket ≡ y.bucket → ⊥) → false ≡ same_slot x y
-  unfolding same_slot
-  other-bucket n = rw (ne_eqb _ _ n)
-
-  pub same-bucket : x.bucket ≡ y.bucket → eqb x.slot y.slot ≡ same_slot x y
-  unfolding same_slot
-  same-bucket e = rw (eq-eqb _ _ e)
-
-  pub pair_first : is_before x y ≡ true → Pair x y ≡ met_of Clear (in_order x y)
-  unfolding in_order
-  pair_first e = rw e
-
-  pub pair_last : is_before x y ≡ false → Pair y x ≡ met_of Clear (in_order x y)
-  unfolding in_order
-  pair_last e = rw e
 
 -- ---- the places of a key, level by level
 

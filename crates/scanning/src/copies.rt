@@ -1,6 +1,6 @@
 // Two slots with one key, in the order of slots, and how many such pairs a scan has met.
 ghost use Rattle.std.specs.Prelude.{◌≡◌};
-ghost use Rattle.scanning.specs.Copying.{is_before, in_order, same_slot};
+ghost use Rattle.scanning.specs.Copying.{in_order, same_slot};
 ghost use Rattle.scanning.specs.declared.copies.Scan.TheVariants.{Clear};
 ghost use Rattle.scanning.specs.Scans.{met_of};
 
@@ -15,33 +15,21 @@ pub enum Scan {
     Spoilt,
 }
 
-// "by top, bottom, interim, then bucket and slot ascending"
-fn is_before(x: Slot, y: Slot) -> bool
-    ensures { result ≡ is_before x y }
-{
-    if x.level != y.level {
-        return x.level < y.level;
-    }
-    if x.bucket != y.bucket {
-        return x.bucket < y.bucket;
-    }
-    x.slot < y.slot
-}
-
-// A bucket belongs to one level alone.
+// Whether two slots are one. A bucket belongs to one level alone, so the levels are not compared. The derived `==` would compare them, and answer
+// otherwise for two slots of which one has a wrong level.
+#[tactic(auto, unfolding(crate::specs::Copying::same_slot))]
 pub fn is_same(x: Slot, y: Slot) -> bool
     ensures { result ≡ same_slot x y }
 {
-    if x.bucket != y.bucket {
-        return false;
-    }
-    x.slot == y.slot
+    x.bucket == y.bucket && x.slot == y.slot
 }
 
+// "by top, bottom, interim, then bucket and slot ascending", which is the order of the fields of a slot
+#[tactic(auto, unfolding(crate::specs::Copying::in_order, crate::specs::Copying::is_before))]
 fn pair(x: Slot, y: Slot) -> Scan
     ensures { result ≡ met_of Clear (in_order x y) }
 {
-    if is_before(x, y) {
+    if x < y {
         return Scan::Pair(x, y);
     }
     Scan::Pair(y, x)

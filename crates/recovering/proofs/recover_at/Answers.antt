@@ -15,10 +15,10 @@ use Rattle.recovering.proofs.recover_at.Goals.{In-Doubled, In-Flagged, Start}
 
 -- the slots of a finding lie in the table
 doubled-within : (c : In-Doubled) → SlotWithin c.args.t.now c.in-Doubled.later
-doubled-within c = (rw c.in-Doubled.is at c.finding-found.ensures.1).1
+doubled-within c = (rw c.in-Doubled.is at c.finding.ensures.1).1
 
 flagged-within : (c : In-Flagged) → SlotWithin c.args.t.now c.in-Flagged.x
-flagged-within c = rw c.in-Flagged.is at c.finding-found.ensures.1
+flagged-within c = rw c.in-Flagged.is at c.finding.ensures.1
 
 -- and the table has words 7 and 8
 long : (c : Start) → 9 ≤ length c.args.t.now
@@ -47,19 +47,19 @@ redo-redone-requires c =
     omega (arith, c.requires.0, m, w.0, w.1)
 
 pub returns-in-Sound : goal.returns-in-Sound
-returns-in-Sound c = let f = c.finding-found in did_as (recover-sound _ _ f.result f.ensures.0 c.in-Sound.in-Sound-own.keys1) (did_nothing _)
+returns-in-Sound c = let f = c.finding in did_as (recover-sound _ _ f.result f.ensures.0 c.in-Sound.is) (did_nothing _)
 
 pub returns-in-Doubled : goal.returns-in-Doubled
 unfolding clear_stores
 returns-in-Doubled c =
-    let f = c.finding-found in
+    let f = c.finding in
     did_as (recover-doubled _ _ f.result f.ensures.0 c.in-Doubled.is c.token.ensures) (did_list c.clear-cleared.ensures (omega arith))
 
 pub returns-in-Flagged : goal.returns-in-Flagged
 unfolding redo_stores logged_of
 returns-in-Flagged c =
-    let f = c.finding-found in
+    let f = c.finding in
     did_as (recover-flagged _ _ f.result f.ensures.0 c.in-Flagged.is refl) (did_list c.redo-redone.ensures (omega arith))
 
 pub returns-in-Neither : goal.returns-in-Neither
-returns-in-Neither c = let f = c.finding-found in did_as (recover_neither _ _ f.result f.ensures.0 c.in-Neither.in-Neither-own.keys4) (did_refuse _ _)
+returns-in-Neither c = let f = c.finding in did_as (recover_neither _ _ f.result f.ensures.0 c.in-Neither.is) (did_refuse _ _)
