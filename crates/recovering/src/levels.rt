@@ -14,14 +14,10 @@ pub fn tokens_tidy(t: &[u64], h: Header) -> bool
     requires { GoodHeader (length t.now) h }
     ensures { result ≡ all (map (tidy_token t.now h) (all_buckets h)) }
 {
-    let buckets = power(h.c + 1) - 1;
-    for j in 0..buckets {
+    (0..power(h.c + 1) - 1).all(|j| {
         let word = token(t, j);
-        if word != meant(t, h, j, word) {
-            return false;
-        }
-    }
-    true
+        word == meant(t, h, j, word)
+    })
 }
 
 // Whether a level in use has 2^e buckets.
@@ -29,14 +25,7 @@ fn in_use(s: State, e: u64) -> bool
     requires { GoodState 20 s }
     ensures { result ≡ exponent_in_use s e }
 {
-    let count = level_count(s);
-    for n in 0..count {
-        let level = nth_level(s, n);
-        if level.exponent == e {
-            return true;
-        }
-    }
-    false
+    (0..level_count(s)).any(|n| nth_level(s, n).exponent == e)
 }
 
 fn level_empty(t: &[u64], h: Header, e: u64) -> bool
@@ -44,25 +33,12 @@ fn level_empty(t: &[u64], h: Header, e: u64) -> bool
     ensures { result ≡ all (map (zero_token t.now) (buckets_of (2 ^ e))) }
 {
     let size = power(e);
-    for i in 0..size {
-        if token(t, size - 1 + i) != 0 {
-            return false;
-        }
-    }
-    true
+    (size - 1..2 * size - 1).all(|j| token(t, j) == 0)
 }
 
 pub fn unused_empty(t: &[u64], h: Header) -> bool
     requires { GoodHeader (length t.now) h }
     ensures { result ≡ all (map (zero_token t.now) (unused_buckets h)) }
 {
-    let levels = h.c + 1;
-    for e in 0..levels {
-        if !in_use(h.state, e) {
-            if !level_empty(t, h, e) {
-                return false;
-            }
-        }
-    }
-    true
+    (0..h.c + 1).all(|e| in_use(h.state, e) || level_empty(t, h, e))
 }

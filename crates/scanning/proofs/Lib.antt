@@ -1,4 +1,5 @@
 mod Alike
 pub mod Copying
 mod Meeting
+pub mod Ranges
 pub mod Told

@@ -20,7 +20,7 @@ use Rattle.rules.specs.declared.Slot.{Slot}
 use Rattle.rules.specs.declared.Lookup.{Lookup}
 use Rattle.rules.specs.declared.Lookup.TheVariants.{Stands, Absent}
 use Rattle.reading.specs.Levels.{place_in}
-use Rattle.rules.proofs.Basics.Loops.{fold_from, fold_whole, within, fold_within, tests_from, tests_whole, any-within}
+use Rattle.rules.proofs.Basics.Loops.{fold_from, fold_whole, within, fold_within, any-within}
 use Rattle.scanning.specs.Copying.{in_order, same_slot}
 use Rattle.scanning.specs.declared.copies.Scan.{Scan}
 use Rattle.scanning.specs.declared.copies.Scan.TheVariants.{Clear, Spoilt}
@@ -30,7 +30,7 @@ use Rattle.scanning.specs.Scans.{met_of, item_met, slot_met, scan_of}
 
 module _ (x : Slot) (y : Hashes) where
   -- in one of its two places in a level
-  unfoldable pub at_place : Level → Bool
+  abbrev pub at_place : Level → Bool
   at_place l = any (map (same_place (place_of x)) (places_in y l))
 
   module _ (l : Level) where
@@ -39,7 +39,7 @@ module _ (x : Slot) (y : Hashes) where
     or_self false = refl
 
     at_either : at_place l ≡ (same_place (place_of x) (first_place y l) || same_place (place_of x) (second_place y l))
-    unfolding at_place places_in same_place place_of
+    unfolding places_in same_place place_of
     at_either = go (same_place (first_place y l) (second_place y l)) refl
       where
         go : (b : Bool) → eqb (first_place y l).bucket (second_place y l).bucket ≡ b
@@ -50,7 +50,7 @@ module _ (x : Slot) (y : Hashes) where
         go false e = ap (λ (b : Bool). same_place (place_of x) (first_place y l) || b) (or-false (same_place (place_of x) (second_place y l)))
 
     module _ {f : Place} (p : f ≡ place_in l y.first) where
-      pub at_first : x.bucket ≡ f.bucket → true ≡ at_place l
+      pub at_first : x.bucket ≡ f.bucket → eqb x.bucket f.bucket ≡ at_place l
       unfolding same_place place_of first_place
       at_first e = rw (at_either, ← p, eq-eqb _ _ e)
 
@@ -59,9 +59,9 @@ module _ (x : Slot) (y : Hashes) where
       at_second n q = rw (at_either, ← p, ← q, ne_eqb _ _ n)
 
   -- along the levels in use
-  pub at_any : (s : State) → any (map (same_place (place_of x)) (probes s y)) ≡ tests_from any at_place (levels_in_use s) 0
-  unfolding probes at_place
-  at_any s = any-within (same_place (place_of x)) (places_in y) (levels_in_use s) ∙ tests_whole any at_place (levels_in_use s)
+  pub at_any : (s : State) → any (map (same_place (place_of x)) (probes s y)) ≡ any (map at_place (levels_in_use s))
+  unfolding probes
+  at_any s = any-within (same_place (place_of x)) (places_in y) (levels_in_use s)
 
 -- ---- a taken slot
 

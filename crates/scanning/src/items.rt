@@ -25,12 +25,7 @@ fn stands_in(x: Slot, hash: Hashes, l: Level) -> bool
     requires { l.exponent ≤ 20 }
     ensures { result ≡ any (map (same_place (place_of x)) (places_in hash l)) }
 {
-    let first = place(hash.first, l);
-    if x.bucket == first.bucket {
-        return true;
-    }
-    let second = place(hash.second, l);
-    x.bucket == second.bucket
+    x.bucket == place(hash.first, l).bucket || x.bucket == place(hash.second, l).bucket
 }
 
 // "each taken slot in a place of its key"
@@ -38,13 +33,7 @@ fn stands(s: State, hash: Hashes, x: Slot) -> bool
     requires { GoodState 20 s }
     ensures { result ≡ any (map (same_place (place_of x)) (probes s hash)) }
 {
-    let count = level_count(s);
-    for n in 0..count {
-        if stands_in(x, hash, nth_level(s, n)) {
-            return true;
-        }
-    }
-    false
+    (0..level_count(s)).any(|n| stands_in(x, hash, nth_level(s, n)))
 }
 
 // Slot x, when the lookup of its key, with these hashes, ends at slot y.
