@@ -11,14 +11,16 @@ use lib.Seq.{drop-cons}
 use Rattle.std.specs.Prelude.{Ok, Err}
 use Rattle.replaying.specs.declared.Answer.{Answer}
 use Rattle.replaying.specs.declared.Answer.TheVariants.{Nothing, Created, Changed, Kept, Found, Events, Bad}
+use Rattle.running.specs.Inputs.{Standing}
 use Rattle.running.specs.Runs.{line_room, byte_taken, TakenIs, over_bytes, together}
 use Rattle.running.specs.declared.Run.{Run}
 use Rattle.running.specs.declared.Taken.{Taken}
 use Rattle.running.proofs.Whole.{over-bytes}
 use Rattle.convert.specs.Outputs.{Report, with_answer, at_end, report_to, report_text, output_to}
-use Rattle.convert.specs.Parts.{ended_by, Point, standing, begun, after_byte, is_known, after_bytes, told_of, report_from, written_after, PartsWritten}
+use Rattle.convert.specs.Parts.{ended_by, standing, begun, after_byte, is_known, after_bytes, told_of, report_from, written_after, PartsWritten}
 use Rattle.convert.specs.Parts.{KnownPartsWritten, PartsAreTaken}
 use Rattle.convert.specs.Taking.{after_none, after-known, after_next, taken_on}
+use Rattle.convert.specs.declared.Course.{Course}
 use Rattle.convert.specs.declared.Ending.{Ending}
 use Rattle.convert.specs.declared.Ending.TheVariants.{Open, Unmade, Bad as BadLine}
 
@@ -39,7 +41,7 @@ told-answer (Kept r n) later = refl
 told-answer (Found q) later = refl
 told-answer (Events n) later = refl
 
-abbrev reported : Point → Report
+abbrev reported : Standing Course → Report
 reported x = report_from x.state x.room
 
 told-bytes : (bs : List ℕ) (run : Run) (room line : List ℕ)
@@ -74,11 +76,11 @@ known_parts_written room line parts later long k =
 -- ---- a part, byte by byte
 
 -- before byte i of a part: the rest makes of the course what the part made of it at first
-pub record Passed (x : Point) (part : List ℕ) (i : ℕ) (u : Point) : Type 0 where
+pub record Passed (x : Standing Course) (part : List ℕ) (i : ℕ) (u : Standing Course) : Type 0 where
   pub within : i ≤ length part
   pub same : after_bytes u (drop i part) ≡ after_bytes x part
 
-module _ {x : Point} {part : List ℕ} {i : ℕ} {u : Point} (d : Passed x part i u) where
+module _ {x : Standing Course} {part : List ℕ} {i : ℕ} {u : Standing Course} (d : Passed x part i u) where
   pub passed_known : is_known u ≡ true → u ≡ after_bytes x part
   passed_known k = sym (after-known u (drop i part) k) ∙ d.same
 
@@ -94,9 +96,9 @@ module _ {x : Point} {part : List ℕ} {i : ℕ} {u : Point} (d : Passed x part 
       let here : standing (record { run = r.run; ending = e }) left held ≡ after_byte u b = rw (s, t.taken, t.answer, t.words, t.bytes) in
       record {
         within = omega arith;
-        same = ap (λ (y : Point). after_bytes y (drop (i + 1) part)) here ∙ rw (add-one i)
+        same = ap (λ (y : Standing Course). after_bytes y (drop (i + 1) part)) here ∙ rw (add-one i)
             (sym (after_next u b (drop (suc i) part) k) ∙ ap (after_bytes u) (sym (drop-cons part i 0 l)) ∙ d.same);
       }
 
-pub passed_none : (x : Point) (part : List ℕ) → Passed x part 0 x
+pub passed_none : (x : Standing Course) (part : List ℕ) → Passed x part 0 x
 passed_none x part = record { within = omega arith; same = refl }

@@ -30,17 +30,14 @@ has_ended (Unmade e) = true
 has_ended (BadLine n) = true
 
 -- a course, with the words and bytes that are lent to it
-abbrev pub Point : Type 0
-Point = Standing Course
-
-abbrev pub standing : Course → List ℕ → List ℕ → Point
+abbrev pub standing : Course → List ℕ → List ℕ → Standing Course
 standing c room line = record { state = c; room = room; line = line }
 
 -- before the first byte
-abbrev pub begun : List ℕ → List ℕ → Point
+abbrev pub begun : List ℕ → List ℕ → Standing Course
 begun room line = standing (record { run = ready; ending = Open }) room line
 
-abbrev pub after_byte : Point → ℕ → Point
+abbrev pub after_byte : Standing Course → ℕ → Standing Course
 after_byte x b =
     let y = byte_taken x.state.run x.room x.line b in
     standing (record { run = y.run; ending = ended_by y.answer }) y.room y.line
@@ -49,10 +46,10 @@ after_byte x b =
 abbrev pub has_ended_in : Course → Bool
 has_ended_in c = has_ended c.ending
 
-abbrev pub is_known : Point → Bool
+abbrev pub is_known : Standing Course → Bool
 is_known = known_in has_ended_in
 
-unfoldable pub after_bytes : Point → List ℕ → Point
+unfoldable pub after_bytes : Standing Course → List ℕ → Standing Course
 after_bytes x [] = x
 after_bytes x (b ∷ bs) = cond (is_known x) x (after_bytes (after_byte x b) bs)
 
@@ -74,7 +71,7 @@ report_from c room = told_of c.ending (at_end room c.run.replay (ltb 0 c.run.hel
 
 -- ---- what is written, whatever the parts
 
-unfoldable pub written_after : Point → List ℕ
+unfoldable pub written_after : Standing Course → List ℕ
 written_after x = report_text (report_from x.state x.room)
 
 -- where the input has ended it is the text of the whole input
@@ -90,7 +87,7 @@ KnownPartsWritten = (room line : List ℕ) (parts : List (List ℕ)) (later : Li
 
 -- a part and then the rest is all of it: the parts may be cut anywhere
 abbrev pub PartsAreTaken : Type 0
-PartsAreTaken = (x : Point) (part later : List ℕ) → after_bytes x (part ++ later) ≡ after_bytes (after_bytes x part) later
+PartsAreTaken = (x : Standing Course) (part later : List ℕ) → after_bytes x (part ++ later) ≡ after_bytes (after_bytes x part) later
 
 -- ---- what the program's functions promise beside how it reads (`Inputs` of `running`)
 

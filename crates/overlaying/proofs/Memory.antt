@@ -11,7 +11,7 @@ use denote.Ref.{Bor}
 use Rattle.rules.specs.Words.{Table, token_word, key_word}
 use Rattle.rules.specs.Places.{lookup}
 use Rattle.rules.specs.Answers.{LookupTells, lacks, name_of}
-use Rattle.rules.specs.Overlays.{newer, named, in_either, asked_result, part_of, part_result, words_of}
+use Rattle.rules.specs.Overlays.{named, in_either, asked_result, part_of, part_result, words_of}
 use Rattle.rules.specs.declared.Header.{Header}
 use Rattle.rules.specs.declared.Slot.{Slot}
 use Rattle.rules.specs.declared.Lookup.{Lookup}
@@ -71,7 +71,7 @@ module _ (t u : Bor (List ℕ)) (key : ℕ) where
   over_for (Absent n) (Absent m) p = p
 
   now_named : (name : ℕ) → (named name t u).now ≡ named name t.now u.now
-  now_named name = go (eqb name newer)
+  now_named name = go (eqb name 0)
     where
       go : (b : Bool) → (cond b t u).now ≡ cond b t.now u.now
       go true = refl

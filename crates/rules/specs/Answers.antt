@@ -127,6 +127,7 @@ conversion_means (Err (Stuck key)) = record { number = number_of NoPlace; values
 conversion_means (Err (Rejected r)) = record { number = number_of r; values = 0 ∷ [] }
 
 -- document 02, request i): "the refusal number, the table's name and the buckets looked at"
+-- "the table's name (0 newer, 1 older)"
 abbrev pub name_of : Side → ℕ
 name_of Newer = 0
 name_of Older = 1

@@ -13,15 +13,9 @@ use Rattle.rules.specs.Answers.{Asked, hits, lacks, name_of}
 use Rattle.rules.specs.declared.Side.TheVariants.{Newer, Older}
 use Rattle.std.specs.Prelude.{Ok, Err}
 
--- "the table's name", and the table of that name
-abbrev pub newer : ℕ
-newer = 0
-
-abbrev pub older : ℕ
-older = 1
-
+-- the table of a name
 abbrev pub named : {A : Type 0} → ℕ → A → A → A
-named name t u = cond (eqb name newer) t u
+named name t u = cond (eqb name 0) t u
 
 -- "5 when neither has the key"; "with 5 the older". In the newer table n buckets were looked at
 abbrev pub in_older : ℕ → Lookup → Asked

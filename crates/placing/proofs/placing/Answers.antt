@@ -1,6 +1,5 @@
 -- `placing::placing` meets its contract: room in the top, else in the bottom, else a move.
 -- Assumes nothing.
-use mathlib.Core.Path.{sym, ◌∙◌}
 use native.Mathlib.Omega.{arith}
 use Rattle.rules.proofs.Calls.Meanings.{placing-tells}
 use Rattle.placing.proofs.Goals.{room-asked}

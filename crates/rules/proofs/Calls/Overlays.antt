@@ -17,7 +17,7 @@ use Rattle.rules.specs.Soundness.{TakenSlot}
 use Rattle.rules.specs.Answers.{number_of, Meaning, query_means, asked_means, knows, lacks, misses, hits, name_of}
 use Rattle.rules.specs.Calls.{header_good, flag_clear, query_tests}
 use Rattle.rules.specs.Results.{query_at, query_result}
-use Rattle.rules.specs.Overlays.{newer, older, named, in_either, asked_result, part_of, part_result, words_of}
+use Rattle.rules.specs.Overlays.{named, in_either, asked_result, part_of, part_result, words_of}
 use Rattle.rules.specs.Demands.{Held, HeaderWords, AtRest, count_of}
 use Rattle.rules.specs.SpotSentences.{told}
 use Rattle.rules.specs.OverlaySentences.{name_told, reasons, FirstNamed, AskedRefusals, buckets, Unfit, AskedBy, AskedAnswers}
@@ -223,8 +223,8 @@ parts_agree t u key = asked-ways t u key Agrees (λ r f. missed Newer r 0) (λ p
     missed side r n = (refl, inr (number_not_zero r, refl, refl, refl))
 
     go : Passes t → Passes u → (f g : Lookup) → lookup t (header_of t) key ≡ f → lookup u (header_of u) key ≡ g → Agrees (in_either f g)
-    go p q (Stands x n) g e d = (refl, inl (refl, inl (refl, at_slot newer t key x n p e)))
-    go p q (Absent n) (Stands y m) e d = (refl, inl (refl, inr (refl, at_slot older u key y m q d)))
+    go p q (Stands x n) g e d = (refl, inl (refl, inl (refl, at_slot 0 t key x n p e)))
+    go p q (Absent n) (Stands y m) e d = (refl, inl (refl, inr (refl, at_slot 1 u key y m q d)))
     go p q (Absent n) (Absent m) e d = missed Older KeyAbsent (n + m)
 
     both_pass : Passes t → Passes u → Agrees (in_either (lookup t (header_of t) key) (lookup u (header_of u) key))
