@@ -10,6 +10,7 @@ ghost use Rattle.crediting.specs.Books.{known_at, CountsAre, LedgerIs, Turned, n
 
 use following::{Due, Script};
 use lines::{Sample, parse, parse_sample};
+use numbering::query_words;
 use querying::query;
 use replaying::{Answer, Replay, begun, evented, finish as script_end, take_line as replay_line};
 use rules::{Query, Refusal, ScriptCall};
@@ -27,7 +28,7 @@ pub enum Stage {
 }
 
 // Samples in all, those with no record, those of each function and of others, and the buckets looked at.
-#[derive(Drop)]
+#[derive(Clone, Copy)]
 pub struct Counts {
     pub samples: u64,
     pub missing: u64,
@@ -35,7 +36,7 @@ pub struct Counts {
     pub tally: Tally,
 }
 
-#[derive(Drop)]
+#[derive(Clone, Copy)]
 pub struct Ledger {
     pub replay: Replay,
     pub stage: Stage,
@@ -68,13 +69,13 @@ impl Counts {
     fn count(&mut self, answer: Query)
         ensures { CountsAre (figures_with (figures_in self.old) answer) self.new }
     {
-        match answer {
-            Ok(known) => {
-                self.samples = self.samples.wrapping_add(1);
-                self.buckets = self.buckets.wrapping_add(known.looked);
-                self.tally.credit(known.what.function);
-            }
-            Err(missed) => self.miss(missed.looked),
+        let told = query_words(answer);
+        if told.number == 0 {
+            self.samples = self.samples.wrapping_add(1);
+            self.buckets = self.buckets.wrapping_add(told.buckets);
+            self.tally.credit(told.function);
+        } else {
+            self.miss(told.buckets);
         }
     }
 }
