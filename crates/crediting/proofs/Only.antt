@@ -1,4 +1,4 @@
--- No second ledger, no second table and no second counts keep what `take_line` and `finish` promise.
+-- No second ledger, no second table and no second counts keep what `take_line`, `finish` and `ended` promise.
 -- Assumes nothing.
 use Rattle.std.proofs.Common.{◌≡◌, List, ℕ, Bool, sym, refl, ap, ◌∙◌}
 use Rattle.tallying.specs.Credits.{Credits, no_credits}

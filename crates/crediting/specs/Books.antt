@@ -213,7 +213,7 @@ CountsAre x c = figures_in c ≡ x
 abbrev pub LedgerIs : Book → Ledger → List ℕ → Type 0
 LedgerIs b l room = book_of l room ≡ b
 
--- what is done to a book with this replay, room and stage leaves those, and no figure changes, whatever the figures are
+-- what is done to a book with replay p, words room, stage s and figures x leaves q, left, r and the same figures
 abbrev pub Leads : (Book → Book) → Replay → List ℕ → Stage → Figures → Replay → List ℕ → Stage → Type 0
 Leads g p room s x q left r =
     ◌≡◌ {A = Book} (record { replay = q; room = left; stage = r; figures = x }) (g (record { replay = p; room = room; stage = s; figures = x }))

@@ -147,7 +147,7 @@ impl Ledger {
         self.stage = stage_after(turn.answer);
     }
 
-    // "A bad line anywhere ends it with `bad=` and its number": the line behind those of the script and the samples.
+    // A bad line ends it.
     fn spoil(&mut self)
         ensures { (room : List ℕ) → Turned spoilt self.old room self.new room }
     {

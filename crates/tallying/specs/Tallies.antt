@@ -36,7 +36,7 @@ credits_from [] ss = []
 credits_from (f ∷ fs) [] = []
 credits_from (f ∷ fs) (s ∷ ss) = record { function = f; samples = s } ∷ credits_from fs ss
 
--- so what is held says all that a tally has inside, and a tally may be copied
+-- what a tally has inside that holds these credits
 abbrev pub inside_of : Credits → Inside
 inside_of x =
     record {
