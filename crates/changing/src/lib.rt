@@ -180,7 +180,7 @@ fn look_by<const TAGS: bool>(t: &[u64], h: Header, key: u64) -> Sought
     ensures { (result.hashes ≡ hashes_of h key) × (result.stands ≡ has_found (lookup_of t.now h key)) }
 {
     let hashes = hashes(h, key);
-    let found = lookup_with::<TAGS>(t, h, key, hashes);
+    let found = lookup_with(t, h, key, hashes, TAGS);
     Sought {
         hashes,
         stands: has_found(found),

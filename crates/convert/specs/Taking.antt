@@ -1,4 +1,4 @@
--- A course takes the parts of an input as the whole of it: the law that `running::read_all` asks of what takes parts.
+-- A course takes the parts of an input as the whole of it: the law that `taking::read_all` asks of what takes parts.
 -- Assumes nothing.
 use Rattle.std.specs.Prelude.{ℕ, ◌≡◌, Bool, true, false, cond, List, [], ◌∷◌, ◌++◌, refl}
 use mathlib.Core.Path.{sym, ap, ◌∙◌}

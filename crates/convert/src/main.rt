@@ -20,9 +20,10 @@ use numbering::{conversion_words, number};
 use replaying::Answer;
 use replaying::lending::least;
 use rules::{Conversion, Refusal};
-use running::{LINE_ROOM, Outcome, Run, Taker, Turn, end, ready, take_byte};
+use running::{LINE_ROOM, Outcome, Run, end, ready, take_byte};
 use saying::{STDERR, STDOUT, put_line};
 use std::io::Stdin;
+use taking::{Taker, Turn};
 
 // The words of a table of the largest cap, 7: "limited to cap 7 so that both fit". A larger one finds no room here, and is not made.
 const ROOM: usize = 3324;
@@ -98,7 +99,7 @@ fn read_all(
         run: ready(),
         ending: Ending::Open,
     };
-    running::read_all(stdin, start, room, line, input)
+    taking::read_all(stdin, start, room, line, input)
 }
 
 // Puts the two lines of a conversion's answer, "`answer=` and `key=`", from byte `at` on, and answers the next free byte.

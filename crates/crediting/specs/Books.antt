@@ -213,6 +213,11 @@ CountsAre x c = figures_in c ≡ x
 abbrev pub LedgerIs : Book → Ledger → List ℕ → Type 0
 LedgerIs b l room = book_of l room ≡ b
 
+-- what is done to a book with replay p, words room, stage s and figures x leaves q, left, r and the same figures
+abbrev pub Leads : (Book → Book) → Replay → List ℕ → Stage → Figures → Replay → List ℕ → Stage → Type 0
+Leads g p room s x q left r =
+    ◌≡◌ {A = Book} (record { replay = q; room = left; stage = r; figures = x }) (g (record { replay = p; room = room; stage = s; figures = x }))
+
 -- what is done to a ledger on these words, which leaves those, and changes no count
 pub record Turned (g : Book → Book) (l : Ledger) (room : List ℕ) (r : Ledger) (left : List ℕ) : Type 0 where
   pub book : LedgerIs (g (book_of l room)) r left

@@ -3,13 +3,15 @@
 
 ghost use Rattle.std.specs.Prelude.{◌≡◌, ℕ, List};
 ghost use Rattle.replaying.specs.Replays.{finish_of};
-ghost use Rattle.crediting.specs.Ledgers.{event_due};
+ghost use Rattle.crediting.specs.Ledgers.{Figures, line_behind, event_due};
 ghost use Rattle.crediting.specs.Books.{missed_one, figures_with, figures_in, book_of, spoilt, sampled, recovered_book, stage_recovered};
 ghost use Rattle.crediting.specs.Books.{first_sampled, stage_after, script_line, sample_where, script_read, sample_read, with_line, script_end, at_end};
-ghost use Rattle.crediting.specs.Books.{known_at, CountsAre, LedgerIs, Turned, no_figures, empty_book};
+ghost use Rattle.crediting.specs.Books.{known_at, CountsAre, LedgerIs, Turned, Leads, no_figures, empty_book};
+ghost use Rattle.crediting.specs.declared.Stage.TheVariants.{Bad as bad_stage};
 
 use following::{Due, Script};
 use lines::{Sample, parse, parse_sample};
+use numbering::query_words;
 use querying::query;
 use replaying::{Answer, Replay, begun, evented, finish as script_end, take_line as replay_line};
 use rules::{Query, Refusal, ScriptCall};
@@ -26,8 +28,33 @@ pub enum Stage {
     Bad(u64),
 }
 
+impl Stage {
+    // Whether the report is known, whatever comes: where no table was made, or it was not recovered, and behind a bad line.
+    pub fn is_known(self) -> bool
+        ensures { result ≡ known_at self }
+    {
+        matches!(
+            self,
+            Stage::Unmade(_) | Stage::Unrecovered(_) | Stage::Bad(_)
+        )
+    }
+
+    // What the end of the input makes of it, where a line is torn, that is, where no newline ends it, or not. Of all that is counted it asks only how many
+    // samples there were, so it is promised whatever else is counted.
+    #[tactic(auto, unfolding(crate::specs::Books::at_end))]
+    pub fn ended(self, replay: &mut Replay, samples: u64, room: &mut [u64], torn: bool) -> Stage
+        ensures { (x : Figures) → x.samples ≡ samples → Leads (at_end torn) replay.old room.old self x replay.new room.new result }
+    {
+        match self {
+            Stage::Script => end_script(replay, room, torn),
+            Stage::Samples if torn => bad_line(replay.script.lines, samples),
+            _ => self,
+        }
+    }
+}
+
 // Samples in all, those with no record, those of each function and of others, and the buckets looked at.
-#[derive(Drop)]
+#[derive(Clone, Copy)]
 pub struct Counts {
     pub samples: u64,
     pub missing: u64,
@@ -35,7 +62,7 @@ pub struct Counts {
     pub tally: Tally,
 }
 
-#[derive(Drop)]
+#[derive(Clone, Copy)]
 pub struct Ledger {
     pub replay: Replay,
     pub stage: Stage,
@@ -68,13 +95,13 @@ impl Counts {
     fn count(&mut self, answer: Query)
         ensures { CountsAre (figures_with (figures_in self.old) answer) self.new }
     {
-        match answer {
-            Ok(known) => {
-                self.samples = self.samples.wrapping_add(1);
-                self.buckets = self.buckets.wrapping_add(known.looked);
-                self.tally.credit(known.what.function);
-            }
-            Err(missed) => self.miss(missed.looked),
+        let told = query_words(answer);
+        if told.number == 0 {
+            self.samples = self.samples.wrapping_add(1);
+            self.buckets = self.buckets.wrapping_add(told.buckets);
+            self.tally.credit(told.function);
+        } else {
+            self.miss(told.buckets);
         }
     }
 }
@@ -101,27 +128,11 @@ impl Ledger {
         self.counts.count(query(&room[..lent], key));
     }
 
-    // "The table is recovered before the first sample": as an event of the script would do it.
-    #[tactic(auto, unfolding(crate::specs::Books::recovered_book))]
-    fn recover(&mut self, room: &mut [u64])
-        ensures { Turned recovered_book self.old room.old self.new room.new }
-    {
-        let turn = evented(
-            self.replay,
-            self.replay.script,
-            room,
-            ScriptCall::Recover,
-            None,
-        );
-        self.replay = turn.replay;
-        self.stage = stage_recovered(turn.answer);
-    }
-
     #[tactic(auto, unfolding(crate::specs::Books::first_sampled))]
     fn first_sample(&mut self, room: &mut [u64], key: u64)
         ensures { LedgerIs (first_sampled key (book_of self.old room.old)) self.new room.new }
     {
-        self.recover(room);
+        self.stage = recover(&mut self.replay, room);
         if let Stage::Samples = self.stage {
             self.sample(room, key);
         }
@@ -136,12 +147,11 @@ impl Ledger {
         self.stage = stage_after(turn.answer);
     }
 
-    // "A bad line anywhere ends it with `bad=` and its number": the line behind those of the script and the samples.
+    // A bad line ends it.
     fn spoil(&mut self)
         ensures { (room : List ℕ) → Turned spoilt self.old room self.new room }
     {
-        let read = self.replay.script.lines.wrapping_add(self.counts.samples);
-        self.stage = Stage::Bad(read.wrapping_add(1));
+        self.stage = bad_line(self.replay.script.lines, self.counts.samples);
     }
 
     // A line of the script, or the first sample line.
@@ -180,40 +190,47 @@ impl Ledger {
         }
     }
 
-    // The end of the script, where no sample has come: "or the input has ended".
-    fn end_script(&mut self, room: &mut [u64], torn: bool)
-        ensures { Turned (script_end (finish_of self.old.replay torn)) self.old room.old self.new room.new }
-    {
-        match script_end(self.replay, torn) {
-            Answer::Bad(line) => self.stage = Stage::Bad(line),
-            _ => self.recover(room),
-        }
-    }
-
     // What the end of the input makes of a ledger, where a line is torn, that is, where no newline ends it, or not.
-    #[tactic(auto, unfolding(crate::specs::Books::at_end))]
     pub fn finish(&mut self, room: &mut [u64], torn: bool)
         ensures { Turned (at_end torn) self.old room.old self.new room.new }
     {
-        match self.stage {
-            Stage::Script => self.end_script(room, torn),
-            Stage::Samples => {
-                if torn {
-                    self.spoil();
-                }
-            }
-            Stage::Unmade(_) | Stage::Unrecovered(_) | Stage::Bad(_) => {}
-        }
+        let samples = self.counts.samples;
+        self.stage = self.stage.ended(&mut self.replay, samples, room, torn);
     }
 
-    // Whether the report is known, whatever comes: where no table was made, or it was not recovered, and behind a bad line.
+    // Whether the report is known, whatever comes.
     pub fn is_known(&self) -> bool
         ensures { result ≡ known_at self.now.stage }
     {
-        matches!(
-            self.stage,
-            Stage::Unmade(_) | Stage::Unrecovered(_) | Stage::Bad(_)
-        )
+        self.stage.is_known()
+    }
+}
+
+// "The table is recovered before the first sample": as an event of the script would do it.
+#[tactic(auto, unfolding(crate::specs::Books::recovered_book))]
+fn recover(replay: &mut Replay, room: &mut [u64]) -> Stage
+    ensures { (s : Stage) (x : Figures) → Leads recovered_book replay.old room.old s x replay.new room.new result }
+{
+    let turn = evented(*replay, replay.script, room, ScriptCall::Recover, None);
+    *replay = turn.replay;
+    stage_recovered(turn.answer)
+}
+
+// "A bad line anywhere ends it with `bad=` and its number": the line behind those of the script and the samples.
+fn bad_line(lines: u64, samples: u64) -> Stage
+    ensures { result ≡ bad_stage (line_behind lines samples) }
+{
+    let read = lines.wrapping_add(samples);
+    Stage::Bad(read.wrapping_add(1))
+}
+
+// The end of the script, where no sample has come: "or the input has ended".
+fn end_script(replay: &mut Replay, room: &mut [u64], torn: bool) -> Stage
+    ensures { (s : Stage) (x : Figures) → Leads (script_end (finish_of replay.old torn)) replay.old room.old s x replay.new room.new result }
+{
+    match script_end(*replay, torn) {
+        Answer::Bad(last) => Stage::Bad(last),
+        _ => recover(replay, room),
     }
 }
 

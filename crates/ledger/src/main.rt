@@ -18,7 +18,7 @@ use running::Outcome;
 use saying::{STDERR, STDOUT};
 use std::io::{Read, Stdin};
 
-#[derive(Drop)]
+#[derive(Clone, Copy)]
 struct Turn {
     posting: Posting,
     outcome: Outcome,

@@ -61,7 +61,7 @@ fn older_asked<const TAGS: bool>(older: &[u64], g: Header, key: u64, before: u64
     requires { GoodHeader (length older.now) g × (before ≤ 6) × (TAGS ≡ tagged g) }
     ensures { result ≡ in_older before (lookup_of older.now g key) }
 {
-    older_told(lookup_with::<TAGS>(older, g, key, hashes(g, key)), before)
+    older_told(lookup_with(older, g, key, hashes(g, key), TAGS), before)
 }
 
 fn in_older(older: &[u64], g: Header, key: u64, before: u64) -> Asked
@@ -96,7 +96,7 @@ fn newer_asked<const TAGS: bool>(
     ensures { result ≡ in_either (lookup_of newer.now h key) (lookup_of older.now g key) }
 {
     newer_told(
-        lookup_with::<TAGS>(newer, h, key, hashes(h, key)),
+        lookup_with(newer, h, key, hashes(h, key), TAGS),
         older,
         g,
         key,

@@ -39,7 +39,7 @@ fn older_part_with<'a, const TAGS: bool>(older: &'a [u64], g: Header, key: u64) 
     requires { GoodHeader (length older.now) g × (TAGS ≡ tagged g) }
     ensures { PartFound (lookup_of older.now g key) older.entry result }
 {
-    older_part(older, lookup_with::<TAGS>(older, g, key, hashes(g, key)))
+    older_part(older, lookup_with(older, g, key, hashes(g, key), TAGS))
 }
 
 fn part_in_older<'a>(older: &'a [u64], g: Header, key: u64) -> &'a [u64]
@@ -81,7 +81,7 @@ fn newer_part_with<'a, const TAGS: bool>(
 {
     newer_part(
         newer,
-        lookup_with::<TAGS>(newer, h, key, hashes(h, key)),
+        lookup_with(newer, h, key, hashes(h, key), TAGS),
         older,
         g,
         key,

@@ -9,7 +9,7 @@ use crediting::Ledger;
 use running::{LINE_ROOM, hold};
 
 // Where the bytes before have led to: the ledger, and how many bytes of a line are held.
-#[derive(Drop)]
+#[derive(Clone, Copy)]
 pub struct Posting {
     pub ledger: Ledger,
     pub line: [u8; LINE_ROOM],

@@ -42,7 +42,7 @@ fn queried<const TAGS: bool>(t: &[u64], h: Header, key: u64) -> Query
     requires { GoodHeader (length t.now) h × (TAGS ≡ tagged h) }
     ensures { result ≡ query_at t.now (lookup_of t.now h key) }
 {
-    told(t, lookup_with::<TAGS>(t, h, key, hashes(h, key)))
+    told(t, lookup_with(t, h, key, hashes(h, key), TAGS))
 }
 
 // "Query returns zeros with 5 and the full probe count; with 1 or 3 zeros and count 0." It tells where the lookup found the key.

@@ -53,12 +53,13 @@ fn find(t: &[u64], h: Header, key: u64, x: Hashes, tags: bool) -> Lookup
     answer
 }
 
-// The lookup of a key whose hashes are known, in a table whose slots have tags or have none: a search of its own for each.
-pub fn lookup_with<const TAGS: bool>(t: &[u64], h: Header, key: u64, x: Hashes) -> Lookup
-    requires { GoodHeader (length t.now) h × (x ≡ hashes_of h key) × (TAGS ≡ tagged h) }
+// The lookup of a key whose hashes are known, in a table whose slots have tags or have none. Callers that pass a constant have the compiler make a
+// search of its own for each.
+pub fn lookup_with(t: &[u64], h: Header, key: u64, x: Hashes, tags: bool) -> Lookup
+    requires { GoodHeader (length t.now) h × (x ≡ hashes_of h key) × (tags ≡ tagged h) }
     ensures { LookupTells result (lookup_of t.now h key) × Standing t.now result }
 {
-    find(t, h, key, x, TAGS)
+    find(t, h, key, x, tags)
 }
 
 // The lookup of a key whose hashes are known.
@@ -67,9 +68,9 @@ pub fn lookup_by(t: &[u64], h: Header, key: u64, x: Hashes) -> Lookup
     ensures { LookupTells result (lookup_of t.now h key) × Standing t.now result }
 {
     if has_tags(h) {
-        return lookup_with::<true>(t, h, key, x);
+        return lookup_with(t, h, key, x, true);
     }
-    lookup_with::<false>(t, h, key, x)
+    lookup_with(t, h, key, x, false)
 }
 
 pub fn lookup(t: &[u64], h: Header, key: u64) -> Lookup

@@ -4,13 +4,10 @@
 ghost use Rattle.std.specs.Prelude.{◌≡◌};
 ghost use Rattle.running.specs.Runs.{ready as ready_of, HeldIs, LineTaken, ByteTaken, known as known_of, end_of};
 
-mod taking;
-
 use following::Due;
 use lines::parse;
 use replaying::lending::least;
 use replaying::{Answer, Replay, begun, finish, take_line};
-pub use taking::{Taker, Turn, read_all};
 
 // As many bytes of a line as are held: one more than the longest good line has, a ledger's `sample=` with twenty digits. So many bytes tell
 // that a line is bad.

@@ -1,5 +1,6 @@
 pub mod Functions
 pub mod Credits
 pub mod Tallies
+pub mod Copying
 pub mod Sentences
 pub mod Cases

@@ -1,6 +1,6 @@
 -- What a tally holds, in fixed memory.
 -- Assumes nothing.
-use Rattle.std.specs.Prelude.{ℕ, ◌≤◌, Bool, false, cond, List, map, length, take, ◌==◌, nat_lt, slice_index}
+use Rattle.std.specs.Prelude.{◌≡◌, ℕ, ◌-◌, ◌≤◌, Bool, false, cond, List, [], ◌∷◌, ◌++◌, map, length, take, drop, replicate, ◌==◌, nat_lt, slice_index}
 use Rattle.tallying.specs.Functions.{place_for}
 use Rattle.tallying.specs.Credits.{Credits, Ascending}
 use Rattle.tallying.specs.declared.Credit.{Credit}
@@ -19,10 +19,31 @@ held_in t =
     let cs = take t.used t.credits in
     record { functions = functions_of cs; samples = samples_of cs; other = t.other }
 
--- 512 credits at most are used, in order
+-- a place that is not used
+abbrev pub unused : Credit
+unused = record { function = 0; samples = 0 }
+
+-- 512 credits at most are used, in order, and the places behind them are as at first
 pub record Orderly (t : Inside) : Type 0 where
   pub few : t.used ≤ 512
   pub order : Ascending (functions_of (take t.used t.credits))
+  pub all : length t.credits ≡ 512
+  pub rest : drop t.used t.credits ≡ replicate (512 - t.used) unused
+
+-- the credits of these functions and samples
+abbrev pub credits_from : List ℕ → List ℕ → List Credit
+credits_from [] ss = []
+credits_from (f ∷ fs) [] = []
+credits_from (f ∷ fs) (s ∷ ss) = record { function = f; samples = s } ∷ credits_from fs ss
+
+-- what a tally has inside that holds these credits
+abbrev pub inside_of : Credits → Inside
+inside_of x =
+    record {
+      credits = credits_from x.functions x.samples ++ replicate (512 - length x.functions) unused;
+      used = length x.functions;
+      other = x.other;
+    }
 
 -- ---- how a function is found
 

@@ -21,8 +21,9 @@ pub struct Credit {
     pub samples: u64,
 }
 
-// The functions that are counted, and the samples of the others.
-#[derive(Drop)]
+// The functions that are counted, and the samples of the others. The places that are not used stay as they were at first, so that a tally holds
+// nothing that its model does not tell, and may be copied.
+#[derive(Clone, Copy)]
 pub struct Tally {
     credits: [Credit; MOST],
     used: usize,
@@ -34,11 +35,16 @@ impl Model for Tally {
 
     ghost Value = { Credits };
 
-    ghost use Rattle.tallying.specs.Tallies.{held_in, Orderly};
+    ghost use Rattle.tallying.specs.Tallies.{held_in, inside_of, Orderly};
+    ghost use Rattle.tallying.specs.Copying.{gives_back};
 
     ghost view = { held_in };
 
     ghost invariant = { Orderly };
+
+    ghost inverse = { inside_of };
+
+    ghost inverse_ok = { gives_back };
 }
 
 impl Tally {

@@ -10,13 +10,13 @@ use Rattle.querying.proofs.lookup.lookup_with.Goals as goal
 
 pub find-requires : goal.find-requires
 unfolding hashes_of
-find-requires g c =
+find-requires c =
     let pre = c.requires in
     (pre.0, ap (λ (x : Hashes). x.tag) pre.1, pre.2)
 
 pub returns : goal.returns
 unfolding lookup places_of
-returns g c =
+returns c =
     let a = c.args in (
       lookup-tells (c.find.ensures ∙ ap (λ (x : Hashes). seek (hit_in a.t.now a.h a.key) 0 (probes a.h.state x)) c.requires.1),
       rw c.find.ensures (seek-within a.t.now a.h a.key (probes a.h.state a.x) 0 (λ p i. places_within _ _ c.requires.0 _ p i)),

@@ -1,8 +1,10 @@
-// The reading of an input that comes in parts, of any sizes and any number.
+// The reading of an input that comes in parts, of any sizes and any number, for programs that write only once all is read.
+#![tactic(auto)]
+
 ghost use Rattle.std.specs.Prelude.{◌≡◌, Bool, List, ℕ};
 ghost use Rattle.running.specs.Inputs.{Standing, standing, known_in, Takes, ReadSome, Ran};
 
-use crate::{LINE_ROOM, Outcome};
+use running::{LINE_ROOM, Outcome};
 use std::io::{Read, Stdin};
 
 // What takes an input part by part, in lent words and in the bytes of a line.

@@ -1,10 +1,10 @@
--- `running::read_all` meets its contract: what takes the parts stands behind those that were read.
+-- `taking::read_all` meets its contract: what takes the parts stands behind those that were read.
 -- Assumes nothing.
 use borrow.Enum.Refused.{opened}
 use Rattle.std.proofs.Common.{arith}
 use Rattle.running.specs.Inputs.{known_in}
 use Rattle.running.proofs.Inputs.{not_going, behind-none, behind-next, ran, ran_on}
-use Rattle.running.proofs.taking.read_all.Goals as goal
+use Rattle.taking.proofs.read_all.Goals as goal
 
 pub loop-parts-init : goal.loop-parts-init
 loop-parts-init g c = behind-none g.met.T.Taker.laws (known_in g.T.Taker.has_ended) _
