@@ -1,6 +1,7 @@
 -- `tallying::Tally::credit` meets its contract.
 -- Assumes nothing.
-use Rattle.std.proofs.Common.{◌≡◌, List, ℕ, ◌++◌, ◌+◌, ◌-◌, ◌%◌, ◌^◌, ◌<◌, ◌≤◌, length, get_or, set, subst, take, replicate, drop, sym, ap, ◌∙◌, arith, rules, length-take-le, drop-set-lt, drop-drop, length-append, length-drop}
+use Rattle.std.proofs.Common.{◌≡◌, List, ℕ, ◌++◌, ◌+◌, ◌-◌, ◌%◌, ◌^◌, ◌<◌, ◌≤◌, length, get_or, set, subst, take, replicate, drop, sym, ap, ◌∙◌}
+use Rattle.std.proofs.Common.{arith, rules, length-take-le, drop-set-lt, drop-drop, length-append, length-drop}
 use Rattle.std.proofs.lemmas.List.{drop-replicate}
 use Rattle.std.proofs.Math.Seq.{drop-append_seam}
 use Rattle.std.specs.List.{insert}
@@ -50,7 +51,8 @@ invariant_of-self c =
     record {
       few = c.self.invariant.few;
       all = search rules;
-      rest = drop-set-lt c.self.inside.used c.self.inside.credits c.place_for-at.result _ (at_used (goal.at.invariant_of-self c).Then-stands_at) ∙ c.self.invariant.rest;
+      rest = drop-set-lt c.self.inside.used c.self.inside.credits c.place_for-at.result _ (at_used (goal.at.invariant_of-self c).Then-stands_at)
+          ∙ c.self.invariant.rest;
       order = subst Ascending (sym (ap functions_of (written (goal.at.invariant_of-self c).Then-stands_at)
           ∙ same_functions c.args.function _ c.self.invariant.order 0 c.place_for-at.result c.place_for-at.ensures.0 no_credit)) c.self.invariant.order;
     }
